@@ -1,0 +1,69 @@
+-- How a function that goes check by check meets `step`: each return rewrites with the tests that led there. Assumes nothing.
+use mathlib.Core.Path.{_≡_}
+use mathlib.Core.Bool.{true, false}
+use mathlib.Core.List.{[]}
+use lib.Dec.{ltb}
+use lib.ListN.{length}
+use Rattle.nets.specs.declared.Pick.{Pick}
+use Rattle.nets.specs.Nets.{Net, refused}
+use Rattle.nets.specs.Sound.{sound}
+use Rattle.nets.specs.Steps.{sceneOf, check12, check13, check14, check15, check16, check17, check18, check19, check20, performed, judge, checks, step}
+
+module _ (net : Net) (p : Pick) where
+  pub refuses-10 : sound net ≡ false → step net p ≡ refused 10 []
+  unfolding step judge checks sceneOf
+  refuses-10 e = rw e
+
+  module _ (ten : sound net ≡ true) where
+    pub refuses-11 : ltb (p .thread) (length (net .threads)) ≡ false → step net p ≡ refused 11 []
+    unfolding step judge checks sceneOf
+    refuses-11 e = rw (ten, e)
+
+    module _ (eleven : ltb (p .thread) (length (net .threads)) ≡ true) where
+      pub refuses-12 : check12 (sceneOf net p) ≡ false → step net p ≡ refused 12 []
+      unfolding step judge checks sceneOf
+      refuses-12 e = rw (ten, eleven, e)
+
+      module _ (twelve : check12 (sceneOf net p) ≡ true) where
+        pub refuses-13 : check13 (sceneOf net p) ≡ false → step net p ≡ refused 13 []
+        unfolding step judge checks sceneOf
+        refuses-13 e = rw (ten, eleven, twelve, e)
+
+        module _ (thirteen : check13 (sceneOf net p) ≡ true) where
+          pub refuses-14 : check14 (sceneOf net p) ≡ false → step net p ≡ refused 14 []
+          unfolding step judge checks sceneOf
+          refuses-14 e = rw (ten, eleven, twelve, thirteen, e)
+
+          module _ (fourteen : check14 (sceneOf net p) ≡ true) where
+            pub refuses-15 : check15 (sceneOf net p) ≡ false → step net p ≡ refused 15 []
+            unfolding step judge checks sceneOf
+            refuses-15 e = rw (ten, eleven, twelve, thirteen, fourteen, e)
+
+            module _ (fifteen : check15 (sceneOf net p) ≡ true) where
+              pub refuses-16 : check16 (sceneOf net p) ≡ false → step net p ≡ refused 16 []
+              unfolding step judge checks sceneOf
+              refuses-16 e = rw (ten, eleven, twelve, thirteen, fourteen, fifteen, e)
+
+              module _ (sixteen : check16 (sceneOf net p) ≡ true) where
+                pub refuses-17 : check17 (sceneOf net p) ≡ false → step net p ≡ refused 17 []
+                unfolding step judge checks sceneOf
+                refuses-17 e = rw (ten, eleven, twelve, thirteen, fourteen, fifteen, sixteen, e)
+
+                module _ (seventeen : check17 (sceneOf net p) ≡ true) where
+                  pub refuses-18 : check18 (sceneOf net p) ≡ false → step net p ≡ refused 18 []
+                  unfolding step judge checks sceneOf
+                  refuses-18 e = rw (ten, eleven, twelve, thirteen, fourteen, fifteen, sixteen, seventeen, e)
+
+                  module _ (eighteen : check18 (sceneOf net p) ≡ true) where
+                    pub refuses-19 : check19 (sceneOf net p) ≡ false → step net p ≡ refused 19 []
+                    unfolding step judge checks sceneOf
+                    refuses-19 e = rw (ten, eleven, twelve, thirteen, fourteen, fifteen, sixteen, seventeen, eighteen, e)
+
+                    module _ (nineteen : check19 (sceneOf net p) ≡ true) where
+                      pub refuses-20 : check20 (sceneOf net p) ≡ false → step net p ≡ refused 20 []
+                      unfolding step judge checks sceneOf
+                      refuses-20 e = rw (ten, eleven, twelve, thirteen, fourteen, fifteen, sixteen, seventeen, eighteen, nineteen, e)
+
+                      pub performs-all : check20 (sceneOf net p) ≡ true → step net p ≡ performed (sceneOf net p)
+                      unfolding step judge checks sceneOf
+                      performs-all twenty = rw (ten, eleven, twelve, thirteen, fourteen, fifteen, sixteen, seventeen, eighteen, nineteen, twenty)

@@ -1,0 +1,122 @@
+// Rows and relations: what templates match, what steps select, change and sum up. All by value.
+use values::Got;
+use values::Operand;
+use values::Slot;
+use values::Value;
+
+pub struct Cell {
+    pub value: Value,
+}
+
+// The first `columns` cells of its relation count.
+pub struct Row {
+    pub cells: [Cell; 4],
+}
+
+// The inside of a table and of a table variable: column kinds (1 Int, 2 Text, 3 Loc) and rows.
+pub struct Relation {
+    pub columns: usize,
+    pub kinds: [u8; 4],
+    pub rows: [Row; 16],
+    pub count: usize,
+}
+
+pub struct Field {
+    pub operand: Operand,
+}
+
+// A template T or a tuple t: the first `count` fields.
+pub struct Operands {
+    pub fields: [Field; 4],
+    pub count: usize,
+}
+
+// The predicates 0..4.
+pub enum Test {
+    Always,
+    Equal,
+    Unequal,
+    Less,
+    AtMost,
+}
+
+// Which rows a step speaks of: those that match T and satisfy the predicate.
+pub struct Selector {
+    pub template: Operands,
+    pub test: Test,
+    pub left: Operand,
+    pub right: Operand,
+}
+
+// The aggregate functions 1..4, and none.
+pub enum Function {
+    Unused,
+    Count,
+    Sum,
+    Least,
+    Largest,
+}
+
+// Where a variable's value comes from once T is known: the same for every row, or a column of the row.
+pub enum Source {
+    Fixed(Got),
+    Column(u8),
+}
+
+// An operand prepared for one relation: its source, plus an Int.
+pub enum Term {
+    Plain(Source),
+    Shifted(Source, i32),
+}
+
+pub struct Place {
+    pub term: Term,
+}
+
+// A tuple t prepared for one relation.
+pub struct Terms {
+    pub places: [Place; 4],
+    pub count: usize,
+}
+
+// What a place of T takes.
+pub enum Want {
+    Anything,
+    Like(Got),
+}
+
+pub struct Wanted {
+    pub want: Want,
+}
+
+// A selector prepared for one relation: its operands read the thread's variables once, and not for each row.
+pub struct Plan {
+    pub wants: [Wanted; 4],
+    pub test: Test,
+    pub left: Term,
+    pub right: Term,
+}
+
+// What a tuple gives: the first `count` slots.
+pub struct Draft {
+    pub slots: [Slot; 4],
+    pub count: usize,
+}
+
+// A relation in two parts.
+pub struct Split {
+    pub kept: Relation,
+    pub taken: Relation,
+}
+
+// A relation with some rows replaced, and how many.
+pub struct Updated {
+    pub relation: Relation,
+    pub number: usize,
+}
+
+// A row after an update, and whether it was replaced.
+pub struct Renewed {
+    pub changed: bool,
+    pub row: Row,
+}

@@ -1,0 +1,11 @@
+-- Laws that belong to no one function.
+pub mod AgreeLaws
+pub mod Arrays
+pub mod Bools
+pub mod Firsts
+pub mod Ints
+pub mod ListLaws
+pub mod Loops
+pub mod Orders
+pub mod SameLaws
+pub mod Texts

@@ -1,0 +1,43 @@
+-- Loops that test or fold: what is left decides. `t` is what the test of this element answered, `b` or `w` what the whole comes to.
+use mathlib.Core.Path.{_≡_, sym, ap, ap₂, _∙_}
+use mathlib.Core.Bool.{Bool, true, false, _&&_}
+use mathlib.Core.List.{List, [], _∷_, foldl}
+use Rattle.values.specs.Lists.{all, agree}
+
+-- a test of every element
+module _ {A : Type 0} (p : A → Bool) (b : Bool) {xs : List A} (left : all p xs ≡ b) where
+  module _ {x : A} {xs′ : List A} {t : Bool} (e : xs ≡ x ∷ xs′) (q : t ≡ p x) where
+    here : (t && all p xs′) ≡ b
+    here = ap (λ (u : Bool). u && all p xs′) q ∙ sym (ap (all p) e) ∙ left
+
+    pub all-more : t ≡ true → all p xs′ ≡ b
+    all-more h = sym (ap (λ (u : Bool). u && all p xs′) h) ∙ here
+
+    pub all-fails : t ≡ false → false ≡ b
+    all-fails h = sym (ap (λ (u : Bool). u && all p xs′) h) ∙ here
+
+  pub all-ends : xs ≡ [] → true ≡ b
+  all-ends e = sym (ap (all p) e) ∙ left
+
+-- two lists that are to agree
+module _ {A B : Type 0} (p : A → B → Bool) (b : Bool) {xs : List A} {ys : List B} (left : agree p xs ys ≡ b) where
+  module _ {x : A} {y : B} {xs′ : List A} {ys′ : List B} {t : Bool} (e : xs ≡ x ∷ xs′) (e′ : ys ≡ y ∷ ys′) (q : t ≡ p x y) where
+    here₂ : (t && agree p xs′ ys′) ≡ b
+    here₂ = ap (λ (u : Bool). u && agree p xs′ ys′) q ∙ sym (ap₂ (agree p) e e′) ∙ left
+
+    pub agree-more : t ≡ true → agree p xs′ ys′ ≡ b
+    agree-more h = sym (ap (λ (u : Bool). u && agree p xs′ ys′) h) ∙ here₂
+
+    pub agree-fails : t ≡ false → false ≡ b
+    agree-fails h = sym (ap (λ (u : Bool). u && agree p xs′ ys′) h) ∙ here₂
+
+  pub agree-ends : xs ≡ [] → ys ≡ [] → true ≡ b
+  agree-ends e e′ = sym (ap₂ (agree p) e e′) ∙ left
+
+-- a fold from the left
+module _ {A B : Type 0} (f : B → A → B) (a : B) (w : B) {xs : List A} (left : foldl f a xs ≡ w) where
+  pub fold-more : {a′ : B} {x : A} {xs′ : List A} → xs ≡ x ∷ xs′ → a′ ≡ f a x → foldl f a′ xs′ ≡ w
+  fold-more {xs′ = xs′} e h = ap (λ (b : B). foldl f b xs′) h ∙ sym (ap (foldl f a) e) ∙ left
+
+  pub fold-ends : xs ≡ [] → a ≡ w
+  fold-ends e = sym (ap (foldl f a) e) ∙ left
