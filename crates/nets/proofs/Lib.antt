@@ -1,4 +1,4 @@
--- Laws that belong to no one function.
+-- Laws of the model: demand 3 for every list of picks, and soundness kept by every step.
 pub mod TableLaws
 pub mod SourceLaws
 pub mod MoveLaws
@@ -8,3 +8,10 @@ pub mod RunLaws
 pub mod Keys
 pub mod RefusalLaws
 pub mod AnswerLaws
+pub mod SoundLaws
+pub mod SureLaws
+pub mod BindingLaws
+pub mod StackLaws
+pub mod RoundLaws
+pub mod KeepTables
+pub mod KeepSound

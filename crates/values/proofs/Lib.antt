@@ -1,11 +1,13 @@
 -- Laws that belong to no one function.
 pub mod AgreeLaws
 pub mod Arrays
+pub mod BindLaws
 pub mod Bools
 pub mod Firsts
 pub mod Ints
 pub mod ListLaws
 pub mod Loops
 pub mod Orders
+pub mod RangeLaws
 pub mod SameLaws
 pub mod Texts
