@@ -1,25 +1,16 @@
--- Keys that differ and cover a ledger exist, so demand 3's sums over keys hold of some; and any key left out is counted 0 times. Assumes nothing.
+-- A ledger's own keys differ and cover it; and any key left out is counted 0 times. Assumes nothing.
 use Prim.Native.Nat.{_+_}
 use mathlib.Core.Path.{_≡_, refl, sym, subst}
 use mathlib.Core.Bool.{Bool, true, false, not, _||_}
-use mathlib.Core.List.{List, [], _∷_, map}
+use mathlib.Core.List.{List, [], _∷_}
 use native.Mathlib.Omega.{arith}
 use lib.Dec.{T}
-use Rattle.values.specs.Lists.{bit, any, keep, sum}
+use Rattle.values.specs.Lists.{bit, any, keep}
 use Rattle.values.proofs.Bools.{and-l, and-r, and-in, not-T→false}
 use Rattle.values.proofs.ListLaws.{all-weaken}
-use Rattle.nets.specs.declared.Pick.{Pick}
-use Rattle.nets.specs.Nets.{Net}
-use Rattle.nets.specs.Sound.{sound}
-use Rattle.nets.specs.Accounts.{Posting, samePosting, times, added, taken, reportedAdded, reportedTaken}
-use Rattle.nets.specs.Demand3.{differing, covers}
+use Rattle.nets.specs.Accounts.{Posting, samePosting, times}
+use Rattle.nets.specs.Demand3.{differing, covers, keysOf}
 use Rattle.nets.proofs.KeyLaws.{posting-eq, posting-refl, posting-sym}
-use Rattle.nets.proofs.RunLaws.{demand3}
-
--- the postings of a ledger, each once
-abbrev pub keysOf : List Posting → List Posting
-keysOf [] = []
-keysOf (p ∷ ps) = keep (not (any (samePosting p) (keysOf ps))) p (keysOf ps)
 
 pub keys-differ : (l : List Posting) → T (differing (keysOf l))
 keys-differ [] = tt
@@ -72,11 +63,3 @@ uncounted keys (p ∷ l) k c n = go (samePosting k p) refl (uncounted keys l k (
         let same = posting-eq k p (subst T (sym e) tt) in
         absurd (rw (flip-any k keys, not-T→false (any (samePosting k) keys) n) at (subst (λ (q : Posting). T (any (λ j. samePosting j q) keys)) (sym same) found))
     go false e ih = omega arith
-
--- the counts reported, as the accounts summed over the ledger's own keys
-module _ (net : Net) (h : T (sound net)) (ps : List Pick) where
-  pub added-accounts : reportedAdded net ps ≡ sum (map (λ k. times k (added net ps)) (keysOf (added net ps)))
-  added-accounts = demand3 net h ps .addedSum (keysOf (added net ps)) (keys-differ (added net ps)) (keys-cover (added net ps))
-
-  pub taken-accounts : reportedTaken net ps ≡ sum (map (λ k. times k (taken net ps)) (keysOf (taken net ps)))
-  taken-accounts = demand3 net h ps .takenSum (keysOf (taken net ps)) (keys-differ (taken net ps)) (keys-cover (taken net ps))

@@ -4,8 +4,8 @@ pub mod SourceLaws
 pub mod MoveLaws
 pub mod StepLaws
 pub mod KeyLaws
-pub mod RunLaws
 pub mod Keys
+pub mod RunLaws
 pub mod RefusalLaws
 pub mod AnswerLaws
 pub mod SoundLaws

@@ -17,9 +17,10 @@ use Rattle.nets.specs.Tables.{tableAt, rowsFit, distinct}
 use Rattle.nets.specs.Sound.{sound}
 use Rattle.nets.specs.Steps.{sceneOf, step}
 use Rattle.nets.specs.Accounts.{nextNet, after, answers, reportedAdded, reportedTaken, post, samePosting, times, addedAt, takenAt, added, taken, actedAt, acted, standing}
-use Rattle.nets.specs.Demand3.{Demand3}
+use Rattle.nets.specs.Demand3.{EveryRun, keysOf}
 use Rattle.nets.proofs.SourceLaws.{sound-fits, sound-distinct}
 use Rattle.nets.proofs.KeyLaws.{sum-keys}
+use Rattle.nets.proofs.Keys.{keys-differ, keys-cover}
 use Rattle.nets.proofs.StepLaws.{Stepped, stepped}
 
 -- what is proved by induction: `Demand3` without the sums over keys
@@ -51,7 +52,7 @@ kept net (p ∷ ps) f d = go (stepped net p f d) (kept (nextNet net p) ps (stepp
         }
 
 -- after any list of picks from a sound net
-pub demand3 : (net : Net) → T (sound net) → (ps : List Pick) → Demand3 net ps
+pub demand3 : EveryRun
 demand3 net h ps =
     let k = kept net ps (sound-fits net h) (sound-distinct net h) in
     record {
@@ -61,6 +62,8 @@ demand3 net h ps =
       untouched = k .untouched;
       addedAll = k .addedAll;
       takenAll = k .takenAll;
+      addedAccounts = k .addedAll ∙ sym (sum-keys (keysOf (added net ps)) (keys-differ (added net ps)) (added net ps) (keys-cover (added net ps)));
+      takenAccounts = k .takenAll ∙ sym (sum-keys (keysOf (taken net ps)) (keys-differ (taken net ps)) (taken net ps) (keys-cover (taken net ps)));
       addedSum = λ keys d c. k .addedAll ∙ sym (sum-keys keys d (added net ps) c);
       takenSum = λ keys d c. k .takenAll ∙ sym (sum-keys keys d (taken net ps) c);
     }

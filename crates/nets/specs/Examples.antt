@@ -24,8 +24,8 @@ use Rattle.rows.specs.Fit.{draft}
 use Rattle.rows.specs.Changes.{tupleFor, changes, selectedColumns}
 use Rattle.rows.specs.Aggregates.{aggregated}
 use Rattle.nets.specs.declared.Pick.{Pick}
-use Rattle.nets.specs.Nets.{Kind, acting, other, insert, insertTable, delete, update, select, aggregate, Node, toRun, Bindings, Net, Outcome, refused, done}
-use Rattle.nets.specs.Tables.{tableAt, rowsOf, distinct, change}
+use Rattle.nets.specs.Nets.{Table, Kind, acting, other, insert, insertTable, delete, update, select, aggregate, Node, toRun, Bindings, Net, Outcome, refused, done}
+use Rattle.nets.specs.Tables.{tableAt, distinct, change}
 use Rattle.nets.specs.Sound.{noThread, fieldsOkAs, linksOkAs, sound}
 use Rattle.nets.specs.Steps.{sceneOf, siteOfL, site, table, relation, source, hitRows, ownDraft, result, anyReady, opens, readsOk, check12, check13, check14, check15, check16, check17, check18, check19, check20, tablesBy, addedBy, takenBy, bindingsBy, threadsAfter, netAfter, performed, judge, checks, step}
 use Rattle.nets.specs.Accounts.{nextNet}
@@ -90,9 +90,13 @@ does a t net = isDoneWith a t (step net pick)
 abbrev bindings : Net → Bindings
 bindings net = getD (nextNet net pick .threads) 0 noThread .bindings
 
--- CARD's rows after it, in order; what variable 0 holds, and the rows of table variable 0
+abbrev stands : List Row → Option Table → Bool
+stands rs none = false
+stands rs (some t) = agree sameRow rs (t .content .rows)
+
+-- CARD stands with these rows after it, in order; what variable 0 holds, and the rows of table variable 0
 abbrev leaves : List Row → Net → Bool
-leaves rs net = agree sameRow rs (rowsOf (tableAt site0 CARD (nextNet net pick .tables)))
+leaves rs net = stands rs (tableAt site0 CARD (nextNet net pick .tables))
 
 abbrev binds : Row → Net → Bool
 binds r net = sameRow r (valuesIn (getD (bindings net .vars) 0 Nothing ∷ []))
@@ -140,6 +144,7 @@ examples =
     -- (d) inserting that sum: 16
     ∷ refuses 16 (inserting 2147483647 [])
     -- (e) sum of 2, 5, 1, 2, 2 is 12; of no rows 0; least of none 18
+    ∷ does 0 0 (aggregating Sum (int 2 ∷ int 5 ∷ int 1 ∷ int 2 ∷ int 2 ∷ []))
     ∷ binds (int 12) (aggregating Sum (int 2 ∷ int 5 ∷ int 1 ∷ int 2 ∷ int 2 ∷ []))
     ∷ binds (int 0) (aggregating Sum [])
     ∷ refuses 18 (aggregating Least [])

@@ -4,6 +4,12 @@ use values::Operand;
 use values::Slot;
 use values::Value;
 
+pub mod aggregates;
+pub mod binding;
+pub mod changes;
+pub mod fit;
+pub mod plans;
+
 pub struct Cell {
     pub value: Value,
 }

@@ -1,0 +1,233 @@
+// What tuples give, and fit. Fit is judged in one loop, over columns and a draft.
+use crate::Cell;
+use crate::Draft;
+use crate::Operands;
+use crate::Place;
+use crate::Relation;
+use crate::Row;
+use crate::Term;
+use crate::Terms;
+use crate::plans::term_got;
+use crate::plans::term_of;
+use values::Got;
+use values::Slot;
+use values::Value;
+use values::compare::kind_of;
+use values::eval::eval_in;
+ghost use mathlib.Core.Path.{_≡_};
+ghost use mathlib.Core.List.{map};
+ghost use Prim.Native.Nat.{ℕ, _≤_, _<_};
+ghost use lib.Dec.{T};
+ghost use lib.ListN.{getD};
+ghost use Rattle.values.specs.Lists.{all};
+ghost use Rattle.values.specs.Operands.{varsOf, isGot, valuesIn, valueIn, eval};
+ghost use Rattle.values.specs.declared.Got.the-variants.{One};
+ghost use Rattle.rows.specs.Fit.{draft, ofKind, fits, fitsRow, relationFits, sameColumns};
+ghost use Rattle.rows.specs.View.{noCell, noField, operandsOf, valuesOf, columnsOf, relationOf, draftOf, Short, Shaped};
+ghost use Rattle.rows.specs.Plans.{termOf, termGot, noPlace, termsIn};
+
+// ---- tuples prepared for rows that match T
+
+pub fn place_of(t: Operands, i: usize, template: Operands, vars: [Slot; 16]) -> Place
+    requires { ⌜ Short template × (i < 4) ⌝ }
+    ensures { λ r. ⌜ r .term ≡ termOf (varsOf vars) (operandsOf template) (getD (t .fields) i noField .operand) ⌝ }
+{
+    let f = t.fields[i];
+    let op = f.operand;
+    let term = term_of(op, template, vars);
+    Place { term }
+}
+
+pub fn terms_of(t: Operands, template: Operands, vars: [Slot; 16]) -> Terms
+    requires { ⌜ Short t × Short template ⌝ }
+    ensures { λ r. ⌜ (termsIn r ≡ map (termOf (varsOf vars) (operandsOf template)) (operandsOf t)) × (r .count ≡ t .count) ⌝ }
+{
+    let a = place_of(t, 0, template, vars);
+    let b = place_of(t, 1, template, vars);
+    let c = place_of(t, 2, template, vars);
+    let d = place_of(t, 3, template, vars);
+    Terms {
+        places: [a, b, c, d],
+        count: t.count,
+    }
+}
+
+// ---- drafts
+
+pub fn slot_of(t: Operands, i: usize, vars: [Slot; 16]) -> Slot
+    requires { ⌜ i < 4 ⌝ }
+    ensures { λ r. ⌜ r .held ≡ eval (varsOf vars) (getD (t .fields) i noField .operand) ⌝ }
+{
+    let f = t.fields[i];
+    let op = f.operand;
+    let held = eval_in(op, vars);
+    Slot { held }
+}
+
+// What t gives with no row.
+pub fn draft_of(t: Operands, vars: [Slot; 16]) -> Draft
+    requires { ⌜ Short t ⌝ }
+    ensures { λ o. ⌜ (draftOf o ≡ draft (varsOf vars) (operandsOf t)) × (o .count ≡ t .count) ⌝ }
+{
+    let a = slot_of(t, 0, vars);
+    let b = slot_of(t, 1, vars);
+    let c = slot_of(t, 2, vars);
+    let d = slot_of(t, 3, vars);
+    Draft {
+        slots: [a, b, c, d],
+        count: t.count,
+    }
+}
+
+pub fn slot_for(t: Terms, i: usize, row: Row) -> Slot
+    requires { ⌜ i < 4 ⌝ }
+    ensures { λ r. ⌜ r .held ≡ termGot (getD (t .places) i noPlace .term) (row .cells) ⌝ }
+{
+    let p = t.places[i];
+    let term = p.term;
+    let held = term_got(term, row);
+    Slot { held }
+}
+
+// What a prepared t gives for a row.
+pub fn draft_for(t: Terms, row: Row) -> Draft
+    requires { ⌜ t .count ≤ 4 ⌝ }
+    ensures { λ o. ⌜ (draftOf o ≡ map (λ (x : Term). termGot x (row .cells)) (termsIn t)) × (o .count ≡ t .count) ⌝ }
+{
+    let a = slot_for(t, 0, row);
+    let b = slot_for(t, 1, row);
+    let c = slot_for(t, 2, row);
+    let d = slot_for(t, 3, row);
+    Draft {
+        slots: [a, b, c, d],
+        count: t.count,
+    }
+}
+
+pub fn slot_in(row: Row, i: usize) -> Slot
+    requires { ⌜ i < 4 ⌝ }
+    ensures { λ r. ⌜ r .held ≡ One (getD (row .cells) i noCell .value) ⌝ }
+{
+    let c = row.cells[i];
+    let v = c.value;
+    let held = Got::One(v);
+    Slot { held }
+}
+
+// A stored row as a draft, so that its fit is judged like any other.
+pub fn draft_in(row: Row, columns: usize) -> Draft
+    requires { ⌜ columns ≤ 4 ⌝ }
+    ensures { λ o. ⌜ (draftOf o ≡ map One (valuesOf columns row)) × (o .count ≡ columns) ⌝ }
+{
+    let a = slot_in(row, 0);
+    let b = slot_in(row, 1);
+    let c = slot_in(row, 2);
+    let d = slot_in(row, 3);
+    Draft {
+        slots: [a, b, c, d],
+        count: columns,
+    }
+}
+
+pub fn cell_of(s: Slot) -> Cell
+    ensures { λ r. ⌜ r .value ≡ valueIn (s .held) ⌝ }
+{
+    let held = s.held;
+    match held {
+        Got::Nothing => Cell {
+            value: Value::Int(0),
+        },
+        Got::One(v) => Cell { value: v },
+    }
+}
+
+// The row of a draft that gives all its values.
+pub fn row_of(d: Draft) -> Row
+    requires { ⌜ d .count ≤ 4 ⌝ }
+    ensures { λ o. ⌜ (T (all isGot (draftOf d)) → valuesOf (d .count) o ≡ valuesIn (draftOf d)) ⌝ }
+{
+    let a = d.slots[0];
+    let b = d.slots[1];
+    let c = d.slots[2];
+    let e = d.slots[3];
+    Row {
+        cells: [cell_of(a), cell_of(b), cell_of(c), cell_of(e)],
+    }
+}
+
+// ---- fit
+
+pub fn of_kind(kind: u8, g: Got) -> bool
+    ensures { λ r. ⌜ r ≡ ofKind kind g ⌝ }
+{
+    match g {
+        Got::Nothing => false,
+        Got::One(v) => kind == kind_of(v),
+    }
+}
+
+pub fn fits_columns(columns: usize, kinds: [u8; 4], d: Draft) -> bool
+    requires { ⌜ (columns ≤ 4) × (d .count ≤ 4) ⌝ }
+    ensures { λ r. ⌜ r ≡ fits (columnsOf columns kinds) (draftOf d) ⌝ }
+{
+    if columns != d.count {
+        return false;
+    }
+    let mut i: usize = 0;
+    while i < columns {
+        let k = kinds[i];
+        let s = d.slots[i];
+        let g = s.held;
+        if of_kind(k, g) {
+            i += 1;
+        } else {
+            return false;
+        }
+    }
+    true
+}
+
+pub fn row_fits(row: Row, columns: usize, kinds: [u8; 4]) -> bool
+    requires { ⌜ columns ≤ 4 ⌝ }
+    ensures { λ r. ⌜ r ≡ fitsRow (columnsOf columns kinds) (valuesOf columns row) ⌝ }
+{
+    fits_columns(columns, kinds, draft_in(row, columns))
+}
+
+// Every row of a relation fits its columns.
+pub fn rows_fit(r: Relation) -> bool
+    requires { ⌜ Shaped r ⌝ }
+    ensures { λ o. ⌜ o ≡ relationFits (relationOf r) ⌝ }
+{
+    let columns = r.columns;
+    let kinds = r.kinds;
+    let count = r.count;
+    let mut i: usize = 0;
+    while i < count {
+        let row = r.rows[i];
+        if row_fits(row, columns, kinds) {
+            i += 1;
+        } else {
+            return false;
+        }
+    }
+    true
+}
+
+pub fn same_columns(m: usize, ks: [u8; 4], n: usize, js: [u8; 4]) -> bool
+    requires { ⌜ (m ≤ 4) × (n ≤ 4) ⌝ }
+    ensures { λ r. ⌜ r ≡ sameColumns (columnsOf m ks) (columnsOf n js) ⌝ }
+{
+    if m != n {
+        return false;
+    }
+    let mut i: usize = 0;
+    while i < m {
+        if ks[i] == js[i] {
+            i += 1;
+        } else {
+            return false;
+        }
+    }
+    true
+}

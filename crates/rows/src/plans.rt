@@ -1,0 +1,261 @@
+// Selectors prepared for one relation, and the rows that they select.
+use crate::Cell;
+use crate::Operands;
+use crate::Plan;
+use crate::Row;
+use crate::Selector;
+use crate::Source;
+use crate::Term;
+use crate::Test;
+use crate::Want;
+use crate::Wanted;
+use values::Got;
+use values::Operand;
+use values::Order;
+use values::Slot;
+use values::Value;
+use values::compare::got_order;
+use values::eval::eval_in;
+use values::eval::held_in;
+use values::eval::plus;
+ghost use mathlib.Core.Path.{_≡_};
+ghost use Prim.Native.Nat.{ℕ, _≤_, _<_};
+ghost use lib.ListN.{length};
+ghost use Rattle.values.specs.Operands.{varsOf, formalOf};
+ghost use Rattle.rows.specs.Matching.{isSame, agrees, hits, matches};
+ghost use Rattle.rows.specs.View.{operandsOf, selectorOf, valuesOf, Short};
+ghost use Rattle.rows.specs.Plans.{isFormalOf, formalPlace, sourceOf, termOf, gotAt, sourceGot, termGot, wantOf, wantAt, meets, wantsMet, planHits};
+
+// ---- sources and terms
+
+pub fn is_formal_of(i: u8, op: Operand) -> bool
+    ensures { λ r. ⌜ r ≡ isFormalOf i (formalOf op) ⌝ }
+{
+    match op {
+        Operand::Absent => false,
+        Operand::ConstInt(_) => false,
+        Operand::ConstText(_) => false,
+        Operand::ConstLoc(_) => false,
+        Operand::Var(_) => false,
+        Operand::Plus(_, _) => false,
+        Operand::Formal(j) => i == j,
+    }
+}
+
+// The last place of T whose formal is variable i, as bindings go from first to last; 4 where there is none.
+pub fn formal_place(i: u8, template: Operands) -> usize
+    requires { ⌜ Short template ⌝ }
+    ensures { λ r. ⌜ r ≡ formalPlace i 4 0 (operandsOf template) ⌝ }
+{
+    let count = template.count;
+    let mut at: usize = 4;
+    let mut n: usize = 0;
+    while n < count {
+        let f = template.fields[n];
+        let op = f.operand;
+        if is_formal_of(i, op) {
+            at = n;
+        }
+        n += 1;
+    }
+    at
+}
+
+pub fn source_of(i: u8, template: Operands, vars: [Slot; 16]) -> Source
+    requires { ⌜ Short template ⌝ }
+    ensures { λ r. ⌜ r ≡ sourceOf (varsOf vars) (operandsOf template) i ⌝ }
+{
+    if 16 <= i {
+        return Source::Fixed(Got::Nothing);
+    }
+    let at = formal_place(i, template);
+    if at < 4 {
+        return Source::Column((at % 256) as u8);
+    }
+    Source::Fixed(held_in(vars, i))
+}
+
+pub fn term_of(op: Operand, template: Operands, vars: [Slot; 16]) -> Term
+    requires { ⌜ Short template ⌝ }
+    ensures { λ r. ⌜ r ≡ termOf (varsOf vars) (operandsOf template) op ⌝ }
+{
+    match op {
+        Operand::Absent => Term::Plain(Source::Fixed(Got::Nothing)),
+        Operand::ConstInt(i) => Term::Plain(Source::Fixed(Got::One(Value::Int(i)))),
+        Operand::ConstText(t) => Term::Plain(Source::Fixed(Got::One(Value::Text(t)))),
+        Operand::ConstLoc(l) => Term::Plain(Source::Fixed(Got::One(Value::Loc(l)))),
+        Operand::Var(i) => Term::Plain(source_of(i, template, vars)),
+        Operand::Plus(i, k) => Term::Shifted(source_of(i, template, vars), k),
+        Operand::Formal(_) => Term::Plain(Source::Fixed(Got::Nothing)),
+    }
+}
+
+pub fn got_at(row: Row, i: u8) -> Got
+    ensures { λ r. ⌜ r ≡ gotAt (row .cells) i ⌝ }
+{
+    let at = i as usize;
+    if 4 <= at {
+        return Got::Nothing;
+    }
+    let c = row.cells[at];
+    let v = c.value;
+    Got::One(v)
+}
+
+pub fn source_got(s: Source, row: Row) -> Got
+    ensures { λ r. ⌜ r ≡ sourceGot s (row .cells) ⌝ }
+{
+    match s {
+        Source::Fixed(g) => g,
+        Source::Column(i) => got_at(row, i),
+    }
+}
+
+pub fn term_got(t: Term, row: Row) -> Got
+    ensures { λ r. ⌜ r ≡ termGot t (row .cells) ⌝ }
+{
+    match t {
+        Term::Plain(s) => source_got(s, row),
+        Term::Shifted(s, k) => plus(source_got(s, row), k),
+    }
+}
+
+// ---- matching
+
+pub fn want_of(op: Operand, vars: [Slot; 16]) -> Want
+    ensures { λ r. ⌜ r ≡ wantOf (varsOf vars) op ⌝ }
+{
+    match op {
+        Operand::Absent => Want::Like(Got::Nothing),
+        Operand::ConstInt(i) => Want::Like(Got::One(Value::Int(i))),
+        Operand::ConstText(t) => Want::Like(Got::One(Value::Text(t))),
+        Operand::ConstLoc(l) => Want::Like(Got::One(Value::Loc(l))),
+        Operand::Var(i) => Want::Like(eval_in(op, vars)),
+        Operand::Plus(i, k) => Want::Like(eval_in(op, vars)),
+        Operand::Formal(_) => Want::Anything,
+    }
+}
+
+pub fn is_same(o: Order) -> bool
+    ensures { λ r. ⌜ r ≡ isSame o ⌝ }
+{
+    match o {
+        Order::Unlike => false,
+        Order::Before => false,
+        Order::Same => true,
+        Order::After => false,
+    }
+}
+
+pub fn met(w: Want, v: Value) -> bool
+    ensures { λ r. ⌜ r ≡ meets w v ⌝ }
+{
+    match w {
+        Want::Anything => true,
+        Want::Like(g) => is_same(got_order(g, Got::One(v))),
+    }
+}
+
+// The want at a place of T; past its end anything will do.
+pub fn wanted_at(template: Operands, i: usize, vars: [Slot; 16]) -> Wanted
+    requires { ⌜ i < 4 ⌝ }
+    ensures { λ r. ⌜ r .want ≡ wantAt (varsOf vars) template i ⌝ }
+{
+    if template.count <= i {
+        let want = Want::Anything;
+        return Wanted { want };
+    }
+    let f = template.fields[i];
+    let op = f.operand;
+    let want = want_of(op, vars);
+    Wanted { want }
+}
+
+pub fn wants_of(template: Operands, vars: [Slot; 16]) -> [Wanted; 4]
+    requires { ⌜ Short template ⌝ }
+    ensures { λ r. ⌜ ((row : Row) → length (row .cells) ≡ 4 → wantsMet r (row .cells) ≡ matches (varsOf vars) (operandsOf template) (valuesOf (template .count) row)) ⌝ }
+{
+    let a = wanted_at(template, 0, vars);
+    let b = wanted_at(template, 1, vars);
+    let c = wanted_at(template, 2, vars);
+    let d = wanted_at(template, 3, vars);
+    [a, b, c, d]
+}
+
+// Four places, whatever T's length, so that the loop has a fixed bound.
+pub fn row_matches(wants: [Wanted; 4], row: Row) -> bool
+    ensures { λ r. ⌜ r ≡ wantsMet wants (row .cells) ⌝ }
+{
+    let mut i: usize = 0;
+    while i < 4 {
+        let w = wants[i];
+        let c = row.cells[i];
+        let want = w.want;
+        let v = c.value;
+        if met(want, v) {
+            i += 1;
+        } else {
+            return false;
+        }
+    }
+    true
+}
+
+// ---- the predicate, and the rows selected
+
+pub fn test_holds(t: Test, o: Order) -> bool
+    ensures { λ r. ⌜ r ≡ agrees t o ⌝ }
+{
+    match t {
+        Test::Always => true,
+        Test::Equal => is_same(o),
+        Test::Unequal => match o {
+            Order::Unlike => false, // unlike kinds are neither equal nor unequal
+            Order::Before => true,
+            Order::Same => false,
+            Order::After => true,
+        },
+        Test::Less => match o {
+            Order::Unlike => false,
+            Order::Before => true,
+            Order::Same => false,
+            Order::After => false,
+        },
+        Test::AtMost => match o {
+            Order::Unlike => false,
+            Order::Before => true,
+            Order::Same => true,
+            Order::After => false,
+        },
+    }
+}
+
+pub fn plan_of(s: Selector, vars: [Slot; 16]) -> Plan
+    requires { ⌜ Short (s .template) ⌝ }
+    ensures { λ r. ⌜ ((row : Row) → length (row .cells) ≡ 4 → planHits r row ≡ hits (varsOf vars) (selectorOf s) (valuesOf (s .template .count) row)) ⌝ }
+{
+    let template = s.template;
+    let wants = wants_of(template, vars);
+    let test = s.test;
+    let left = s.left;
+    let right = s.right;
+    Plan {
+        wants,
+        test,
+        left: term_of(left, template, vars),
+        right: term_of(right, template, vars),
+    }
+}
+
+pub fn row_hits(p: Plan, row: Row) -> bool
+    ensures { λ r. ⌜ r ≡ planHits p row ⌝ }
+{
+    let wants = p.wants;
+    if row_matches(wants, row) {
+        let test = p.test;
+        let left = p.left;
+        let right = p.right;
+        return test_holds(test, got_order(term_got(left, row), term_got(right, row)));
+    }
+    false
+}
