@@ -1,0 +1,309 @@
+// The row layer on the worked cases of the Klaim-DB paper (its Figure 3 and Examples 2 to 6): the table KLD of one branch, in texts of four bytes.
+// Columns: shoe, colour, size, sales.
+use libc::STDOUT_FILENO;
+use rows::Cell;
+use rows::Field;
+use rows::Function;
+use rows::Operands;
+use rows::Relation;
+use rows::Row;
+use rows::Selector;
+use rows::Test;
+use rows::aggregates::aggregate;
+use rows::changes::project;
+use rows::changes::push;
+use rows::changes::split;
+use rows::changes::update;
+use values::Got;
+use values::Operand;
+use values::Slot;
+use values::Value;
+ghost use mathlib.Core.Path.{_≡_};
+ghost use mathlib.Core.List.{[], _∷_};
+ghost use lib.IntN.{natAbs};
+ghost use lib.ListN.{replicate};
+ghost use Rattle.values.specs.declared.Got.the-variants.{Nothing};
+ghost use Rattle.values.specs.Operands.{varsOf};
+ghost use Rattle.cases.specs.Kld.{Kld};
+
+const SHOE1: u32 = 0x30303120;
+
+const SHOE2: u32 = 0x30303220;
+
+const RED: u32 = 0x72656420;
+
+const BLACK: u32 = 0x626c6163;
+
+const GREEN: u32 = 0x67726565;
+
+const BROWN: u32 = 0x62726f77;
+
+const WHITE: u32 = 0x77686974; // whit
+
+const CAPITAL_WHITE: u32 = 0x57686974; // Whit
+
+// ---- rows and operands
+
+fn shoe(id: u32, colour: u32, size: i32, sales: i32) -> Row {
+    let a = Cell {
+        value: Value::Text(id),
+    };
+    let b = Cell {
+        value: Value::Text(colour),
+    };
+    let c = Cell {
+        value: Value::Int(size),
+    };
+    let d = Cell {
+        value: Value::Int(sales),
+    };
+    Row {
+        cells: [a, b, c, d],
+    }
+}
+
+// The seven rows of the figure.
+fn kld() -> Relation
+    ensures { λ r. ⌜ Kld r × (r .count ≡ 7) ⌝ }
+{
+    let blank = shoe(SHOE1, RED, 0, 0);
+    let mut rows = [blank; 16];
+    rows[0] = shoe(SHOE1, RED, 38, 2);
+    rows[1] = shoe(SHOE1, RED, 37, 5);
+    rows[2] = shoe(SHOE1, RED, 36, 1);
+    rows[3] = shoe(SHOE1, BLACK, 38, 2);
+    rows[4] = shoe(SHOE1, BLACK, 37, 2);
+    rows[5] = shoe(SHOE2, GREEN, 38, 0);
+    rows[6] = shoe(SHOE2, BROWN, 37, 3);
+    Relation {
+        columns: 4,
+        kinds: [2, 2, 1, 1],
+        rows,
+        count: 7,
+    }
+}
+
+fn operands(a: Operand, b: Operand, c: Operand, d: Operand, count: usize) -> Operands
+    ensures { λ r. ⌜ (r .fields ≡ record { operand = a } ∷ record { operand = b } ∷ record { operand = c } ∷ record { operand = d } ∷ []) × (r .count ≡ count) ⌝ }
+{
+    let e = Field { operand: a };
+    let f = Field { operand: b };
+    let g = Field { operand: c };
+    let h = Field { operand: d };
+    Operands {
+        fields: [e, f, g, h],
+        count,
+    }
+}
+
+// A template of four operands, with a predicate.
+fn selector(template: Operands, test: Test, left: Operand, right: Operand) -> Selector
+    ensures { λ r. ⌜ r .template ≡ template ⌝ }
+{
+    Selector {
+        template,
+        test,
+        left,
+        right,
+    }
+}
+
+fn nothing_bound() -> [Slot; 16]
+    ensures { λ r. ⌜ varsOf r ≡ replicate 16 Nothing ⌝ }
+{
+    let s = Slot { held: Got::Nothing };
+    [s; 16]
+}
+
+// ---- printing
+
+fn print_text(t: u32) {
+    let bytes = [
+        (t / 16777216 % 256) as u8,
+        (t / 65536 % 256) as u8,
+        (t / 256 % 256) as u8,
+        (t % 256) as u8,
+    ];
+    io::write_all(STDOUT_FILENO, &bytes);
+}
+
+fn magnitude(i: i32) -> u64
+    ensures { λ r. ⌜ r ≡ natAbs i ⌝ }
+{
+    if i < 0 {
+        let m = 0 - (i as i64);
+        return m as u64;
+    }
+    i as u64
+}
+
+fn print_int(i: i32) {
+    if i < 0 {
+        io::write_all(STDOUT_FILENO, b"-");
+    }
+    io::print_decimal(STDOUT_FILENO, magnitude(i));
+}
+
+fn print_value(v: Value) {
+    io::write_all(STDOUT_FILENO, b" ");
+    match v {
+        Value::Int(i) => {
+            print_int(i);
+        }
+        Value::Text(t) => {
+            print_text(t);
+        }
+        Value::Loc(l) => {
+            io::write_all(STDOUT_FILENO, b"@");
+            io::print_decimal(STDOUT_FILENO, l.0 as u64);
+        }
+    }
+}
+
+fn print_row(row: Row, columns: usize) {
+    io::write_all(STDOUT_FILENO, b"row");
+    let mut i: usize = 0;
+    while i < 4 {
+        if i < columns {
+            let c = row.cells[i];
+            let v = c.value;
+            print_value(v);
+        }
+        i += 1;
+    }
+    io::write_all(STDOUT_FILENO, b"\n");
+}
+
+fn print_rows(r: Relation) {
+    let count = r.count;
+    let columns = r.columns;
+    let mut i: usize = 0;
+    while i < 16 {
+        if i < count {
+            let row = r.rows[i];
+            print_row(row, columns);
+        }
+        i += 1;
+    }
+}
+
+// ---- the cases
+
+// Example 4: the shoes that are not red; their colour, size and sales.
+fn not_red(r: Relation)
+    requires { ⌜ Kld r ⌝ }
+{
+    io::write_all(STDOUT_FILENO, b"001, not red\n");
+    let template = operands(
+        Operand::ConstText(SHOE1),
+        Operand::Formal(1),
+        Operand::Formal(2),
+        Operand::Formal(3),
+        4,
+    );
+    let s = selector(
+        template,
+        Test::Unequal,
+        Operand::Var(1),
+        Operand::ConstText(RED),
+    );
+    let t = operands(
+        Operand::Var(1),
+        Operand::Var(2),
+        Operand::Var(3),
+        Operand::Absent,
+        3,
+    );
+    print_rows(project(r, s, t, nothing_bound()));
+}
+
+fn print_got(g: Got) {
+    match g {
+        Got::Nothing => {
+            io::write_all(STDOUT_FILENO, b" none\n");
+        }
+        Got::One(v) => {
+            print_value(v);
+            io::write_all(STDOUT_FILENO, b"\n");
+        }
+    }
+}
+
+// Example 6: the sum of the sales of shoe 001.
+fn sales(r: Relation)
+    requires { ⌜ Kld r ⌝ }
+{
+    io::write_all(STDOUT_FILENO, b"001, sales");
+    let template = operands(
+        Operand::ConstText(SHOE1),
+        Operand::Formal(1),
+        Operand::Formal(2),
+        Operand::Formal(3),
+        4,
+    );
+    let s = selector(template, Test::Always, Operand::Absent, Operand::Absent);
+    let parts = split(r, s, nothing_bound());
+    let taken = parts.taken;
+    print_got(aggregate(Function::Sum, 3, taken));
+}
+
+// Examples 2 and 3: white inserted, and deleted by "White".
+fn white(r: Relation)
+    requires { ⌜ Kld r × (r .count ≡ 7) ⌝ }
+{
+    io::write_all(STDOUT_FILENO, b"white inserted\n");
+    let more = push(r, shoe(SHOE1, WHITE, 37, 0));
+    print_rows(more);
+    let template = operands(
+        Operand::ConstText(SHOE1),
+        Operand::ConstText(CAPITAL_WHITE),
+        Operand::ConstInt(37),
+        Operand::Formal(3),
+        4,
+    );
+    let s = selector(template, Test::Always, Operand::Absent, Operand::Absent);
+    let parts = split(more, s, nothing_bound());
+    let kept = parts.kept;
+    let taken = parts.taken;
+    io::write_all(STDOUT_FILENO, b"deleted by White\n");
+    print_rows(taken);
+    io::write_all(STDOUT_FILENO, b"left\n");
+    print_rows(kept);
+}
+
+// Example 5: two more red ones of size 37 are sold.
+fn sold(r: Relation)
+    requires { ⌜ Kld r ⌝ }
+{
+    let template = operands(
+        Operand::ConstText(SHOE1),
+        Operand::ConstText(RED),
+        Operand::ConstInt(37),
+        Operand::Formal(3),
+        4,
+    );
+    let s = selector(template, Test::Always, Operand::Absent, Operand::Absent);
+    let t = operands(
+        Operand::ConstText(SHOE1),
+        Operand::ConstText(RED),
+        Operand::ConstInt(37),
+        Operand::Plus(3, 2),
+        4,
+    );
+    let u = update(r, s, t, nothing_bound());
+    let next = u.relation;
+    io::write_all(STDOUT_FILENO, b"two red 37 sold, rows replaced ");
+    io::print_decimal(STDOUT_FILENO, u.number as u64);
+    io::write_all(STDOUT_FILENO, b"\n");
+    print_rows(next);
+}
+
+fn main() {
+    let r = kld();
+    io::write_all(STDOUT_FILENO, b"KLD\n");
+    print_rows(r);
+    not_red(r);
+    sales(r);
+    white(r);
+    sold(r);
+}
