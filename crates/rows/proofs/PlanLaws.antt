@@ -7,7 +7,7 @@ use mathlib.Core.Option.{Option, none, some}
 use native.Mathlib.Omega.{arith}
 use borrow.Author.Tests.{eqb-true, eqb-false, ltb-true, ltb-false, lt-ltb}
 use lib.Dec.{eqb, ltb, leb·suc-suc, leb·suc-zero}
-use lib.ListN.{length, drop, getD, set, length-set, length-map, List·getD-map, List·getD-eq-default}
+use lib.ListN.{length, drop, getD, set, length-map, List·getD-map, List·getD-eq-default}
 use lib.Seq.{drop-cons, getD-set-same, getD-set-other}
 use Rattle.values.specs.declared.Value.{Value}
 use Rattle.values.specs.declared.Got.{Got}
@@ -16,6 +16,7 @@ use Rattle.values.specs.declared.Operand.{Operand}
 use Rattle.values.specs.declared.Operand.the-variants.{Absent, ConstInt, ConstText, ConstLoc, Var, Plus, Formal}
 use Rattle.values.specs.Lists.{firsts}
 use Rattle.values.specs.Operands.{Vars, eval, add, formalOf, bind, bindTo, kindIn}
+use Rattle.values.proofs.BindLaws.{length-to, length-bind}
 use Rattle.values.proofs.Firsts.{length-firsts, firsts-at, map-firsts}
 use Rattle.rows.specs.declared.Cell.{Cell}
 use Rattle.rows.specs.declared.Row.{Row}
@@ -32,16 +33,6 @@ use Rattle.rows.specs.Plans.{isFormalOf, formalPlace, sourceOf, termOf, 
 -- ── what formals bind ──
 
 module _ {A : Type 0} where
-  length-bind-to : (o : Option ℕ) (a : A) (e : List A) → length (bindTo o a e) ≡ length e
-  length-bind-to none a e = refl
-  length-bind-to (some j) a e = length-set e j a
-
-  pub length-bind : (t : List Operand) (g e : List A) → length (bind t g e) ≡ length e
-  unfolding bind
-  length-bind [] g e = refl
-  length-bind (o ∷ t) [] e = refl
-  length-bind (o ∷ t) (a ∷ g) e = length-bind t g (bindTo (formalOf o) a e) ∙ length-bind-to (formalOf o) a e
-
   -- variable `i`: `h` gives what stands at a place of T, `d` what is read past an end, `x` what the variable held before T
   module _ (h : ℕ → A) (d x : A) (i : ℕ) where
     -- after one place more, `at` the last place of a formal of it so far
@@ -63,7 +54,7 @@ module _ {A : Type 0} where
     bind-at (o ∷ t) g e at n all short places have so-far =
         ap (λ (l : List A). getD (bind (o ∷ t) l e) i d) (drop-cons g n d (omega arith) ∙ ap (_∷ drop (suc n) g) (places n (omega arith)))
         ∙ bind-at t g (bindTo (formalOf o) (h n) e) (cond (isFormalOf i (formalOf o)) n at) (suc n) (omega arith) short places
-        (subst (λ (m : ℕ). i < m) (sym (length-bind-to (formalOf o) (h n) e)) have)
+        (subst (λ (m : ℕ). i < m) (sym (length-to (formalOf o) (h n) e)) have)
         (bound-one at n e (formalOf o) (omega arith) have so-far)
 
 -- where a variable's value comes from (`f` of its source) is what the variable holds after T's formals are bound: `g` at their places, over `k`

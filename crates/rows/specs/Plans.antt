@@ -1,7 +1,7 @@
 -- Selectors and tuples prepared for one relation. Only the code speaks of plans: the rules are `hits` and `draftFor`, and laws tie the two.
 use Prim.Native.Nat.{ℕ, suc}
 use mathlib.Core.Bool.{Bool, true, false, cond, _&&_}
-use mathlib.Core.List.{List, [], _∷_, map}
+use mathlib.Core.List.{List, [], _∷_}
 use mathlib.Core.Option.{Option, none, some}
 use lib.Dec.{eqb, ltb}
 use lib.ListN.{getD}

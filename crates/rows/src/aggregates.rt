@@ -5,18 +5,18 @@ use crate::Row;
 use values::Got;
 use values::Value;
 ghost use mathlib.Core.Path.{_≡_};
-ghost use Prim.Native.Nat.{ℕ, _≤_, _<_};
+ghost use Prim.Native.Nat.{_≤_, _<_};
 ghost use lib.Dec.{T};
 ghost use lib.IntN.{pos, _+ℤ_};
 ghost use mir.Syntax.{w64};
 ghost use mir.Val.{SFits};
-ghost use mathlib.Core.Bool.{Bool, cond};
+ghost use mathlib.Core.Bool.{cond};
 ghost use Rattle.values.specs.declared.Value.the-variants.{Int};
 ghost use Rattle.values.specs.declared.Got.the-variants.{One};
 ghost use Rattle.values.specs.Operands.{fitting};
 ghost use Rattle.values.specs.Values.{in32};
 ghost use Rattle.rows.specs.Aggregates.{intOf, intAt, column, total, smaller, larger, best, aggregated, columnFits};
-ghost use Rattle.rows.specs.View.{valuesOf, columnsOf, relationOf, Shaped};
+ghost use Rattle.rows.specs.View.{valuesOf, relationOf, Shaped};
 
 pub fn int_of(v: Value) -> i32
     ensures { λ r. ⌜ r ≡ intOf v ⌝ }

@@ -20,15 +20,13 @@ use values::Operand;
 use values::Slot;
 use values::compare::kind_in;
 ghost use mathlib.Core.Path.{_≡_};
-ghost use mathlib.Core.Bool.{_&&_, cond};
-ghost use mathlib.Core.List.{[], _∷_, _++_, map};
-ghost use Prim.Native.Nat.{ℕ, _+_, _≤_, _<_};
+ghost use mathlib.Core.List.{[], _∷_, _++_};
+ghost use Prim.Native.Nat.{_+_, _≤_, _<_};
 ghost use lib.ListN.{getD};
-ghost use Rattle.values.specs.Operands.{varsOf, valuesIn, bind};
-ghost use Rattle.rows.specs.Fit.{fits};
+ghost use Rattle.values.specs.Operands.{varsOf, bind};
 ghost use Rattle.rows.specs.Changes.{kindsOf, columnFor, selectedColumns, selection};
 ghost use Rattle.rows.specs.View.{noField, valuesOf, columnsOf, relationOf, operandsOf, selectorOf, Short, Shaped, Ready};
-ghost use Rattle.rows.specs.Plans.{sourceKind, termGot, termsIn, planHits};
+ghost use Rattle.rows.specs.Plans.{sourceKind};
 ghost use Rattle.rows.specs.Contracts.{Holds, SplitIs, RenewedIs, UpdatedIs, Complete};
 
 // ---- more rows

@@ -1,5 +1,4 @@
 // Selectors prepared for one relation, and the rows that they select.
-use crate::Cell;
 use crate::Operands;
 use crate::Plan;
 use crate::Row;
@@ -19,7 +18,7 @@ use values::eval::eval_in;
 use values::eval::held_in;
 use values::eval::plus;
 ghost use mathlib.Core.Path.{_≡_};
-ghost use Prim.Native.Nat.{ℕ, _≤_, _<_};
+ghost use Prim.Native.Nat.{_<_};
 ghost use lib.ListN.{length};
 ghost use Rattle.values.specs.Operands.{varsOf, formalOf};
 ghost use Rattle.rows.specs.Matching.{isSame, agrees, hits, matches};

@@ -11,10 +11,11 @@ use lib.Seq.{getD-set-same}
 use Rattle.values.specs.declared.Operand.{Operand}
 use Rattle.values.specs.Lists.{all, among, present}
 use Rattle.values.specs.Operands.{formalOf, formals, bindTo, bind}
+use Rattle.values.proofs.Arrays.{map-set}
 use Rattle.values.proofs.Bools.{and-l, and-r, and-in, T-of}
 
 module _ {A : Type 0} where
-  length-to : (f : Option ℕ) (a : A) (e : List A) → length (bindTo f a e) ≡ length e
+  pub length-to : (f : Option ℕ) (a : A) (e : List A) → length (bindTo f a e) ≡ length e
   length-to none a e = refl
   length-to (some j) a e = length-set e j a
 
@@ -97,14 +98,9 @@ module _ {A : Type 0} (p : A → Bool) (d : A) (i : ℕ) where
 
 -- what is bound, and what it is bound to, mapped
 module _ {A B : Type 0} (f : A → B) where
-  map-set : (l : List A) (i : ℕ) (a : A) → map f (set l i a) ≡ set (map f l) i (f a)
-  map-set [] i a = refl
-  map-set (b ∷ l) zero a = refl
-  map-set (b ∷ l) (suc i) a = ap (f b ∷_) (map-set l i a)
-
   map-to : (o : Option ℕ) (a : A) (e : List A) → map f (bindTo o a e) ≡ bindTo o (f a) (map f e)
   map-to none a e = refl
-  map-to (some i) a e = map-set e i a
+  map-to (some i) a e = map-set f e i a
 
   pub map-bind : (t : List Operand) (r e : List A) → map f (bind t r e) ≡ bind t (map f r) (map f e)
   unfolding bind

@@ -1,10 +1,10 @@
 -- The part of an array that is in use, seen as a list (`firsts`): its length, its places, stores behind it and in it, and a function of its elements.
 use Prim.Native.Nat.{ℕ, zero, suc, _+_, _<_, _≤_}
-use mathlib.Core.Path.{_≡_, refl, ap, ap₂, sym, _∙_}
+use mathlib.Core.Path.{_≡_, refl, ap, ap₂}
 use mathlib.Core.List.{List, [], _∷_, _++_, map}
 use native.Mathlib.Omega.{arith}
 use native.Mathlib.Numerals.{add-one}
-use lib.ListN.{length, take, drop, getD, set}
+use lib.ListN.{length, drop, getD, set}
 use Rattle.values.specs.Lists.{firsts}
 
 module _ {A B : Type 0} (f : A → B) (z : A) where
