@@ -1,0 +1,36 @@
+//! An engine for Klaim-DB nets: loads a net, takes the scheduler's picks, writes the tables back.
+#![forbid(unsafe_code)]
+
+pub mod accounts;
+mod acts;
+mod aggregate;
+mod list;
+mod load;
+mod loops;
+mod net;
+pub mod number;
+mod operand;
+mod print;
+pub mod quirk;
+mod record;
+mod relation;
+mod sound;
+mod step;
+mod term;
+mod value;
+mod write;
+
+pub use list::List;
+pub use load::{load, Fault};
+pub use net::{
+    Act, Address, Aliases, Entry, Filter, Function, Loop, Net, Node, Pick, Places, Predicate,
+    Table, Test, Thread, Variables,
+};
+pub use operand::{Operand, Operands};
+pub use print::netrun;
+pub use record::SIZE as RECORD_SIZE;
+pub use relation::{Columns, Relation, Row};
+pub use sound::sound;
+pub use step::{run, step, step_sound, Answer, Done};
+pub use value::{Kind, Locality, Site, Text, Value};
+pub use write::write;

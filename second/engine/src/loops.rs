@@ -1,0 +1,79 @@
+//! Rounds of sequential and parallel loops.
+
+use crate::net::{Entry, Loop, Places, Thread, Variables, THREADS};
+use crate::number;
+use crate::operand::Operand;
+use crate::quirk::{wrong, Quirk};
+use crate::relation::Row;
+use crate::term::Pattern;
+use crate::value::Value;
+
+/// Opens a round for the row place, or says that the loop is over: no row to visit matches.
+pub fn open_round(
+    threads: &mut Vec<Thread>,
+    place: usize,
+    looping: &Loop,
+    row: u8,
+) -> Result<bool, u8> {
+    let count = threads.len();
+    let thread = &mut threads[place];
+    let source = thread.table_variable(looping.read)?;
+    let pattern = Pattern::new(&looping.template, &thread.variables)?;
+    pattern.suits(&source.columns)?;
+    let (node, left) = match thread.stack[thread.stack.len() - 1] {
+        Entry::Run(node) => (node, Places::below(source.rows.len())),
+        Entry::Loop { node, left } => (node, left),
+    };
+    let full = if looping.parallel { count >= THREADS } else { thread.stack.is_full() };
+    let ready = |place: u8| left.has(place) && pattern.matches(&source.rows[usize::from(place)]);
+    let row = named_place(left, row);
+    if !ready(row) {
+        return match left.iter().any(ready) {
+            true if full && wrong(Quirk::LimitFirst) => Err(number::LIMIT),
+            true => Err(number::NOT_READY),
+            false => Ok(false),
+        };
+    }
+    if full {
+        return Err(number::LIMIT);
+    }
+    let bindings = source.rows[usize::from(row)];
+    let last = thread.stack.len() - 1;
+    thread.stack[last] = Entry::Loop { node, left: left.without(row) };
+    if looping.parallel {
+        let fork = fork(thread, looping, &bindings);
+        threads.push(fork);
+    } else {
+        bind(&mut thread.variables, &looping.template, &bindings);
+        thread.stack.push(Entry::Run(looping.body));
+    }
+    Ok(true)
+}
+
+/// A new thread at the same site, with the bindings, all variables and the body alone.
+fn fork(thread: &mut Thread, looping: &Loop, bindings: &Row) -> Thread {
+    if wrong(Quirk::ForkBindsParent) {
+        bind(&mut thread.variables, &looping.template, bindings);
+    }
+    let mut fork = thread.clone();
+    fork.stack.clear();
+    fork.stack.push(Entry::Run(looping.body));
+    bind(&mut fork.variables, &looping.template, bindings);
+    fork
+}
+
+fn bind(variables: &mut Variables, template: &[Operand], row: &[Value]) {
+    for (operand, value) in template.iter().zip(row) {
+        if let Operand::Formal(v) = operand {
+            variables[usize::from(*v)] = Some(*value);
+        }
+    }
+}
+
+/// The place that a pick names: the row's own, not its place among those left.
+fn named_place(left: Places, row: u8) -> u8 {
+    if wrong(Quirk::PlaceAmongLeft) {
+        return left.iter().nth(usize::from(row)).unwrap_or(u8::MAX);
+    }
+    row
+}

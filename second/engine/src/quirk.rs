@@ -1,0 +1,103 @@
+//! Twenty wrong engines, to show that the generated files tell them apart.
+//! Without the feature `quirks` nothing of them is left in the program.
+
+/// One way of reading the rules wrongly.
+#[derive(Clone, Copy, PartialEq, Eq, Debug)]
+pub enum Quirk {
+    /// Texts match only when their bytes are equal.
+    ExactText,
+    /// Texts are ordered with A..Z read as a..z.
+    LowerText,
+    /// Values of unlike kinds are unequal for the predicate.
+    UnlikeUnequal,
+    /// A sum outside 32 bits wraps.
+    WrappingSum,
+    /// A formal matches only what its variable held.
+    OldBindings,
+    /// An unbound variable in the predicate or t just has no value.
+    UnboundNoValue,
+    /// Selections are sets.
+    SelectSet,
+    /// Constants of t have no column.
+    SelectDropsConstants,
+    /// An update meets a rewritten row again.
+    UpdateAgain,
+    /// An update whose t doesn't fit is refused.
+    UpdateRefuses,
+    /// A partial sum outside 32 bits is refused.
+    PartialSum,
+    /// A loop entry with no row left holds nothing.
+    HeldWhileRows,
+    /// The row place counts the rows left to visit.
+    PlaceAmongLeft,
+    /// The limits of loops are judged before the row place.
+    LimitFirst,
+    /// A parallel loop binds in its own thread too.
+    ForkBindsParent,
+    /// The last thread takes the place of a removed one.
+    SwapRemove,
+    /// Names of tables are compared like texts.
+    FoldedNames,
+    /// Bytes 12 to 15 of a node are not looked at.
+    LooseGap,
+    /// A next that goes back is found before faults of later records.
+    EagerNext,
+    /// The seventeenth row is found before a row that doesn't fit.
+    RowLimitFirst,
+}
+
+#[cfg(not(feature = "quirks"))]
+#[inline(always)]
+pub(crate) const fn wrong(_: Quirk) -> bool {
+    false
+}
+
+#[cfg(feature = "quirks")]
+mod switch {
+    use super::Quirk;
+    use std::cell::Cell;
+
+    thread_local! {
+        static CURRENT: Cell<Option<Quirk>> = const { Cell::new(None) };
+    }
+
+    pub(crate) fn wrong(quirk: Quirk) -> bool {
+        CURRENT.get() == Some(quirk)
+    }
+
+    impl Quirk {
+        pub const ALL: [Quirk; 20] = [
+            Quirk::ExactText,
+            Quirk::LowerText,
+            Quirk::UnlikeUnequal,
+            Quirk::WrappingSum,
+            Quirk::OldBindings,
+            Quirk::UnboundNoValue,
+            Quirk::SelectSet,
+            Quirk::SelectDropsConstants,
+            Quirk::UpdateAgain,
+            Quirk::UpdateRefuses,
+            Quirk::PartialSum,
+            Quirk::HeldWhileRows,
+            Quirk::PlaceAmongLeft,
+            Quirk::LimitFirst,
+            Quirk::ForkBindsParent,
+            Quirk::SwapRemove,
+            Quirk::FoldedNames,
+            Quirk::LooseGap,
+            Quirk::EagerNext,
+            Quirk::RowLimitFirst,
+        ];
+
+        /// Runs `work` with the engine of this thread gone wrong.
+        pub fn during<T>(self, work: impl FnOnce() -> T) -> T {
+            CURRENT.set(Some(self));
+            let result = work();
+            CURRENT.set(None);
+            result
+        }
+    }
+}
+
+#[cfg(feature = "quirks")]
+pub(crate) use switch::wrong;

@@ -1,0 +1,19 @@
+//! The engine against the texts computed by hand.
+
+use generate::examples::all;
+
+#[test]
+fn prints_the_texts_computed_by_hand() {
+    for example in all() {
+        let text = String::from_utf8_lossy(&engine::netrun(&example.file)).into_owned();
+        assert_eq!(text, example.text, "example {}", example.name);
+    }
+}
+
+#[test]
+fn keeps_the_accounts() {
+    for example in all() {
+        let picks = engine::load(&example.file).map(|(_, picks)| picks).unwrap_or_default();
+        assert_eq!(engine::accounts::check(&example.file, &picks), Ok(()), "{}", example.name);
+    }
+}

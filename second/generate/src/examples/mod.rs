@@ -1,0 +1,43 @@
+//! Files with the text that netrun must print for them, computed by hand.
+
+mod document;
+mod loading;
+mod loops;
+mod steps;
+
+use crate::record::{file, pick, row, start, table, Name, Operand, Record};
+
+pub struct Example {
+    pub name: &'static str,
+    pub file: Vec<u8>,
+    pub text: String,
+}
+
+pub fn all() -> Vec<Example> {
+    [document::all(), loading::all(), steps::all(), loops::all()].into_iter().flatten().collect()
+}
+
+fn example(name: &'static str, records: &[Record], lines: &[&str]) -> Example {
+    example_of_bytes(name, file(records), lines)
+}
+
+fn example_of_bytes(name: &'static str, file: Vec<u8>, lines: &[&str]) -> Example {
+    let text = lines.iter().flat_map(|line| [line, "\n"]).collect();
+    Example { name, file, text }
+}
+
+/// A table at a site with its rows.
+fn filled(site: u8, name: &Name, columns: &[u8], rows: &[&[Operand]]) -> Vec<Record> {
+    let rows = rows.iter().map(|values| row(site, name, values));
+    std::iter::once(table(site, name, columns)).chain(rows).collect()
+}
+
+/// Nodes that a thread at site 0 runs from node 0, picked with these row places.
+fn run(nodes: &[Record], rows: &[u8]) -> Vec<Record> {
+    let picks = rows.iter().map(|place| pick(0, *place));
+    nodes.iter().copied().chain([start(0, 0)]).chain(picks).collect()
+}
+
+fn joined(parts: &[&[Record]]) -> Vec<Record> {
+    parts.concat()
+}

@@ -1,0 +1,97 @@
+//! Writes generated files, or says how often each number and each kind done occurs in them.
+
+use generate::stats::Stats;
+use generate::{examples, file, Class};
+use std::io::{self, Write};
+use std::process::ExitCode;
+use std::{env, fs, path::Path};
+
+const HELP: &str = "\
+usage: generate [--class CLASS] --seed SEED
+       generate [--class CLASS] [--from SEED] [--count N] --stats
+       generate --examples DIR
+
+  --seed SEED      write the file of a seed on standard output
+  --stats          count the numbers and kinds done in the files of a row of seeds, and
+                   hold the engine to demand 3 on each accepted one
+  --examples DIR   write the examples computed by hand as NAME.net and NAME.out
+  --class CLASS    valid, damaged, sweep or mixed (the default)
+  --from SEED      the first seed (0)
+  --count N        how many seeds (10000)
+";
+
+struct Options {
+    class: Class,
+    seed: Option<u64>,
+    from: u64,
+    count: u64,
+    stats: bool,
+    examples: Option<String>,
+}
+
+fn main() -> ExitCode {
+    if env::args().skip(1).any(|argument| argument == "--help") {
+        print!("{HELP}");
+        return ExitCode::SUCCESS;
+    }
+    let Some(options) = options(env::args().skip(1)) else {
+        eprint!("{HELP}");
+        return ExitCode::from(2);
+    };
+    match run(&options) {
+        Ok(true) => ExitCode::SUCCESS,
+        Ok(false) => ExitCode::FAILURE,
+        Err(error) => {
+            eprintln!("generate: {error}");
+            ExitCode::from(2)
+        }
+    }
+}
+
+/// None where the arguments make no sense.
+fn options(mut arguments: impl Iterator<Item = String>) -> Option<Options> {
+    let mut options = Options {
+        class: Class::Mixed,
+        seed: None,
+        from: 0,
+        count: 10_000,
+        stats: false,
+        examples: None,
+    };
+    while let Some(argument) = arguments.next() {
+        match argument.as_str() {
+            "--class" => options.class = Class::named(&arguments.next()?)?,
+            "--seed" => options.seed = Some(arguments.next()?.parse().ok()?),
+            "--from" => options.from = arguments.next()?.parse().ok()?,
+            "--count" => options.count = arguments.next()?.parse().ok()?,
+            "--examples" => options.examples = Some(arguments.next()?),
+            "--stats" => options.stats = true,
+            _ => return None,
+        }
+    }
+    (options.stats || options.seed.is_some() || options.examples.is_some()).then_some(options)
+}
+
+/// Whether all was well.
+fn run(options: &Options) -> io::Result<bool> {
+    if let Some(seed) = options.seed {
+        io::stdout().lock().write_all(&file(options.class, seed))?;
+    }
+    if let Some(directory) = &options.examples {
+        write_examples(Path::new(directory))?;
+    }
+    if options.stats {
+        let stats = Stats::of(options.class, options.from..options.from + options.count);
+        print!("{stats}");
+        return Ok(stats.balanced());
+    }
+    Ok(true)
+}
+
+fn write_examples(directory: &Path) -> io::Result<()> {
+    for example in examples::all() {
+        fs::write(directory.join(example.name).with_extension("net"), &example.file)?;
+        fs::write(directory.join(example.name).with_extension("out"), &example.text)?;
+    }
+    Ok(())
+}
