@@ -20,7 +20,8 @@ use Rattle.rows.specs.Relations.{Row, Columns}
 use Rattle.rows.specs.Matching.{hits, unselected}
 use Rattle.rows.specs.Changes.{renewed, updated}
 use Rattle.rows.proofs.RangeLaws.{tuple-ok, updated-ok}
-use Rattle.nets.specs.Nets.{Alias, Table, Kind, acting, other, insert, insertTable, delete, update, create, drop, Node}
+use Rattle.nets.specs.declared.Alias.{Alias}
+use Rattle.nets.specs.Nets.{Table, Kind, acting, other, insert, insertTable, delete, update, create, drop, Node}
 use Rattle.nets.specs.Tables.{columnsOf, withRows}
 use Rattle.nets.specs.Sound.{columnsOk, tableOk, variableOk, aliasOk, operandsOk, fieldsOkAs, nodeOkAs}
 use Rattle.nets.specs.Steps.{Scene, vars, aliasFor, meant, siteOfGot, siteOfL, site, table, source, ownDraft, tablesBy}

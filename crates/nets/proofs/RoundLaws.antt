@@ -27,7 +27,7 @@ places-below : (j n m : ℕ) → j + n ≤ m → T (all (λ i. ltb i m) (places 
 places-below j zero m h = tt
 places-below j (suc n) m h = and-in (ltb j m) (all (λ i. ltb i m) (places (suc j) n)) (lt→ltb j m (omega arith)) (places-below (suc j) n m (omega arith))
 
-visits-ok : (ds : List Node) (rs : List (Option Relation)) (x : Entry) (d : Node) (r : Relation) → getD ds (entryNode x) noNode ≡ d → getD rs (d .read) none ≡ some r → T (entryOk ds rs x) → T (all (λ i. ltb i (length (r .rows))) (stillToVisit x (length (r .rows))))
+pub visits-ok : (ds : List Node) (rs : List (Option Relation)) (x : Entry) (d : Node) (r : Relation) → getD ds (entryNode x) noNode ≡ d → getD rs (d .read) none ≡ some r → T (entryOk ds rs x) → T (all (λ i. ltb i (length (r .rows))) (stillToVisit x (length (r .rows))))
 visits-ok ds rs (toRun i) d r e q h = places-below 0 (length (r .rows)) (length (r .rows)) (omega arith)
 visits-ok ds rs (visiting i v) d r e q h =
     subst (λ (o : Option Relation). T (hasPlaces v o)) (ap (λ (n : Node). getD rs (n .read) none) e ∙ q) (search (and-l, and-r))
@@ -38,14 +38,14 @@ or-r : (a b : Bool) → T b → T (a || b)
 or-r true b h = tt
 or-r false b h = h
 
-loop-reads : (k : Kind) → T (isLoop k) → T (readsRelation k)
+pub loop-reads : (k : Kind) → T (isLoop k) → T (readsRelation k)
 loop-reads k h = or-r (eqb (code k) 17) (among (code k) (20 ∷ 25 ∷ 26 ∷ [])) (or-r (eqb (code k) 20) (isLoop k) h)
 
-given : (a b : Bool) → T a → T (not a || b) → T b
+pub given : (a b : Bool) → T a → T (not a || b) → T b
 given true b h k = k
 given false b h k = absurd h
 
-is-some : {A : Type 0} (o : Option A) → T (isSome o) → (a : A) × (o ≡ some a)
+pub is-some : {A : Type 0} (o : Option A) → T (isSome o) → (a : A) × (o ≡ some a)
 is-some none h = absurd h
 is-some (some a) h = (a, refl)
 

@@ -55,13 +55,13 @@ pub entry-node : (ds : List Node) (rs : List (Option Relation)) (x : Entry) → 
 entry-node ds rs (toRun i) h = ltb→lt i (length ds) h
 entry-node ds rs (visiting i v) h = ltb→lt i (length ds) (search (and-l, and-r))
 
-record StackFacts (ds : List Node) (rs : List (Option Relation)) (s : List Entry) : Type 0 where
-  sDepth : suc (length (below s)) ≤ 8
-  sLength : length s ≡ suc (length (below s))
-  sEntries : T (all (entryOk ds rs) (below s))
-  sTop : T (entryOk ds rs (top s))
+pub record StackFacts (ds : List Node) (rs : List (Option Relation)) (s : List Entry) : Type 0 where
+  pub sDepth : suc (length (below s)) ≤ 8
+  pub sLength : length s ≡ suc (length (below s))
+  pub sEntries : T (all (entryOk ds rs) (below s))
+  pub sTop : T (entryOk ds rs (top s))
 
-stack-facts : (ds : List Node) (rs : List (Option Relation)) (s : List Entry) → T (stackOk ds rs s) → StackFacts ds rs s
+pub stack-facts : (ds : List Node) (rs : List (Option Relation)) (s : List Entry) → T (stackOk ds rs s) → StackFacts ds rs s
 stack-facts ds rs [] h = absurd h
 stack-facts ds rs (x ∷ s) h =
     record {
@@ -82,7 +82,7 @@ below-free p false (x ∷ s) h = go (p x) h
 
 -- ── the node ──
 
-node-at : (n j : ℕ) (ds : List Node) (i : ℕ) → i < length ds → T (nodesOk n j ds) → (m : ℕ) × T (nodeOkAs (getD ds i noNode .kind) n m (getD ds i noNode))
+pub node-at : (n j : ℕ) (ds : List Node) (i : ℕ) → i < length ds → T (nodesOk n j ds) → (m : ℕ) × T (nodeOkAs (getD ds i noNode .kind) n m (getD ds i noNode))
 node-at n j [] i l h = absurd (omega arith)
 node-at n j (d ∷ ds) zero l h = (j, and-l (nodeOkAs (d .kind) n j d) (nodesOk n (suc j) ds) h)
 node-at n j (d ∷ ds) (suc i) l h = node-at n (suc j) ds i (omega arith) (and-r (nodeOkAs (d .kind) n j d) (nodesOk n (suc j) ds) h)

@@ -5,3 +5,7 @@ pub mod Steps
 pub mod Accounts
 pub mod Demand3
 pub mod Examples
+pub mod View
+pub mod Answers
+pub mod Effects
+pub mod Contracts

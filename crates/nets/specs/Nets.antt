@@ -1,22 +1,16 @@
--- Nets as lists: what the rules read. Names, node numbers and places are numbers; sites and localities are types of their own.
+-- Nets as lists: what the rules read. Names, node numbers and places are numbers; sites and localities are types of their own. `Alias` is the code's own type.
 use Prim.Native.Nat.{ℕ}
 use mathlib.Core.Bool.{Bool, true, false}
 use mathlib.Core.List.{List, [], _∷_}
 use mathlib.Core.Option.{Option}
 use lib.Dec.{eqb}
 use Rattle.values.specs.declared.Site.{Site}
-use Rattle.values.specs.declared.Locality.{Locality}
 use Rattle.values.specs.declared.Operand.{Operand}
 use Rattle.values.specs.Lists.{among}
 use Rattle.values.specs.Operands.{Vars}
 use Rattle.rows.specs.declared.Function.{Function}
 use Rattle.rows.specs.Relations.{Columns, Relation, Selector}
-
--- at a site, a locality means a site
-pub record Alias : Type 0 where
-  pub site : Site
-  pub locality : Locality
-  pub means : Site
+use Rattle.nets.specs.declared.Alias.{Alias}
 
 pub record Table : Type 0 where
   pub site : Site

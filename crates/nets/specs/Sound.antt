@@ -18,7 +18,8 @@ use Rattle.rows.specs.declared.Function.{Function}
 use Rattle.rows.specs.declared.Function.the-variants.{Unused, Count, Sum, Least, Largest}
 use Rattle.rows.specs.Relations.{Row, Columns, Relation}
 use Rattle.rows.specs.Fit.{relationFits}
-use Rattle.nets.specs.Nets.{Alias, Table, Kind, other, badKind, code, hasPlace, isCreate, hasTemplate, hasTest, hasTuple, isSelect, readsRelation, bindsRelation, isAggregate, isLoop, Node, Entry, toRun, visiting, Bindings, Thread, Net}
+use Rattle.nets.specs.declared.Alias.{Alias}
+use Rattle.nets.specs.Nets.{Table, Kind, other, badKind, code, hasPlace, isCreate, hasTemplate, hasTest, hasTuple, isSelect, readsRelation, bindsRelation, isAggregate, isLoop, Node, Entry, toRun, visiting, Bindings, Thread, Net}
 use Rattle.nets.specs.Tables.{rowsFit, distinct}
 
 -- ── what stands where nothing is ──

@@ -20,7 +20,8 @@ use Rattle.rows.specs.Fit.{Draft, draft, fits, sameColumns}
 use Rattle.rows.specs.Changes.{changes, updated, selection}
 use Rattle.rows.specs.Aggregates.{aggregated, columnFits}
 use Rattle.nets.specs.declared.Pick.{Pick}
-use Rattle.nets.specs.Nets.{Alias, Table, Kind, acting, other, insert, insertTable, delete, update, create, drop, select, selectRelation, aggregate, sequential, parallel, badKind, hasPlace, needsTable, isCreate, hasTemplate, readsRelation, bindsRelation, isAggregate, isLoop, isParallel, Node, Entry, toRun, visiting, Bindings, Thread, Net, Outcome, refused, done}
+use Rattle.nets.specs.declared.Alias.{Alias}
+use Rattle.nets.specs.Nets.{Table, Kind, acting, other, insert, insertTable, delete, update, create, drop, select, selectRelation, aggregate, sequential, parallel, badKind, hasPlace, needsTable, isCreate, hasTemplate, readsRelation, bindsRelation, isAggregate, isLoop, isParallel, Node, Entry, toRun, visiting, Bindings, Thread, Net, Outcome, refused, done}
 use Rattle.nets.specs.Tables.{tableAt, contentOf, rowsOf, columnsOf, change, remove}
 use Rattle.nets.specs.Sound.{sound, noThread, noNode, entryNode}
 

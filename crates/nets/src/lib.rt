@@ -1,7 +1,178 @@
-// Nets and picks.
+// Nets: aliases, tables, nodes and threads, by value; picks and answers.
+use rows::Function;
+use rows::Operands;
+use rows::Relation;
+use rows::Selector;
+use values::Locality;
+use values::Operand;
+use values::Site;
+use values::Slot;
+
+pub mod kinds;
+pub mod lists;
+pub mod loops;
+pub mod places;
+pub mod reading;
+pub mod threads;
+
+// At a site, a locality means a site.
+pub struct Alias {
+    pub site: Site,
+    pub locality: Locality,
+    pub means: Site,
+}
+
+pub struct Table {
+    pub site: Site,
+    pub name: u32,
+    pub content: Relation,
+}
+
+// A node of kind 16..26. A field that its kind does not use is zero or absent.
+pub struct Node {
+    pub kind: u8,
+    pub next: u8,
+    pub body: u8,
+    pub name: u32,
+    pub bound: u8,
+    pub read: u8,
+    pub function: Function,
+    pub column: u8,
+    pub columns: usize,
+    pub kinds: [u8; 4],
+    pub place: Operand,
+    pub selector: Selector,
+    pub tuple: Operands,
+    pub result: Operand,
+}
+
+// A node to run, or a loop node; its frame has the rows still to visit.
+pub enum Entry {
+    Run(u8),
+    Loop(u8),
+}
+
+pub struct Frame {
+    pub entry: Entry,
+    pub visit: [bool; 16],
+}
+
+pub struct TableVariable {
+    pub bound: bool,
+    pub content: Relation,
+}
+
+// The stack's top is its last frame in use.
+pub struct Thread {
+    pub site: Site,
+    pub vars: [Slot; 16],
+    pub relations: [TableVariable; 2],
+    pub stack: [Frame; 8],
+    pub depth: usize,
+}
+
+pub struct Net {
+    pub aliases: [Alias; 56],
+    pub aliascount: usize,
+    pub tables: [Table; 8],
+    pub tablecount: usize,
+    pub nodes: [Node; 128],
+    pub nodecount: usize,
+    pub threads: [Thread; 8],
+    pub threadcount: usize,
+}
 
 // A pick names a thread place and a row place.
 pub struct Pick {
     pub thread: u8,
     pub row: u8,
+}
+
+// The refusals of a pick, numbers 10 to 20 in this order.
+pub enum Refusal {
+    Unsound,
+    NoThread,
+    Unbound,
+    NoPlace,
+    NoTable,
+    TableThere,
+    Misfit,
+    Held,
+    NoResult,
+    NotReady,
+    Full,
+}
+
+// Done with rows added and rows taken, or refused.
+pub enum Answer {
+    Done(usize, usize),
+    Refused(Refusal),
+}
+
+pub struct Stepped {
+    pub answer: Answer,
+    pub net: Net,
+}
+
+// What a site's locality means.
+pub enum Located {
+    Nowhere,
+    At(Site),
+}
+
+// What a pick meets, in small parts: the thread with its top frame, the node, where L leads, the content of the table there, whether a loop entry
+// holds the table variable to be bound, and the numbers of tables and threads.
+pub struct Situation {
+    pub thread: Thread,
+    pub frame: Frame,
+    pub node: Node,
+    pub located: Located,
+    pub found: bool,
+    pub content: Relation,
+    pub held: bool,
+    pub tables: usize,
+    pub threads: usize,
+    pub row: u8,
+}
+
+// What a pick changes: the content of the table, the thread, which is gone where its stack is empty, and the new thread of a parallel round.
+pub struct Change {
+    pub answer: Answer,
+    pub content: Relation,
+    pub thread: Thread,
+    pub forks: bool,
+    pub fork: Thread,
+}
+
+// A list of tables, and of threads.
+pub struct TableList {
+    pub tables: [Table; 8],
+    pub count: usize,
+}
+
+pub struct ThreadList {
+    pub threads: [Thread; 8],
+    pub count: usize,
+}
+
+// What a step that is no loop comes to: the table's content, what a table variable is bound to, and the variables afterwards.
+pub struct Effect {
+    pub answer: Answer,
+    pub content: Relation,
+    pub bound: Relation,
+    pub vars: [Slot; 16],
+}
+
+// What a loop's pick comes to: over, a round opened, or refused.
+pub enum Turn {
+    Over,
+    Opened,
+    Stopped(Refusal),
+}
+
+// A round's visit set without the row picked, and the variables with T's formals bound to it.
+pub struct Round {
+    pub turn: Turn,
+    pub visit: [bool; 16],
+    pub vars: [Slot; 16],
 }

@@ -8,6 +8,8 @@ pub mod Ints
 pub mod ListLaws
 pub mod Loops
 pub mod Orders
+pub mod PlaceLaws
 pub mod RangeLaws
+pub mod RemoveLaws
 pub mod SameLaws
 pub mod Texts

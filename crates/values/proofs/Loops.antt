@@ -1,8 +1,8 @@
 -- Loops that test or fold: what is left decides. `t` is what the test of this element answered, `b` or `w` what the whole comes to.
 use mathlib.Core.Path.{_≡_, sym, ap, ap₂, _∙_}
-use mathlib.Core.Bool.{Bool, true, false, _&&_}
+use mathlib.Core.Bool.{Bool, true, false, _&&_, _||_}
 use mathlib.Core.List.{List, [], _∷_, foldl}
-use Rattle.values.specs.Lists.{all, agree}
+use Rattle.values.specs.Lists.{all, any, agree}
 
 -- a test of every element
 module _ {A : Type 0} (p : A → Bool) (b : Bool) {xs : List A} (left : all p xs ≡ b) where
@@ -18,6 +18,21 @@ module _ {A : Type 0} (p : A → Bool) (b : Bool) {xs : List A} (left : all p xs
 
   pub all-ends : xs ≡ [] → true ≡ b
   all-ends e = sym (ap (all p) e) ∙ left
+
+-- a search for an element that passes
+module _ {A : Type 0} (p : A → Bool) (b : Bool) {xs : List A} (left : any p xs ≡ b) where
+  module _ {x : A} {xs′ : List A} {t : Bool} (e : xs ≡ x ∷ xs′) (q : t ≡ p x) where
+    here₁ : (t || any p xs′) ≡ b
+    here₁ = ap (λ (u : Bool). u || any p xs′) q ∙ sym (ap (any p) e) ∙ left
+
+    pub any-more : t ≡ false → any p xs′ ≡ b
+    any-more h = sym (ap (λ (u : Bool). u || any p xs′) h) ∙ here₁
+
+    pub any-found : t ≡ true → true ≡ b
+    any-found h = sym (ap (λ (u : Bool). u || any p xs′) h) ∙ here₁
+
+  pub any-ends : xs ≡ [] → false ≡ b
+  any-ends e = sym (ap (any p) e) ∙ left
 
 -- two lists that are to agree
 module _ {A B : Type 0} (p : A → B → Bool) (b : Bool) {xs : List A} {ys : List B} (left : agree p xs ys ≡ b) where

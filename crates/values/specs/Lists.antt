@@ -11,6 +11,11 @@ abbrev pub bit : Bool → ℕ
 bit true = 1
 bit false = 0
 
+-- 0 for a test that holds here, else one further on
+abbrev pub nextPlace : Bool → ℕ → ℕ
+nextPlace true n = 0
+nextPlace false n = suc n
+
 module _ {A : Type 0} where
   abbrev pub isSome : Option A → Bool
   isSome none = false
@@ -46,10 +51,21 @@ module _ {A : Type 0} where
   find p [] = none
   find p (a ∷ l) = first (p a) a (find p l)
 
+  -- the place of the first element that passes the test; the length where there is none
+  abbrev pub placeOf : (A → Bool) → List A → ℕ
+  placeOf p [] = 0
+  placeOf p (a ∷ l) = nextPlace (p a) (placeOf p l)
+
   -- how many elements pass the test
   abbrev pub count : (A → Bool) → List A → ℕ
   count p [] = 0
   count p (a ∷ l) = bit (p a) + count p l
+
+  -- the element at a place goes, and the list closes up
+  abbrev pub removeAt : ℕ → List A → List A
+  removeAt i [] = []
+  removeAt zero (a ∷ l) = l
+  removeAt (suc i) (a ∷ l) = a ∷ removeAt i l
 
   -- the elements that are there
   abbrev pub present : List (Option A) → List A

@@ -1,0 +1,55 @@
+-- What an answer of the code says, in the paper's numbers and counts, and the contract of a step.
+use Prim.Native.Nat.{ℕ}
+use mathlib.Core.Path.{_≡_}
+use mathlib.Core.Bool.{Bool, true, false}
+use mathlib.Core.List.{List, []}
+use lib.Dec.{T}
+use Rattle.nets.specs.declared.Pick.{Pick}
+use Rattle.nets.specs.declared.Refusal.{Refusal}
+use Rattle.nets.specs.declared.Refusal.the-variants.{Unsound, NoThread, Unbound, NoPlace, NoTable, TableThere, Misfit, Held, NoResult, NotReady, Full}
+use Rattle.nets.specs.declared.Answer.{Answer}
+use Rattle.nets.specs.declared.Answer.the-variants.{Done, Refused}
+use Rattle.nets.specs.declared.Net.{Net}
+use Rattle.nets.specs.declared.Stepped.{Stepped}
+use Rattle.nets.specs.Nets.{Outcome, refused, done}
+use Rattle.nets.specs.Steps.{step}
+use Rattle.nets.specs.Accounts.{netLeft}
+use Rattle.nets.specs.View.{view}
+
+-- refused with a number and its values; done with rows added and rows taken
+pub data Said : Type 0 where
+  refusing : ℕ → List ℕ → Said
+  doing : ℕ → ℕ → Said
+
+abbrev pub answerOf : Outcome → Said
+answerOf (refused n vs) = refusing n vs
+answerOf (done a t net) = doing a t
+
+-- the paper's number of each refusal
+abbrev pub numberOf : Refusal → ℕ
+numberOf Unsound = 10
+numberOf NoThread = 11
+numberOf Unbound = 12
+numberOf NoPlace = 13
+numberOf NoTable = 14
+numberOf TableThere = 15
+numberOf Misfit = 16
+numberOf Held = 17
+numberOf NoResult = 18
+numberOf NotReady = 19
+numberOf Full = 20
+
+-- no refusal of a pick has values beside its number
+abbrev pub saidOf : Answer → Said
+saidOf (Done a t) = doing a t
+saidOf (Refused r) = refusing (numberOf r) []
+
+abbrev pub isRefused : Answer → Bool
+isRefused (Done a t) = false
+isRefused (Refused r) = true
+
+-- the answer is the rule's; the net given back is the one that the rule leaves; and after a refusal it is the very struct that came in
+pub record StepIs (net : Net) (pick : Pick) (r : Stepped) : Type 0 where
+  pub answer : saidOf (r .answer) ≡ answerOf (step (view net) pick)
+  pub after : view (r .net) ≡ netLeft (view net) (step (view net) pick)
+  pub kept : T (isRefused (r .answer)) → r .net ≡ net

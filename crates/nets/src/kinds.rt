@@ -1,0 +1,104 @@
+// Classes of node kinds, by the kind byte.
+ghost use mathlib.Core.Path.{_≡_};
+ghost use mathlib.Core.Bool.{not};
+ghost use lib.Dec.{eqb};
+ghost use Rattle.nets.specs.Nets.{code, hasPlace, needsTable, hasTemplate, hasTest, hasTuple, isSelect, readsRelation, bindsRelation, isLoop};
+ghost use Rattle.nets.specs.View.{kindAt};
+
+// The step has an L and a name.
+pub fn has_place(kind: u8) -> bool
+    ensures { λ r. ⌜ r ≡ hasPlace (kindAt kind) ⌝ }
+{
+    match kind {
+        16 | 17 | 18 | 19 | 21 | 22 | 23 | 24 => true,
+        _ => false,
+    }
+}
+
+// The table must be there.
+pub fn needs_table(kind: u8) -> bool
+    ensures { λ r. ⌜ r ≡ needsTable (kindAt kind) ⌝ }
+{
+    match kind {
+        16 | 17 | 18 | 19 | 21 | 22 | 24 => true,
+        _ => false,
+    }
+}
+
+// The step has a T.
+pub fn has_template(kind: u8) -> bool
+    ensures { λ r. ⌜ r ≡ hasTemplate (kindAt kind) ⌝ }
+{
+    match kind {
+        18 | 19 | 20 | 21 | 22 | 25 | 26 => true,
+        _ => false,
+    }
+}
+
+// The step has a predicate.
+pub fn has_test(kind: u8) -> bool
+    ensures { λ r. ⌜ r ≡ hasTest (kindAt kind) ⌝ }
+{
+    match kind {
+        18 | 19 | 20 | 21 | 22 => true,
+        _ => false,
+    }
+}
+
+// The step has a t with tags 1..5.
+pub fn has_tuple(kind: u8) -> bool
+    ensures { λ r. ⌜ r ≡ hasTuple (kindAt kind) ⌝ }
+{
+    match kind {
+        16 | 21 => true,
+        _ => false,
+    }
+}
+
+pub fn is_select(kind: u8) -> bool
+    ensures { λ r. ⌜ r ≡ isSelect (kindAt kind) ⌝ }
+{
+    match kind {
+        19 | 20 => true,
+        _ => false,
+    }
+}
+
+// The step reads a table variable.
+pub fn reads_relation(kind: u8) -> bool
+    ensures { λ r. ⌜ r ≡ readsRelation (kindAt kind) ⌝ }
+{
+    match kind {
+        17 | 20 | 25 | 26 => true,
+        _ => false,
+    }
+}
+
+// The step binds a table variable.
+pub fn binds_relation(kind: u8) -> bool
+    ensures { λ r. ⌜ r ≡ bindsRelation (kindAt kind) ⌝ }
+{
+    match kind {
+        18 | 19 | 20 => true,
+        _ => false,
+    }
+}
+
+pub fn is_loop(kind: u8) -> bool
+    ensures { λ r. ⌜ r ≡ isLoop (kindAt kind) ⌝ }
+{
+    match kind {
+        25 | 26 => true,
+        _ => false,
+    }
+}
+
+// One of the eleven.
+pub fn is_known(kind: u8) -> bool
+    ensures { λ r. ⌜ r ≡ not (eqb (code (kindAt kind)) 0) ⌝ }
+{
+    match kind {
+        16..=26 => true,
+        _ => false,
+    }
+}
