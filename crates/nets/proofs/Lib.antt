@@ -3,6 +3,7 @@ pub mod AnswerLaws
 pub mod BindingLaws
 pub mod CompleteLaws
 pub mod EffectTies
+pub mod FlagLaws
 pub mod KeepSound
 pub mod KeepTables
 pub mod KeyLaws

@@ -4,46 +4,14 @@ use mathlib.Core.Path.{_≡_, refl, sym, ap, _∙_}
 use mathlib.Core.Bool.{Bool, true, false, not, _&&_, _||_}
 use mathlib.Core.List.{List, [], _∷_}
 use native.Mathlib.Omega.{arith}
-use borrow.Author.Tests.{eq-eqb, ne-eqb, lt-ltb, le-ltb, ltb-true, ltb-false}
+use borrow.Author.Tests.{eq-eqb, ne-eqb, lt-ltb}
 use lib.Dec.{T, eqb, ltb, leb·suc-zero, leb·suc-suc}
-use lib.ListN.{length, set, replicate, length-replicate, length-set}
-use lib.Seq.{getD-set-same, getD-set-other}
+use lib.ListN.{length, set}
 use Rattle.values.specs.Lists.{all, any, among, filter, places}
 use Rattle.values.proofs.Bools.{and-l, and-r, is-true}
 use Rattle.nets.specs.View.{marked}
 use Rattle.nets.specs.Contracts.{flagAt}
-
--- ── flags set by a loop ──
-
--- of `n` flags those below `i` are as `p` says, and the others are unset
-pub record Flagged (p : ℕ → Bool) (n i : ℕ) (l : List Bool) : Type 0 where
-  pub size : length l ≡ n
-  pub flags : (k : ℕ) → flagAt l k ≡ (ltb k i && p k)
-
-unset : (n k : ℕ) → flagAt (replicate n false) k ≡ false
-unset zero k = refl
-unset (suc n) zero = refl
-unset (suc n) (suc k) = unset n k
-
-module _ (p : ℕ → Bool) (n : ℕ) where
-  pub flagged-starts : Flagged p n 0 (replicate n false)
-  flagged-starts =
-      record { size = length-replicate n false; flags = λ k. unset n k ∙ sym (ap (_&& p k) (le-ltb k 0 (omega arith))) }
-
-  pub flagged-more : {i : ℕ} {l : List Bool} {b : Bool} → Flagged p n i l → i < n → b ≡ p i → Flagged p n (i + 1) (set l i b)
-  flagged-more {i} {l} {b} inv h q =
-      record { size = length-set l i b ∙ inv .size; flags = λ k. here k (ltb k i) refl (ltb i k) refl }
-    where
-      here : (k : ℕ) (s : Bool) → ltb k i ≡ s → (t : Bool) → ltb i k ≡ t → flagAt (set l i b) k ≡ (ltb k (i + 1) && p k)
-      here k true e t e′ =
-          let d = ltb-true k i e in
-          getD-set-other l i k b false (λ x. omega arith) ∙ inv .flags k ∙ ap (_&& p k) (e ∙ sym (lt-ltb k (i + 1) (omega arith)))
-      here k false e true e′ =
-          let d = ltb-true i k e′ in
-          getD-set-other l i k b false (λ x. omega arith) ∙ inv .flags k ∙ ap (_&& p k) (e ∙ sym (le-ltb k (i + 1) (omega arith)))
-      here k false e false e′ =
-          let d : k ≡ i = omega (arith, ltb-false k i e, ltb-false i k e′) in
-          rw (d, getD-set-same l i b false (omega (arith, inv .size)), lt-ltb i (i + 1) (omega arith)) q
+use Rattle.nets.proofs.FlagLaws.{Flagged}
 
 -- ── what is marked ──
 

@@ -1,14 +1,10 @@
--- What a node reads is bound: flags of variables, formals of a template, and operands. Assumes nothing.
-use Prim.Native.Nat.{ℕ, _+_, _≤_, _<_}
-use mathlib.Core.Path.{_≡_, refl, ap, sym, _∙_, subst}
+-- What a node reads is bound: formals of a template, and operands. Assumes nothing.
+use Prim.Native.Nat.{ℕ}
+use mathlib.Core.Path.{_≡_, refl, ap, sym, _∙_}
 use mathlib.Core.Bool.{Bool, true, false, not, _&&_, _||_}
 use mathlib.Core.List.{List, [], _∷_, map}
 use mathlib.Core.Option.{Option, none, some}
-use native.Mathlib.Omega.{arith}
-use lib.Dec.{eqb, ltb}
-use lib.ListN.{length, getD, set, List·getD-map, List·getD-eq-default}
-use lib.Seq.{getD-set-same, getD-set-other}
-use borrow.Author.Tests.{eqb-true, eqb-false, ltb-true, ltb-false}
+use lib.Dec.{eqb}
 use Rattle.values.specs.declared.Operand.{Operand}
 use Rattle.values.specs.Lists.{all, any, among, present}
 use Rattle.values.specs.Operands.{formalOf, formals, reads}
@@ -16,35 +12,6 @@ use Rattle.values.proofs.PlaceLaws.{all-same}
 use Rattle.rows.specs.Plans.{isFormalOf}
 use Rattle.nets.specs.Nets.{Node, readsRelation}
 use Rattle.nets.specs.Steps.{known, readsOk}
-use Rattle.nets.specs.Contracts.{flagAt}
-
--- ── flags ──
-
--- past its end no flag is set
-pub flag-past : (l : List Bool) {n : ℕ} (i : ℕ) → length l ≡ n → n ≤ i → false ≡ flagAt l i
-flag-past l i e h = sym (List·getD-eq-default l false (subst (λ (k : ℕ). k ≤ i) (sym e) h))
-
--- flags of an array's elements by `q` of `h` of each; `q` fails past the end
-module _ {A B : Type 0} (q : B → Bool) (h : A → B) (z : A) (vs : List A) where
-  -- those below `n` are set right
-  abbrev pub Flagged : List Bool → ℕ → Type 0
-  Flagged fs n = (k : ℕ) → k < n → flagAt fs k ≡ q (h (getD vs k z))
-
-  pub flag-next : (fs : List Bool) (i : ℕ) {b : Bool} → i < length fs → Flagged fs i → b ≡ q (h (getD vs i z)) → Flagged (set fs i b) (i + 1)
-  flag-next fs i {b} low done e k m = go (eqb k i) refl
-    where
-      go : (t : Bool) → eqb k i ≡ t → flagAt (set fs i b) k ≡ q (h (getD vs k z))
-      go true p = rw (eqb-true k i p) (getD-set-same fs i b false low ∙ e)
-      go false p = let d : k ≡ i → ⊥ = eqb-false k i p in getD-set-other fs i k b false d ∙ done k (omega arith)
-
-  pub flags-all : (fs : List Bool) {n : ℕ} → q (h z) ≡ false → length fs ≡ n → length vs ≡ n → Flagged fs n → (k : ℕ) → flagAt fs k ≡ q (getD (map h vs) k (h z))
-  flags-all fs {n} e p r done k = go (ltb k n) refl ∙ ap q (sym (List·getD-map h vs k z))
-    where
-      go : (t : Bool) → ltb k n ≡ t → flagAt fs k ≡ q (h (getD vs k z))
-      go true m = done k (ltb-true k n m)
-      go false m =
-          sym (flag-past fs k p (ltb-false k n m))
-          ∙ sym (ap (λ (a : A). q (h a)) (List·getD-eq-default vs z (subst (λ (j : ℕ). j ≤ k) (sym r) (ltb-false k n m))) ∙ e)
 
 -- ── formals ──
 

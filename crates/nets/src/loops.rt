@@ -4,6 +4,7 @@ use crate::Frame;
 use crate::Refusal;
 use crate::Round;
 use crate::Turn;
+use crate::reading::flag_in;
 use rows::Operands;
 use rows::Relation;
 use rows::binding::bind_row;
@@ -83,16 +84,6 @@ pub fn any_place(flags: [bool; 16]) -> bool
     false
 }
 
-pub fn place_in(flags: [bool; 16], row: u8) -> bool
-    ensures { λ r. ⌜ r ≡ flagAt flags row ⌝ }
-{
-    let at = row as usize;
-    if 16 <= at {
-        return false;
-    }
-    flags[at]
-}
-
 // The row's place leaves the set, and T's formals bind to the row.
 pub fn opened(
     template: Operands,
@@ -145,7 +136,7 @@ pub fn round(
             vars,
         };
     }
-    if !place_in(ready, row) {
+    if !flag_in(ready, row) {
         return Round {
             turn: Turn::Stopped(Refusal::NotReady),
             visit,

@@ -8,10 +8,10 @@ use values::Site;
 use values::Value;
 ghost use mathlib.Core.Path.{_≡_};
 ghost use Prim.Native.Nat.{_≤_};
-ghost use Rattle.values.specs.Lists.{find, firsts, placeOf};
+ghost use Rattle.values.specs.Lists.{find, placeOf};
 ghost use Rattle.nets.specs.Tables.{isAt};
 ghost use Rattle.nets.specs.Steps.{aliasFor, meant, siteMeant, siteOfGot};
-ghost use Rattle.nets.specs.View.{noAlias, tableOf, tablesOf, aliasesOf};
+ghost use Rattle.nets.specs.View.{tableOf, tablesOf, aliasesOf};
 ghost use Rattle.nets.specs.Contracts.{locatedOf};
 
 pub fn is_alias(a: Alias, s: Site, l: Locality) -> bool

@@ -2,14 +2,14 @@
 -- element answered, `b` or `w` what the whole comes to. Assumes nothing.
 use Prim.Native.Nat.{ℕ, zero, suc, _+_, _<_, _≤_}
 use mathlib.Core.Path.{_≡_, refl, ap, sym, _∙_, subst}
-use mathlib.Core.Bool.{Bool, true, false, not, _||_}
+use mathlib.Core.Bool.{Bool, true, false, not}
 use mathlib.Core.List.{List, [], _∷_}
 use mathlib.Core.Option.{Option, none, some}
 use native.Mathlib.Omega.{arith}
 use lib.Dec.{T, eqb, ltb, leb·suc-suc}
 use lib.ListN.{length, drop, getD}
 use borrow.Author.Tests.{lt-ltb, eqb-true, eqb-false}
-use Rattle.values.specs.Lists.{all, any, find, first, isSome, placeOf, nextPlace, places}
+use Rattle.values.specs.Lists.{all, find, first, isSome, placeOf, nextPlace, places}
 use Rattle.values.proofs.Bools.{and-l, and-r}
 
 -- ── loops: what is left decides ──
@@ -43,21 +43,6 @@ module _ {A : Type 0} (p : A → Bool) (w : Option A) {xs : List A} (left : find
 
   pub find-ends : xs ≡ [] → none ≡ w
   find-ends e = sym (ap (find p) e) ∙ left
-
--- whether any passes
-module _ {A : Type 0} (p : A → Bool) (b : Bool) {xs : List A} (left : any p xs ≡ b) where
-  module _ {x : A} {xs′ : List A} {t : Bool} (e : xs ≡ x ∷ xs′) (q : t ≡ p x) where
-    any-is : (t || any p xs′) ≡ b
-    any-is = ap (λ (u : Bool). u || any p xs′) q ∙ sym (ap (any p) e) ∙ left
-
-    pub any-here : t ≡ true → true ≡ b
-    any-here h = sym (ap (λ (u : Bool). u || any p xs′) h) ∙ any-is
-
-    pub any-more : t ≡ false → any p xs′ ≡ b
-    any-more h = sym (ap (λ (u : Bool). u || any p xs′) h) ∙ any-is
-
-  pub any-ends : xs ≡ [] → false ≡ b
-  any-ends e = sym (ap (any p) e) ∙ left
 
 -- ── the place and what stands there ──
 

@@ -4,7 +4,8 @@ use mathlib.Core.Path.{refl}
 use mathlib.Core.Bool.{true}
 use native.Mathlib.Omega.{arith}
 use borrow.Author.Needs.{needs}
-use Rattle.nets.proofs.MarkLaws.{Flagged, flagged-starts, flagged-more, flagged-first}
+use Rattle.nets.proofs.FlagLaws.{Flagged, flagged-starts, flagged-more}
+use Rattle.nets.proofs.MarkLaws.{flagged-first}
 use Rattle.nets.proofs.loops.all_places.Statement.{statement}
 use Rattle.nets.proofs.loops.all_places.Tie as tie
 

@@ -13,7 +13,7 @@ use Rattle.rows.specs.View.{noRow, operandsOf}
 use Rattle.rows.specs.Plans.{wantsMet}
 use Rattle.rows.proofs.Lengths.{cells-long}
 use Rattle.nets.specs.Contracts.{flagAt}
-use Rattle.nets.proofs.MarkLaws.{Flagged, flagged-starts, flagged-more}
+use Rattle.nets.proofs.FlagLaws.{Flagged, flagged-starts, flagged-more}
 use Rattle.nets.proofs.RowLaws.{row-at}
 use Rattle.nets.proofs.loops.ready_places.Statement.{statement}
 use Rattle.nets.proofs.loops.ready_places.Tie as tie

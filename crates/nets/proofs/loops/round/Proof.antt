@@ -140,7 +140,7 @@ returns-3 c =
     let e = c .before .before in
     let r = e .before .before in
     not-ready (fits (r .before)) (some-is r ∙ sym (e .before .any-place .ensures) ∙ not-false _ (e .if2 .left)) refl
-    (here-is r ∙ sym (c .before .place-in .ensures) ∙ not-true _ (c .if3 .taken))
+    (here-is r ∙ sym (c .before .flag-in .ensures) ∙ not-true _ (c .if3 .taken))
 
 returns-4 : tie.Need-returns-4
 returns-4 c =
@@ -148,14 +148,14 @@ returns-4 c =
     let e = p .before in
     let r = e .before .before in
     no-room (fits (r .before)) (some-is r ∙ sym (e .before .any-place .ensures) ∙ not-false _ (e .if2 .left))
-    (here-is r ∙ sym (p .place-in .ensures) ∙ not-false _ (c .before .if3 .left)) refl (not-true _ (c .if4 .taken))
+    (here-is r ∙ sym (p .flag-in .ensures) ∙ not-false _ (c .before .if3 .left)) refl (not-true _ (c .if4 .taken))
 
 opened-requires : tie.Need-opened-requires
 opened-requires c κs =
     let p = c .before .before in
     let r = p .before .before .before in
     let s = start r in
-    (s .pre .0, s .pre .1, r .before .if1 .left, here-in r (sym (p .place-in .ensures) ∙ not-false _ (c .before .if3 .left)))
+    (s .pre .0, s .pre .1, r .before .if1 .left, here-in r (sym (p .flag-in .ensures) ∙ not-false _ (c .before .if3 .left)))
 
 returns-5 : tie.Need-returns-5
 returns-5 c =
@@ -166,7 +166,7 @@ returns-5 c =
     let v = r .before .before .before .before in
     let a = v .before .args in
     opens (fits (r .before)) (some-is r ∙ sym (e .before .any-place .ensures) ∙ not-false _ (e .if2 .left))
-    (here-is r ∙ sym (p .place-in .ensures) ∙ not-false _ (q .before .if3 .left)) (not-false _ (q .if4 .left))
+    (here-is r ∙ sym (p .flag-in .ensures) ∙ not-false _ (q .before .if3 .left)) (not-false _ (q .if4 .left))
     (seen (a .source) (a .frame) (v .to-visit .result) (v .to-visit .ensures)) (c .opened .ensures)
 
 pub round-spec : {M : Type 1} → statement M

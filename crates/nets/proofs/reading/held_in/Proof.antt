@@ -1,6 +1,6 @@
 -- `nets::reading::held_in` meets its contract: past the flags there is none. Assumes nothing.
 use borrow.Author.Needs.{needs}
-use Rattle.nets.proofs.ReadingLaws.{flag-past}
+use Rattle.nets.proofs.FlagLaws.{flag-past}
 use Rattle.nets.proofs.reading.held_in.Statement.{statement}
 use Rattle.nets.proofs.reading.held_in.Tie as tie
 

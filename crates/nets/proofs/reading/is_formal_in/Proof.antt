@@ -6,7 +6,7 @@ use lib.ListN.{drop}
 use Rattle.values.specs.Lists.{any, among}
 use Rattle.values.specs.Operands.{formalOf, formals}
 use Rattle.values.proofs.Firsts.{firsts-cons, firsts-end}
-use Rattle.values.proofs.PlaceLaws.{any-here, any-more, any-ends}
+use Rattle.values.proofs.Loops.{any-found, any-more, any-ends}
 use Rattle.rows.specs.declared.Field.{Field}
 use Rattle.rows.specs.Plans.{isFormalOf}
 use Rattle.rows.specs.View.{noField, operandsOf}
@@ -28,7 +28,7 @@ returns : tie.Need-returns Inv-loop μ-loop
 returns c =
     let a = c .before .before .before .before .before .args in
     let l = c .before .before .before .before .loop in
-    any-here (λ o. isFormalOf (a .i) (formalOf o)) _ (l .inv .1) (firsts-cons (λ (f : Field). f .operand) noField (a .t2 .count) (a .t2 .fields) (l .n) (search needs))
+    any-found (λ o. isFormalOf (a .i) (formalOf o)) _ (l .inv .1) (firsts-cons (λ (f : Field). f .operand) noField (a .t2 .count) (a .t2 .fields) (l .n) (search needs))
     (c .before .is-formal-of .ensures) (c .if1 .taken)
 
 loop-again : tie.Need-loop-again Inv-loop μ-loop
