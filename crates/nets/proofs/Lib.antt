@@ -2,12 +2,16 @@
 pub mod AnswerLaws
 pub mod BindingLaws
 pub mod CompleteLaws
+pub mod Counts
+pub mod DistinctLaws
 pub mod EffectTies
+pub mod EntryLaws
 pub mod FlagLaws
 pub mod KeepSound
 pub mod KeepTables
 pub mod KeyLaws
 pub mod Keys
+pub mod KindCodes
 pub mod KindLaws
 pub mod ListTies
 pub mod MarkLaws

@@ -9,3 +9,4 @@ pub mod View
 pub mod Answers
 pub mod Effects
 pub mod Contracts
+pub mod SoundParts

@@ -12,7 +12,14 @@ pub mod kinds;
 pub mod lists;
 pub mod loops;
 pub mod places;
+pub mod ranges;
 pub mod reading;
+pub mod sounding;
+pub mod soundlists;
+pub mod soundnodes;
+pub mod soundoperands;
+pub mod soundrelations;
+pub mod soundthreads;
 pub mod threads;
 
 // At a site, a locality means a site.
@@ -60,6 +67,12 @@ pub struct Frame {
 pub struct TableVariable {
     pub bound: bool,
     pub content: Relation,
+}
+
+// Whether a table variable is bound, and how many rows it has.
+pub struct Extent {
+    pub bound: bool,
+    pub rows: usize,
 }
 
 // The stack's top is its last frame in use.

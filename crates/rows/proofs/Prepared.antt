@@ -41,13 +41,13 @@ use Rattle.rows.proofs.PlanLaws.{term-got}
 -- ── what fits ──
 
 -- a draft that fits has as many values as columns, and all of them
-fits-long : (cs : List ℕ) (d : List Got) → T (fits cs d) → length cs ≡ length d
+pub fits-long : (cs : List ℕ) (d : List Got) → T (fits cs d) → length cs ≡ length d
 fits-long [] [] h = refl
 fits-long [] (g ∷ d) h = absurd h
 fits-long (k ∷ cs) [] h = absurd h
 fits-long (k ∷ cs) (g ∷ d) h = ap suc (fits-long cs d (and-r (ofKind k g) (fits cs d) h))
 
-fits-got : (cs : List ℕ) (d : List Got) → T (fits cs d) → T (all isGot d)
+pub fits-got : (cs : List ℕ) (d : List Got) → T (fits cs d) → T (all isGot d)
 fits-got [] [] h = tt
 fits-got [] (g ∷ d) h = absurd h
 fits-got (k ∷ cs) [] h = tt

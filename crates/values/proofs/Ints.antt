@@ -88,6 +88,11 @@ pub in-range : (z : ℤ) → ltZ z (negsuc 2147483647) ≡ false → ltZ (pos 21
 in-range (pos n) l h = record { sfits = omega (arith, ltb-false 2147483647 n h) }
 in-range (negsuc n) l h = record { sfits = omega (arith, ltb-false 2147483647 n l) }
 
+-- an i32 is within 32 bits
+pub in32-fits : (z : ℤ) → SFits w32 z → in32 z ≡ true
+in32-fits (pos n) p = le-leb n 2147483647 (omega arith)
+in32-fits (negsuc n) p = rw (le-leb n 2147483647 (omega arith))
+
 -- an Int within 32 bits, or nothing: s is z as the machine has it
 module _ (z : ℤ) {s : ℤ} (e : s ≡ z) where
   tested : {l h : Bool} → ltZ s (negsuc 2147483647) ≡ l → ltZ (pos 2147483647) s ≡ h

@@ -7,7 +7,7 @@ use native.Mathlib.Omega.{arith}
 use lib.Dec.{T}
 use lib.ListN.{length, getD}
 use mathlib.Core.Option.{some}
-use Rattle.values.specs.Lists.{bit, all, any, filter, keep, count, find, first}
+use Rattle.values.specs.Lists.{isSome, bit, all, any, filter, keep, count, find, first}
 use Rattle.values.proofs.Bools.{and-l, and-r, and-in}
 
 module _ {A : Type 0} where
@@ -97,6 +97,15 @@ module _ {A : Type 0} where
       go : (b : Bool) → T (not (b || any p l)) → (T (not (any p l)) → T (all (λ x. not (p x)) l)) → T (not b && all (λ x. not (p x)) l)
       go true h ih = h
       go false h ih = ih h
+
+  -- one is found where any passes
+  pub found-any : (p : A → Bool) (l : List A) → isSome (find p l) ≡ any p l
+  found-any p [] = refl
+  found-any p (a ∷ l) = go (p a) (found-any p l)
+    where
+      go : (b : Bool) → isSome (find p l) ≡ any p l → isSome (first b a (find p l)) ≡ (b || any p l)
+      go true ih = refl
+      go false ih = ih
 
   pub filter-length : (q : A → Bool) (l : List A) → length (filter q l) ≤ length l
   filter-length q [] = omega arith
