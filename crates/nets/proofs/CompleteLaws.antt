@@ -11,7 +11,7 @@ use Rattle.values.specs.declared.Operand.{Operand}
 use Rattle.values.specs.declared.Operand.the-variants.{Absent, ConstInt, ConstText, ConstLoc, Var, Plus, Formal}
 use Rattle.values.specs.Lists.{all, among}
 use Rattle.values.specs.Operands.{Vars, isGot, eval, reads, formals}
-use Rattle.values.proofs.Bools.{and-l, and-r, T-of}
+use Rattle.values.proofs.Bools.{and-l, and-r}
 use Rattle.values.proofs.ListLaws.{all-map-of, all-and}
 use Rattle.values.proofs.BindLaws.{known-passes}
 use Rattle.rows.specs.Relations.{Row}
@@ -19,9 +19,9 @@ use Rattle.rows.specs.Matching.{rowVars}
 use Rattle.rows.specs.Fit.{draft}
 use Rattle.rows.specs.Changes.{draftFor}
 use Rattle.rows.specs.Contracts.{Complete}
-use Rattle.nets.specs.Nets.{Kind, acting, other, insert, insertTable, delete, update, create, drop, select, selectRelation, aggregate, sequential, parallel, badKind, isSelect, Node}
+use Rattle.nets.specs.Nets.{Kind, acting, other, insert, insertTable, delete, update, create, drop, select, selectRelation, aggregate, sequential, parallel, badKind, isSelect, Node, Bindings}
 use Rattle.nets.specs.Sound.{tagged, operandsOk, bindingsOk, fieldsOkAs, nodeOkAs}
-use Rattle.nets.specs.Steps.{Scene, vars, template, isBound, known, readsOk, check12}
+use Rattle.nets.specs.Steps.{isBound, isHeld, known, readsOk}
 
 -- a row's values are there
 ones : (r : Row) → T (all isGot (map One r))
@@ -72,10 +72,10 @@ select-tags (other sequential) n i d h s = absurd s
 select-tags (other parallel) n i d h s = absurd s
 select-tags (other badKind) n i d h s = absurd s
 
+-- with bindings `b`, where what the node reads is bound
 pub select-complete :
-    (c : Scene) (n i : ℕ) → T (nodeOkAs (c .node .kind) n i (c .node)) → T (bindingsOk (c .thread .bindings)) → check12 c ≡ true → T (isSelect (c .node .kind)) →
-    Complete (vars c) (template c) (c .node .tuple)
-unfolding check12 readsOk
-select-complete c n i h b twelve s =
-    let q : T (check12 c) = T-of (check12 c) twelve in
-    complete (vars c) (template c) (eqb→eq (length (vars c)) 16 (search and-l)) (c .node .tuple) (select-tags (c .node .kind) n i (c .node) h s) (search (and-l, and-r))
+    (b : Bindings) (d : Node) (n i : ℕ) → T (nodeOkAs (d .kind) n i d) → T (bindingsOk b) → T (readsOk (isBound (b .vars)) (isHeld (b .relations)) d) → T (isSelect (d .kind)) →
+    Complete (b .vars) (d .selector .template) (d .tuple)
+unfolding readsOk
+select-complete b d n i h k q s =
+    complete (b .vars) (d .selector .template) (eqb→eq (length (b .vars)) 16 (search and-l)) (d .tuple) (select-tags (d .kind) n i d h s) (search (and-l, and-r))

@@ -9,9 +9,9 @@ use lib.Dec.{T, eqb, ltb, leb, leb→le, ltb→lt, eqb→eq, not-T}
 use mir.Val.{hasKey}
 use mir.Facts.{or-yes}
 use types.Run.{OneOf, hit}
-use borrow.Author.Tests.{ltb-true, ltb-false}
+use borrow.Author.Tests.{eqb-true, eqb-false, ltb-true, ltb-false}
 use Rattle.values.specs.Lists.{all, orElse, places}
-use Rattle.values.proofs.Bools.{and-l, and-r}
+use Rattle.values.proofs.Bools.{and-l, and-r, and-in}
 use Rattle.values.proofs.ListLaws.{all-weaken}
 use Rattle.values.proofs.PlaceLaws.{find-none, all-places}
 use Rattle.nets.specs.Nets.{Kind, other, badKind, code}
@@ -91,3 +91,11 @@ module _ (p : Kind → Bool) (r : Bool) where
   -- at each of `n` bytes from `i` on
   pub in-range : (i n : ℕ) → T (all says (places i n)) → (b : ℕ) → i ≤ min b 27 → min b 27 < i + n → r ≡ p (kindAt b)
   in-range i n h b low high = said (min b 27) (all-places says i n h (min b 27) low high) ∙ ap p (kind-min b)
+
+-- a test that one byte alone passes
+pub at-one : (p : Kind → Bool) (n : ℕ) → T (p (kindAt n)) → T (all (λ j. (ltb j 27 && hasKey (n ∷ []) j) || not (p (kindAt j))) (places 0 28)) → (b : ℕ) → eqb b n ≡ p (kindAt b)
+at-one p n here others b = go (eqb b n) refl
+  where
+    go : (t : Bool) → eqb b n ≡ t → t ≡ p (kindAt b)
+    go true e = at-keys p true (n ∷ []) (and-in (p (kindAt n)) true here tt) b (eqb-true b n e)
+    go false e = but-keys p false (n ∷ []) 0 28 others b (eqb-false b n e) (omega arith) (omega arith)

@@ -1,13 +1,18 @@
 -- Laws of the model: demand 3 for every list of picks, and soundness kept by every step.
+pub mod ActLaws
 pub mod AnswerLaws
 pub mod BindingLaws
+pub mod ByteLaws
 pub mod CompleteLaws
 pub mod Counts
+pub mod DecideLaws
 pub mod DistinctLaws
 pub mod EffectTies
 pub mod EntryLaws
 pub mod FlagLaws
+pub mod HeldLaws
 pub mod KeepSound
+pub mod KeepStep
 pub mod KeepTables
 pub mod KeyLaws
 pub mod Keys
@@ -17,6 +22,7 @@ pub mod ListTies
 pub mod MarkLaws
 pub mod MeetTies
 pub mod MoveLaws
+pub mod ReadTies
 pub mod ReadingLaws
 pub mod RefusalLaws
 pub mod RoundLaws
@@ -24,10 +30,13 @@ pub mod RoundTies
 pub mod RowLaws
 pub mod RunLaws
 pub mod SceneTies
+pub mod SituationLaws
 pub mod SoundLaws
 pub mod SourceLaws
 pub mod StackLaws
 pub mod StepLaws
+pub mod StoreTies
 pub mod SureLaws
 pub mod TableLaws
 pub mod ThreadLaws
+pub mod TurnLaws

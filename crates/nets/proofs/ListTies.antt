@@ -2,7 +2,7 @@
 use Prim.Native.Nat.{ℕ, _<_}
 use mathlib.Core.Path.{_≡_, refl, ap, sym, _∙_}
 use mathlib.Core.Bool.{Bool, true, false}
-use mathlib.Core.List.{List, [], _∷_, _++_}
+use mathlib.Core.List.{List, [], _∷_}
 use mathlib.Core.Option.{Option, some}
 use lib.Dec.{T, ltb, ltb→lt}
 use lib.ListN.{length, getD, set}
@@ -99,11 +99,6 @@ puts-tables (other badKind) c d s h = absurd s
 pub drop-tables : (c : Scene) → tablesBy (acting drop) c ≡ removeAt (tablePlace c) (c .net .tables)
 unfolding tablesBy
 drop-tables c = remove-place (site c) (c .node .name) (c .net .tables)
-
-pub create-tables :
-    (c : Scene) → tablesBy (acting create) c ≡ c .net .tables ++ (record { site = site c; name = c .node .name; content = record { columns = c .node .columns; rows = [] } } ∷ [])
-unfolding tablesBy
-create-tables c = refl
 
 -- ── the net after a step ──
 

@@ -1,6 +1,6 @@
 -- The parts that the code holds of a scene: they are the parts of its step, and of its round. Assumes nothing.
 use mathlib.Core.Path.{_≡_, ap, ap₂, sym, subst, _∙_}
-use mathlib.Core.Bool.{true, cond}
+use mathlib.Core.Bool.{cond}
 use mathlib.Core.Option.{none, some}
 use lib.Dec.{T, ltb}
 use lib.ListN.{getD}
@@ -8,17 +8,14 @@ use Rattle.values.specs.Operands.{varsOf}
 use Rattle.rows.specs.declared.Relation as Code
 use Rattle.rows.specs.Relations.{Relation}
 use Rattle.rows.specs.View.{relationOf, operandsOf}
-use Rattle.rows.specs.Contracts.{Complete}
 use Rattle.nets.specs.declared.Situation.{Situation}
 use Rattle.nets.specs.Nets as M
-use Rattle.nets.specs.Nets.{Kind, bindsRelation, isSelect, isLoop, isParallel}
-use Rattle.nets.specs.Sound.{nodeOkAs, bindingsOk}
-use Rattle.nets.specs.Steps.{Scene, vars, template, relation, source, roomForRound, check12}
+use Rattle.nets.specs.Nets.{Kind, bindsRelation, isLoop, isParallel}
+use Rattle.nets.specs.Steps.{Scene, vars, template, relation, source, roomForRound}
 use Rattle.nets.specs.View.{kindAt}
-use Rattle.nets.specs.Contracts.{partsOf, visitOf, Meets, relationRead, Fine}
+use Rattle.nets.specs.Contracts.{partsOf, visitOf, Meets, relationRead}
 use Rattle.nets.proofs.EffectTies.{PartsIn}
 use Rattle.nets.proofs.RoundTies.{turnAt, turnIn, loop-turn}
-use Rattle.nets.proofs.CompleteLaws.{select-complete}
 use Rattle.nets.proofs.SceneTies.{length-stack}
 
 module _ (s : Situation) (c : Scene) (m : Meets s c) where
@@ -46,16 +43,6 @@ module _ (s : Situation) (c : Scene) (m : Meets s c) where
         held = λ h. m .held (subst (λ (k : Kind). T (bindsRelation k)) (sym met-kind) h);
         tables = m .tables;
       }
-
-  -- a select's t
-  pub met-complete : Fine s → check12 c ≡ true → T (isSelect (kindAt (s .node .kind))) → Complete (varsOf (s .thread .vars)) (operandsOf (s .node .selector .template)) (operandsOf (s .node .tuple))
-  met-complete f twelve h =
-      subst (λ (d : M.Node). Complete (varsOf (s .thread .vars)) (d .selector .template) (d .tuple)) (m .node)
-      (subst (λ (t : M.Thread). Complete (t .bindings .vars) (template c) (c .node .tuple)) (m .thread)
-      (select-complete c (f .count) (f .number)
-      (subst (λ (d : M.Node). T (nodeOkAs (d .kind) (f .count) (f .number) d)) (sym (m .node)) (f .node))
-      (subst (λ (t : M.Thread). T (bindingsOk (t .bindings))) (sym (m .thread)) (f .bindings))
-      twelve (subst (λ (k : Kind). T (isSelect k)) (sym met-kind) h)))
 
   -- a loop's round, with the table variable read `r`
   pub met-turn :

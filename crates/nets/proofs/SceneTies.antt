@@ -1,7 +1,7 @@
 -- The scene of a pick in a sound net: its thread, entry and node are there and sound, in the model and in the code's structs. Assumes nothing.
 use Prim.Native.Nat.{ℕ, zero, suc, _-_, _<_, _≤_}
 use mathlib.Core.Path.{_≡_, refl, ap, ap₂, sym, subst, _∙_}
-use mathlib.Core.Bool.{Bool, true, false}
+use mathlib.Core.Bool.{Bool, true, false, cond}
 use mathlib.Core.List.{List}
 use mathlib.Core.Option.{Option, none, some}
 use native.Mathlib.Omega.{arith}
@@ -10,7 +10,6 @@ use lib.ListN.{length, getD, List·getD-eq-default}
 use borrow.Author.Tests.{eqb-true, eqb-false, ltb-true, ltb-false}
 use Rattle.values.specs.declared.Site.{Site}
 use Rattle.values.specs.Lists.{isSome, all}
-use Rattle.values.specs.Operands.{varsOf, eval}
 use Rattle.values.proofs.Bools.{and-l, and-r, is-true}
 use Rattle.values.proofs.ListLaws.{all-at, find-all}
 use Rattle.values.proofs.Firsts.{length-firsts, firsts-at}
@@ -29,8 +28,8 @@ use Rattle.nets.specs.Nets as M
 use Rattle.nets.specs.Sound as S
 use Rattle.nets.specs.Sound.{sound, aliasOk, tableOk, threadOk, entryOk, entryNode, nodeOkAs, bindingsOk}
 use Rattle.nets.specs.Tables.{isAt, tableAt, contentOf}
-use Rattle.nets.specs.Steps.{Scene, sceneOf, top, siteOfGot, siteOfL, site, table, stillToVisit, judge, checks, step}
-use Rattle.nets.specs.View.{noAlias, noTable, noFrame, noNode, noThread, nodeOf, tableOf, entryOf, stackOf, threadOf, aliasesOf, tablesOf, view}
+use Rattle.nets.specs.Steps.{Scene, sceneOf, site, table, stillToVisit, judge, checks, step}
+use Rattle.nets.specs.View.{noAlias, noTable, noFrame, noNode, noThread, nodeOf, tableOf, entryOf, stackOf, threadOf, tablesOf, view}
 use Rattle.nets.specs.Contracts.{Stacked, outcomeAt, Meets, relationRead, Fine}
 use Rattle.nets.proofs.SoundLaws.{clauses}
 use Rattle.nets.proofs.SureLaws.{StackFacts, stack-facts, entry-node, node-at}
@@ -42,16 +41,16 @@ use Rattle.nets.proofs.ListTies.{placeAt, table-there, table-at}
 thread-stack : (ds : List M.Node) (t : M.Thread) → T (threadOk ds t) → StackFacts ds (t .bindings .relations) (t .stack)
 thread-stack ds t h = stack-facts ds (t .bindings .relations) (t .stack) (search (and-l, and-r))
 
-thread-entries : (ds : List M.Node) (t : M.Thread) → T (threadOk ds t) → T (all (entryOk ds (t .bindings .relations)) (t .stack))
+pub thread-entries : (ds : List M.Node) (t : M.Thread) → T (threadOk ds t) → T (all (entryOk ds (t .bindings .relations)) (t .stack))
 thread-entries ds t h = search (and-l, and-r)
 
 pub thread-bindings : (ds : List M.Node) (t : M.Thread) → T (threadOk ds t) → T (bindingsOk (t .bindings))
 thread-bindings ds t h = search (and-l, and-r)
 
 -- at most 4 columns and 16 rows
-record Within (r : Relation) : Type 0 where
-  columns : length (r .columns) ≤ 4
-  rows : length (r .rows) ≤ 16
+pub record Within (r : Relation) : Type 0 where
+  pub columns : length (r .columns) ≤ 4
+  pub rows : length (r .rows) ≤ 16
 
 content-within : (o : Option M.Table) → ((t : M.Table) → o ≡ some t → T (tableOk t)) → Within (contentOf o)
 content-within none h = record { columns = omega arith; rows = omega arith }
@@ -64,7 +63,7 @@ content-within (some t) h =
 
 -- ── counts of the code's structs ──
 
-shaped : (r : Code.Relation) → Within (relationOf r) → Shaped r
+pub shaped : (r : Code.Relation) → Within (relationOf r) → Shaped r
 shaped r h =
     record {
       columns = subst (λ (n : ℕ). n ≤ 4) (length-firsts (λ (k : ℕ). k) 0 (r .columns) (r .kinds)) (h .columns);
@@ -139,7 +138,7 @@ module _ (m : M.Net) (p : Pick) (ok : T (sound m)) (there : p .thread < length (
 -- ── in the code's structs ──
 
 -- what a test of every entry says of each frame in use
-stack-all : (q : M.Entry → Bool) (n : ℕ) (l : List Frame) → T (all q (stackOf n l)) → (j : ℕ) → j < n → T (q (entryOf (getD l j noFrame)))
+pub stack-all : (q : M.Entry → Bool) (n : ℕ) (l : List Frame) → T (all q (stackOf n l)) → (j : ℕ) → j < n → T (q (entryOf (getD l j noFrame)))
 stack-all q zero l h j k = absurd (omega arith)
 stack-all q (suc n) l h j k = go (eqb j n) refl (stack-all q n l (and-r (q (entryOf (getD l n noFrame))) (all q (stackOf n l)) h) j)
   where
@@ -147,23 +146,8 @@ stack-all q (suc n) l h j k = go (eqb j n) refl (stack-all q n l (and-r (q (entr
     go true e ih = subst (λ (i : ℕ). T (q (entryOf (getD l i noFrame)))) (sym (eqb-true j n e)) (and-l (q (entryOf (getD l n noFrame))) (all q (stackOf n l)) h)
     go false e ih = let d : j ≡ n → ⊥ = eqb-false j n e in ih (omega arith)
 
--- the top frame
-top-frame : (n : ℕ) (l : List Frame) → 1 ≤ n → top (stackOf n l) ≡ entryOf (getD l (n - 1) noFrame)
-top-frame zero l h = absurd (omega arith)
-top-frame (suc n) l h = let e : n ≡ suc n - 1 = omega arith in ap (λ (i : ℕ). entryOf (getD l i noFrame)) e
-
 abbrev pub threadAt : Net → ℕ → Thread
 threadAt net i = getD (net .threads) i noThread
-
-abbrev pub frameAt : Thread → Frame
-frameAt t = getD (t .stack) (t .depth - 1) noFrame
-
-abbrev pub nodeAt : Net → Frame → Node
-nodeAt net f = getD (net .nodes) (entryNode (entryOf f)) noNode
-
--- the scene made of a thread, a frame and a node
-abbrev pub sceneIn : Net → Pick → Thread → Frame → Node → Scene
-sceneIn net p t f d = record { net = view net; at = p .thread; row = p .row; thread = threadOf t; entry = entryOf f; node = nodeOf d }
 
 -- counts
 module _ (net : Net) (ok : T (sound (view net))) where
@@ -195,7 +179,7 @@ module _ (net : Net) (ok : T (sound (view net))) where
       go false e = omega (arith, ltb-false 56 (net .aliascount) e)
 
 module _ (net : Net) (p : Pick) (ok : T (sound (view net))) (there : p .thread < net .threadcount) where
-  pick-there : p .thread < length (view net .threads)
+  pub pick-there : p .thread < length (view net .threads)
   unfolding view
   pick-there = rw length-firsts there
 
@@ -209,36 +193,6 @@ module _ (net : Net) (p : Pick) (ok : T (sound (view net))) (there : p .thread <
   pub thread-stacked : Stacked (threadAt net (p .thread))
   thread-stacked = stack-within (threadAt net (p .thread)) (view net .nodes) thread-ok
 
-  pub scene-entry : sceneOf (view net) p .entry ≡ entryOf (frameAt (threadAt net (p .thread)))
-  unfolding sceneOf
-  scene-entry = ap (λ (t : M.Thread). top (t .stack)) scene-thread ∙ top-frame (threadAt net (p .thread) .depth) (threadAt net (p .thread) .stack) (thread-stacked .some)
-
-  -- the nodes that entries of the stack name are there
-  pub entries-there : (j : ℕ) → j < threadAt net (p .thread) .depth → entryNode (entryOf (getD (threadAt net (p .thread) .stack) j noFrame)) < net .nodecount
-  unfolding view
-  entries-there j h =
-      let t : Thread = threadAt net (p .thread) in
-      subst (λ (n : ℕ). entryNode (entryOf (getD (t .stack) j noFrame)) < n) (length-firsts nodeOf noNode (net .nodecount) (net .nodes))
-      (entry-node (view net .nodes) (threadOf t .bindings .relations) (entryOf (getD (t .stack) j noFrame))
-      (stack-all (entryOk (view net .nodes) (threadOf t .bindings .relations)) (t .depth) (t .stack) (thread-entries (view net .nodes) (threadOf t) thread-ok) j h))
-
-  pub node-there : entryNode (entryOf (frameAt (threadAt net (p .thread)))) < net .nodecount
-  node-there =
-      let t : Thread = threadAt net (p .thread) in
-      let s = thread-stacked in
-      entries-there (t .depth - 1) (omega (arith, s .some))
-
-  pub scene-node : sceneOf (view net) p .node ≡ nodeOf (nodeAt net (frameAt (threadAt net (p .thread))))
-  unfolding sceneOf view
-  scene-node =
-      ap (λ (x : M.Entry). getD (view net .nodes) (entryNode x) S.noNode) scene-entry
-      ∙ firsts-at nodeOf noNode (net .nodecount) (net .nodes) (entryNode (entryOf (frameAt (threadAt net (p .thread))))) S.noNode node-there
-
-  -- the whole scene
-  pub scene-is : sceneOf (view net) p ≡ sceneIn net p (threadAt net (p .thread)) (frameAt (threadAt net (p .thread))) (nodeAt net (frameAt (threadAt net (p .thread))))
-  unfolding sceneOf
-  scene-is = λ i. record { net = view net; at = p .thread; row = p .row; thread = scene-thread i; entry = scene-entry i; node = scene-node i }
-
   -- checks 10 and 11 pass
   pub step-is : step (view net) p ≡ outcomeAt (sceneOf (view net) p)
   step-is = step-later (view net) p ok pick-there
@@ -246,29 +200,11 @@ module _ (net : Net) (p : Pick) (ok : T (sound (view net))) (there : p .thread <
   pub situation-fine : (s : Situation) → Meets s (sceneOf (view net) p) → Fine s
   situation-fine s q = meets-fine (view net) p ok pick-there s q
 
-  -- where L leads, and the table there
-  pub scene-located :
-      siteOfL (sceneOf (view net) p)
-      ≡ siteOfGot (aliasesOf (net .aliascount) (net .aliases)) (threadAt net (p .thread) .site) (eval (varsOf (threadAt net (p .thread) .vars)) (nodeAt net (frameAt (threadAt net (p .thread))) .place))
-  unfolding siteOfL view
-  scene-located = ap siteOfL scene-is
-
-  pub scene-table :
-      table (sceneOf (view net) p)
-      ≡ tableAt (site (sceneOf (view net) p)) (nodeAt net (frameAt (threadAt net (p .thread))) .name) (tablesOf (net .tablecount) (net .tables))
-  unfolding table sceneOf view
-  scene-table = ap (λ (d : M.Node). tableAt (site (sceneOf (view net) p)) (d .name) (tablesOf (net .tablecount) (net .tables))) scene-node
-
 -- ── tables by their place in the array ──
 
 module _ (s : Site) (n : ℕ) (k : ℕ) (l : List Table) where
   pub table-found : isSome (tableAt s n (tablesOf k l)) ≡ ltb (placeAt s n (tablesOf k l)) k
   table-found = table-there s n (tablesOf k l) ∙ ap (ltb (placeAt s n (tablesOf k l))) (length-firsts tableOf noTable k l)
-
-  pub table-is : placeAt s n (tablesOf k l) < k → tableAt s n (tablesOf k l) ≡ some (tableOf (getD l (placeAt s n (tablesOf k l)) noTable))
-  table-is h =
-      table-at s n (tablesOf k l) (tableOf noTable) (rw length-firsts h)
-      ∙ ap some (firsts-at tableOf noTable k l (placeAt s n (tablesOf k l)) (tableOf noTable) h)
 
   pub table-missing : k ≤ placeAt s n (tablesOf k l) → tableAt s n (tablesOf k l) ≡ none
   table-missing h = go (tableAt s n (tablesOf k l)) table-found
@@ -276,3 +212,11 @@ module _ (s : Site) (n : ℕ) (k : ℕ) (l : List Table) where
       go : (o : Option M.Table) → isSome o ≡ ltb (placeAt s n (tablesOf k l)) k → o ≡ none
       go none e = refl
       go (some t) e = let low = ltb-true (placeAt s n (tablesOf k l)) k (sym e) in absurd (omega arith)
+
+  -- what stands at the place, if it is one
+  pub table-read : cond (ltb (placeAt s n (tablesOf k l)) k) (some (getD (tablesOf k l) (placeAt s n (tablesOf k l)) (tableOf noTable))) none ≡ tableAt s n (tablesOf k l)
+  table-read = go (ltb (placeAt s n (tablesOf k l)) k) refl
+    where
+      go : (b : Bool) → ltb (placeAt s n (tablesOf k l)) k ≡ b → cond b (some (getD (tablesOf k l) (placeAt s n (tablesOf k l)) (tableOf noTable))) none ≡ tableAt s n (tablesOf k l)
+      go true e = sym (table-at s n (tablesOf k l) (tableOf noTable) (rw length-firsts (ltb-true (placeAt s n (tablesOf k l)) k e)))
+      go false e = sym (table-missing (ltb-false (placeAt s n (tablesOf k l)) k e))

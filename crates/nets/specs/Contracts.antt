@@ -12,7 +12,7 @@ use Rattle.values.specs.declared.Operand.{Operand}
 use Rattle.values.specs.Lists.{all, any, among, filter, isSome, removeAt}
 use Rattle.values.specs.Operands.{Vars, varsOf}
 use Rattle.rows.specs.declared.Relation as Code
-use Rattle.rows.specs.Relations.{Row, Relation}
+use Rattle.rows.specs.Relations.{Relation}
 use Rattle.rows.specs.Matching.{matches, rowVars}
 use Rattle.rows.specs.View.{relationOf, operandsOf, Shaped, Short}
 use Rattle.rows.specs.Contracts.{Holds, Complete}
@@ -28,11 +28,11 @@ use Rattle.nets.specs.declared.Round.{Round}
 use Rattle.nets.specs.declared.Situation.{Situation}
 use Rattle.nets.specs.declared.Change.{Change}
 use Rattle.nets.specs.Nets as M
-use Rattle.nets.specs.Nets.{Kind, acting, other, insert, insertTable, delete, update, create, drop, code, isSelect, isLoop, bindsRelation, Outcome}
+use Rattle.nets.specs.Nets.{Kind, acting, other, insert, insertTable, delete, update, create, drop, code, isSelect, isLoop, readsRelation, bindsRelation, Outcome}
 use Rattle.nets.specs.Tables.{tableAt, contentOf, rowsOf, columnsOf}
 use Rattle.nets.specs.Sound.{nodeOkAs, bindingsOk}
-use Rattle.nets.specs.Steps.{Scene, stillToVisit, site, siteOfL, table, holds, keepThread, settle, tablesBy, threadsAfter, performed, Check, check, check12, check13, check14, check15, check16, check17, check18, check19, check20, judge}
-use Rattle.nets.specs.View.{kindAt, nodeOf, noTable, tableOf, entryOf, threadOf, bindingsOf, marked, variableOf}
+use Rattle.nets.specs.Steps.{Scene, isBound, isHeld, readsOk, stillToVisit, site, siteOfL, table, holds, keepThread, settle, tablesBy, threadsAfter, performed, Check, check, check12, check13, check14, check15, check16, check17, check18, check19, check20, judge}
+use Rattle.nets.specs.View.{kindAt, nodeOf, noTable, tableOf, entryOf, threadOf, marked}
 use Rattle.nets.specs.Answers.{Said, refusing, doing, answerOf, numberOf, saidOf}
 use Rattle.nets.specs.Effects.{Parts, saidBy, contentBy, boundBy, varsBy}
 
@@ -188,6 +188,24 @@ pub record Fine (s : Situation) : Type 0 where
   -- a loop entry's places are rows of the table variable read
   pub visits : T (isLoop (kindAt (s .node .kind))) → (r : Relation) → relationRead s ≡ some r → T (all (λ i. ltb i (length (r .rows))) (visitOf (s .frame) r))
 
+-- check 12 passed, said of the parts
+pub record Known (s : Situation) : Type 0 where
+  pub reads : T (readsOk (isBound (threadOf (s .thread) .bindings .vars)) (isHeld (threadOf (s .thread) .bindings .relations)) (nodeOf (s .node)))
+
+-- the source of rows: what the table variable read holds, or the table's content
+pub record SourceIs (s : Situation) (r : Code.Relation) : Type 0 where
+  pub shaped : Shaped r
+  pub read : T (readsRelation (kindAt (s .node .kind))) → relationRead s ≡ some (relationOf r)
+  pub own : readsRelation (kindAt (s .node .kind)) ≡ false → relationOf r ≡ relationOf (s .content)
+
+-- the bindings of a thread after an effect
+abbrev pub boundWith : Situation → Effect → M.Bindings
+boundWith s e =
+    record {
+      vars = varsOf (e .vars);
+      relations = cond (bindsRelation (kindAt (s .node .kind))) (set (threadOf (s .thread) .bindings .relations) (s .node .bound) (some (relationOf (e .bound)))) (threadOf (s .thread) .bindings .relations);
+    }
+
 -- what becomes of a thread: itself, or nothing where its stack is empty
 abbrev pub standing : M.Thread → List M.Thread
 standing t = keepThread t (t .stack)
@@ -206,4 +224,5 @@ pub record ChangeIs (c : Scene) (r : Change) : Type 0 where
   -- the rows of the table at the step's site and name afterwards, where the step changes them
   pub content : T (isDoing (saidOf (r .answer))) → T (putsRows (c .node .kind)) → Holds (r .content) (columnsOf (table c)) (rowsOf (tableAt (site c) (c .node .name) (tablesBy (c .node .kind) c)))
   -- what becomes of the thread, and the new thread of a parallel round
+  pub room : T (r .forks) → (length (c .net .threads) < 8) × (1 ≤ r .thread .depth)
   pub threads : T (isDoing (saidOf (r .answer))) → threadsAfter c ≡ settle (c .at) (standing (threadOf (r .thread))) (c .net .threads) ++ forksOf (r .forks) (r .fork)

@@ -5,7 +5,6 @@ use mathlib.Core.Bool.{Bool, false, cond}
 use mathlib.Core.List.{List, [], _∷_, map}
 use mathlib.Core.Option.{Option, none, some}
 use lib.Dec.{eqb}
-use lib.IntN.{pos}
 use lib.ListN.{getD}
 use Rattle.values.specs.declared.Site.{Site}
 use Rattle.values.specs.declared.Operand.the-variants.{Absent}

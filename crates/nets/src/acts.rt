@@ -23,8 +23,6 @@ use values::Slot;
 use values::eval::bind_to;
 ghost use mathlib.Core.Path.{_≡_};
 ghost use mathlib.Core.Bool.{false, _&&_};
-ghost use mathlib.Core.List.{List, []};
-ghost use Prim.Native.Nat.{ℕ};
 ghost use Rattle.values.specs.Operands.{varsOf, isGot};
 ghost use Rattle.rows.specs.Matching.{matches1};
 ghost use Rattle.rows.specs.Aggregates.{columnFits};
@@ -32,7 +30,7 @@ ghost use lib.Dec.{T, eqb};
 ghost use lib.ListN.{getD};
 ghost use Rattle.rows.specs.View.{relationOf, operandsOf, Shaped};
 ghost use Rattle.rows.specs.Contracts.{Complete};
-ghost use Rattle.nets.specs.Nets.{acting, other, insert, insertTable, delete, update, create, drop, select, selectRelation, aggregate};
+ghost use Rattle.nets.specs.Nets.{acting, other, insert, insertTable, delete, update, create, drop, select, aggregate};
 ghost use Rattle.nets.specs.View.{kindAt};
 ghost use Rattle.nets.specs.Contracts.{partsOf, ActReady, EffectIs, isStep};
 

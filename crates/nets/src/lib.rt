@@ -8,6 +8,8 @@ use values::Operand;
 use values::Site;
 use values::Slot;
 
+pub mod acts;
+pub mod deciding;
 pub mod kinds;
 pub mod lists;
 pub mod loops;
@@ -20,6 +22,7 @@ pub mod soundnodes;
 pub mod soundoperands;
 pub mod soundrelations;
 pub mod soundthreads;
+pub mod stepping;
 pub mod threads;
 
 // At a site, a locality means a site.
