@@ -7,6 +7,3 @@ pub mod Demand3
 pub mod Examples
 pub mod View
 pub mod Answers
-pub mod Effects
-pub mod Contracts
-pub mod SoundParts

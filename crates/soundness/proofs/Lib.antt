@@ -1,0 +1,4 @@
+-- Laws that belong to no one function.
+pub mod Counts
+pub mod DistinctLaws
+pub mod EntryLaws

@@ -1,0 +1,12 @@
+-- `soundness::nodes::links_ok` meets its contract: each test is a clause of `linksOkAs`.
+use Rattle.nets.specs.Sound.{linksOkAs}
+use borrow.Author.Needs.{needs}
+use Rattle.soundness.proofs.nodes.links_ok.Statement.{statement}
+use Rattle.soundness.proofs.nodes.links_ok.Tie as tie
+
+returns : tie.Need-returns
+unfolding linksOkAs
+returns c = rw (c .is-loop .ensures)
+
+pub links-ok-spec : {M : Type 1} → statement M
+links-ok-spec = tie.close (tie.spec (λ c. search needs) (λ c. search needs) (λ c κs. search needs) returns)

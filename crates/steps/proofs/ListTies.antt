@@ -1,0 +1,126 @@
+-- Tables by their place: what is found at a site and name, changed and removed there, and the net after a step. Assumes nothing.
+use Prim.Native.Nat.{ℕ, _<_}
+use mathlib.Core.Path.{_≡_, refl, ap, sym, _∙_}
+use mathlib.Core.Bool.{Bool, true, false}
+use mathlib.Core.List.{List, [], _∷_}
+use mathlib.Core.Option.{Option, some}
+use lib.Dec.{T, ltb, ltb→lt}
+use lib.ListN.{length, getD, set}
+use Rattle.values.specs.declared.Site.{Site}
+use Rattle.values.specs.Lists.{isSome, nextPlace, placeOf, removeAt}
+use Rattle.values.proofs.PlaceLaws.{find-place, place-found}
+use Rattle.rows.specs.Relations.{Row}
+use Rattle.nets.specs.Nets.{Table, Kind, acting, other, insert, insertTable, delete, update, create, drop, select, selectRelation, aggregate, sequential, parallel, badKind, Net, Outcome, refused, done}
+use Rattle.nets.specs.Tables.{isAt, tableAt, rowsOf, columnsOf, withRows, changed, change, removed, remove}
+use Rattle.nets.specs.Steps.{Scene, site, table, tablesBy, addedBy, takenBy, threadsAfter, netAfter, performed, Check, verdict, judge}
+use Rattle.nets.specs.Accounts.{netLeft}
+use Rattle.nets.specs.Answers.{refusing, answerOf}
+use Rattle.steps.specs.Contracts.{isDoing, putsRows, laterChecks, outcomeAt}
+use Rattle.nets.proofs.TableLaws.{change-same}
+
+-- ── the place of a site and name ──
+
+module _ (s : Site) (n : ℕ) where
+  -- the first table there; the number of tables where there is none
+  abbrev pub placeAt : List Table → ℕ
+  placeAt ts = placeOf (isAt s n) ts
+
+  pub table-there : (ts : List Table) → isSome (tableAt s n ts) ≡ ltb (placeAt ts) (length ts)
+  table-there ts = sym (find-place (isAt s n) ts)
+
+  pub place-below : (ts : List Table) → T (isSome (tableAt s n ts)) → placeAt ts < length ts
+  place-below ts h = ltb→lt (placeAt ts) (length ts) (rw table-there at h)
+
+  pub table-at : (ts : List Table) (d : Table) → placeAt ts < length ts → tableAt s n ts ≡ some (getD ts (placeAt ts) d)
+  table-at ts d h = place-found (isAt s n) ts d h
+
+  pub change-place : (g : List Row → List Row) (ts : List Table) (d : Table) → change s n g ts ≡ set ts (placeAt ts) (withRows (g (getD ts (placeAt ts) d .content .rows)) (getD ts (placeAt ts) d))
+  unfolding change
+  change-place g [] d = refl
+  change-place g (t ∷ ts) d = go (isAt s n t) (change-place g ts d)
+    where
+      go : (b : Bool) → change s n g ts ≡ set ts (placeAt ts) (withRows (g (getD ts (placeAt ts) d .content .rows)) (getD ts (placeAt ts) d)) →
+          changed b g t ts (change s n g ts) ≡ set (t ∷ ts) (nextPlace b (placeAt ts)) (withRows (g (getD (t ∷ ts) (nextPlace b (placeAt ts)) d .content .rows)) (getD (t ∷ ts) (nextPlace b (placeAt ts)) d))
+      go true ih = refl
+      go false ih = ap (t ∷_) ih
+
+  pub remove-place : (ts : List Table) → remove s n ts ≡ removeAt (placeAt ts) ts
+  unfolding remove
+  remove-place [] = refl
+  remove-place (t ∷ ts) = go (isAt s n t) (remove-place ts)
+    where
+      go : (b : Bool) → remove s n ts ≡ removeAt (placeAt ts) ts → removed b t ts (remove s n ts) ≡ removeAt (nextPlace b (placeAt ts)) (t ∷ ts)
+      go true ih = refl
+      go false ih = ap (t ∷_) ih
+
+  -- the table at the place, with the rows that a change leaves there
+  abbrev pub rowsPut : List Table → List Table → Table → Table
+  rowsPut ts us t = record { site = t .site; name = t .name; content = record { columns = columnsOf (tableAt s n ts); rows = rowsOf (tableAt s n us) } }
+
+  change-put : (g : List Row → List Row) (ts : List Table) (d : Table) → T (isSome (tableAt s n ts)) → change s n g ts ≡ set ts (placeAt ts) (rowsPut ts (change s n g ts) (getD ts (placeAt ts) d))
+  change-put g ts d h = change-place g ts d ∙ ap (set ts (placeAt ts)) same
+    where
+      t : Table
+      t = getD ts (placeAt ts) d
+
+      found : tableAt s n ts ≡ some t
+      found = table-at ts d (place-below ts h)
+
+      rows : g (t .content .rows) ≡ rowsOf (tableAt s n (change s n g ts))
+      rows = ap (λ (o : Option Table). g (rowsOf o)) (sym found) ∙ sym (change-same s n g ts h)
+
+      same : withRows (g (t .content .rows)) t ≡ rowsPut ts (change s n g ts) t
+      same = λ i. record { site = t .site; name = t .name; content = record { columns = sym (ap columnsOf found) i; rows = rows i } }
+
+-- ── the tables after a step ──
+
+-- the place of the step's table
+abbrev pub tablePlace : Scene → ℕ
+tablePlace c = placeAt (site c) (c .node .name) (c .net .tables)
+
+-- the rows of the step's table give way, all else stays
+pub puts-tables :
+    (k : Kind) (c : Scene) (d : Table) → T (putsRows k) → T (isSome (table c)) →
+    tablesBy k c ≡ set (c .net .tables) (tablePlace c) (rowsPut (site c) (c .node .name) (c .net .tables) (tablesBy k c) (getD (c .net .tables) (tablePlace c) d))
+unfolding tablesBy table
+puts-tables (acting insert) c d s h = change-put (site c) (c .node .name) _ (c .net .tables) d h
+puts-tables (acting insertTable) c d s h = change-put (site c) (c .node .name) _ (c .net .tables) d h
+puts-tables (acting delete) c d s h = change-put (site c) (c .node .name) _ (c .net .tables) d h
+puts-tables (acting update) c d s h = change-put (site c) (c .node .name) _ (c .net .tables) d h
+puts-tables (acting create) c d s h = absurd s
+puts-tables (acting drop) c d s h = absurd s
+puts-tables (other select) c d s h = absurd s
+puts-tables (other selectRelation) c d s h = absurd s
+puts-tables (other aggregate) c d s h = absurd s
+puts-tables (other sequential) c d s h = absurd s
+puts-tables (other parallel) c d s h = absurd s
+puts-tables (other badKind) c d s h = absurd s
+
+pub drop-tables : (c : Scene) → tablesBy (acting drop) c ≡ removeAt (tablePlace c) (c .net .tables)
+unfolding tablesBy
+drop-tables c = remove-place (site c) (c .node .name) (c .net .tables)
+
+-- ── the net after a step ──
+
+pub net-after : (c : Scene) → netAfter c ≡ record { aliases = c .net .aliases; tables = tablesBy (c .node .kind) c; nodes = c .net .nodes; threads = threadsAfter c }
+unfolding netAfter
+net-after c = refl
+
+-- a judged outcome that is done is the one judged; any other leaves the net
+module _ (net : Net) where
+  judge-done : (ks : List Check) (a t : ℕ) (m : Net) → T (isDoing (answerOf (judge ks (done a t m)))) → netLeft net (judge ks (done a t m)) ≡ m
+  unfolding judge
+  judge-done [] a t m h = refl
+  judge-done (k ∷ ks) a t m h = go (k .passes) h (judge-done ks a t m)
+    where
+      go : (b : Bool) → T (isDoing (answerOf (verdict b (k .number) (k .values) (judge ks (done a t m))))) → (T (isDoing (answerOf (judge ks (done a t m)))) → netLeft net (judge ks (done a t m)) ≡ m) → netLeft net (verdict b (k .number) (k .values) (judge ks (done a t m))) ≡ m
+      go true h ih = ih h
+      go false h ih = absurd h
+
+  pub done-left : (c : Scene) → T (isDoing (answerOf (outcomeAt c))) → netLeft net (outcomeAt c) ≡ netAfter c
+  unfolding performed
+  done-left c h = judge-done (laterChecks c) (addedBy (c .node .kind) c) (takenBy (c .node .kind) c) (netAfter c) h
+
+  pub refused-left : (o : Outcome) (n : ℕ) (vs : List ℕ) → answerOf o ≡ refusing n vs → netLeft net o ≡ net
+  refused-left (refused m us) n vs e = refl
+  refused-left (done a t m) n vs e = cc
