@@ -13,12 +13,11 @@ use Rattle.rows.specs.Matching.{selected}
 use Rattle.rows.specs.Aggregates.{aggregated}
 use Rattle.nets.specs.Nets.{Kind, acting, other, insert, insertTable, delete, update, create, drop, select, selectRelation, aggregate, sequential, parallel, badKind, code, needsTable, readsRelation, bindsRelation, isLoop, Bindings, Outcome}
 use Rattle.nets.specs.Tables.{tableAt, contentOf, rowsOf, columnsOf}
-use Rattle.nets.specs.Steps.{Scene, below, vars, site, table, relation, source, hitRows, ownDraft, result, opens, readsOk, holds, check12, check13, check14, check15, check16, check17, check18, check19, check20, tablesBy, addedBy, takenBy, bindRelation, withVars, bindingsBy, withBindings, goOn, settle, threadsAfter, performed, verdict, judge}
+use Rattle.nets.specs.Steps.{Scene, below, vars, site, table, relation, source, hitRows, ownDraft, result, opens, holds, check12, check13, check14, check15, check16, check17, check18, check19, check20, tablesBy, addedBy, takenBy, bindRelation, withVars, bindingsBy, withBindings, goOn, settle, threadsAfter, performed, verdict, judge}
 use Rattle.nets.specs.Answers.{Said, doing, answerOf}
 use Rattle.steps.specs.Effects.{Parts, passing, saidBy, contentBy, boundBy, varsBy}
 use Rattle.steps.specs.Contracts.{isStep, putsRows, outcomeAt}
 use Rattle.nets.proofs.TableLaws.{change-same}
-use Rattle.nets.proofs.RoundLaws.{given, is-some}
 
 -- ── the answer, check by check ──
 
@@ -46,9 +45,6 @@ heldAt c = any (holds (c .net .nodes) (c .node .bound)) (c .thread .stack)
 abbrev partsWith : Scene → Bool → Parts
 partsWith c h = record { node = c .node; content = contentOf (table c); source = source c; vars = vars c; held = h; tables = length (c .net .tables) }
 
-abbrev pub partsAt : Scene → Parts
-partsAt c = partsWith c (heldAt c)
-
 -- parts of a scene; whether the table variable is held matters only where the kind binds one
 pub record PartsIn (k : Kind) (c : Scene) (p : Parts) : Type 0 where
   pub node : p .node ≡ c .node
@@ -58,21 +54,12 @@ pub record PartsIn (k : Kind) (c : Scene) (p : Parts) : Type 0 where
   pub held : T (bindsRelation k) → p .held ≡ heldAt c
   pub tables : p .tables ≡ length (c .net .tables)
 
-pub parts-at : (k : Kind) (c : Scene) → PartsIn k c (partsAt c)
-parts-at k c = record { node = refl; content = refl; source = refl; vars = refl; held = λ h. refl; tables = refl }
-
 parts-are : {k : Kind} {c : Scene} {p : Parts} → PartsIn k c p → p ≡ partsWith c (p .held)
 parts-are {p = p} q = λ i. record { node = q .node i; content = q .content i; source = q .source i; vars = q .vars i; held = p .held; tables = q .tables i }
 
 -- ── the source of rows ──
 
--- check 12 saw the table variable read
-pub read-relation : (c : Scene) → check12 c ≡ true → T (readsRelation (c .node .kind)) → (r : Relation) × (relation c ≡ some r)
-unfolding check12 readsOk relation
-read-relation c h s =
-    let q : T (check12 c) = T-of (check12 c) h in
-    is-some (relation c) (given (readsRelation (c .node .kind)) (isSome (relation c)) s (search (and-r)))
-
+-- it is the table variable read
 pub read-source : (c : Scene) → T (readsRelation (c .node .kind)) → (r : Relation) → relation c ≡ some r → source c ≡ r
 unfolding source
 read-source c s r e = rw (is-true (readsRelation (c .node .kind)) s, e)

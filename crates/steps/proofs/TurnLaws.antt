@@ -87,7 +87,7 @@ choice true true b = refl
 choice true false b = refl
 choice false a b = refl
 
-pub parallel-byte : (b : ℕ) → eqb b 26 ≡ isParallel (kindAt b)
+parallel-byte : (b : ℕ) → eqb b 26 ≡ isParallel (kindAt b)
 unfolding kindAt
 parallel-byte b = at-one isParallel 26 tt tt b
 
@@ -96,24 +96,43 @@ room-met s c m =
     choice (eqb (s .node .kind) 26) (ltb (s .threads) 8) (ltb (s .thread .depth) 8)
     ∙ ap (λ (b : Bool). cond b (ltb (s .threads) 8) (ltb (s .thread .depth) 8)) (parallel-byte (s .node .kind)) ∙ sym (met-room s c m)
 
--- the table variable read is `q`
-module _ (s : Situation) (c : Scene) (m : Meets s c) (loop : T (isLoop (kindAt (s .node .kind)))) (twelve : check12 c ≡ true) (q : Code.Relation) (held : relationRead s ≡ some (relationOf q))
-    {room : Bool} (space : room ≡ roomForRound c) (o : Round)
-    (got : RoundIs (varsOf (s .thread .vars)) (operandsOf (s .node .selector .template)) (relationOf q) (s .frame) (s .row) room o) where
+-- ── the turn ──
+
+-- a round of the code at a scene's loop, where check 12 passed; the table variable read is `source`
+pub record RoundAt (s : Situation) (c : Scene) (o : Round) : Type 0 where
+  pub meets : Meets s c
+  pub loop : T (isLoop (kindAt (s .node .kind)))
+  pub twelve : check12 c ≡ true
+  pub source : Code.Relation
+  pub held : relationRead s ≡ some (relationOf source)
+  pub room : Bool
+  pub space : room ≡ roomForRound c
+  pub got : RoundIs (varsOf (s .thread .vars)) (operandsOf (s .node .selector .template)) (relationOf source) (s .frame) (s .row) room o
+
+module _ (s : Situation) (c : Scene) (o : Round) (r : RoundAt s c o) where
+  abbrev m : Meets s c
+  m = r .meets
+
+  abbrev q : Relation
+  q = relationOf (r .source)
+
   loops : T (isLoop (c .node .kind))
-  loops = subst (λ (k : Kind). T (isLoop k)) (sym (met-kind s c m)) loop
+  loops = subst (λ (k : Kind). T (isLoop k)) (sym (met-kind s c m)) (r .loop)
 
-  turn-is : turnAt c ≡ turnOf (o .turn)
-  turn-is =
-      met-turn s c m loop (relationOf q) held
-      ∙ ap (turnIn (varsOf (s .thread .vars)) (operandsOf (s .node .selector .template)) (relationOf q) (visitOf (s .frame) (relationOf q)) (s .row)) (sym space)
-      ∙ sym (got .turn)
+  turn-is : {t : Turn} → o .turn ≡ t → turnAt c ≡ turnOf t
+  turn-is e =
+      met-turn s c m (r .loop) q (r .held)
+      ∙ ap (turnIn (varsOf (s .thread .vars)) (operandsOf (s .node .selector .template)) q (visitOf (s .frame) q) (s .row)) (sym (r .space))
+      ∙ sym (r .got .turn) ∙ ap turnOf e
 
-  says : turnedSaid (turnOf (o .turn)) ≡ answerOf (outcomeAt c)
-  says = sym (turn-answer c loops twelve ∙ ap turnedSaid turn-is)
+  says : {t : Turn} → o .turn ≡ t → turnedSaid (turnOf t) ≡ answerOf (outcomeAt c)
+  says e = sym (turn-answer c loops (r .twelve) ∙ ap turnedSaid (turn-is e))
 
   pub turn-stops : (why : Refusal) → o .turn ≡ Stopped why → refusing (numberOf why) [] ≡ answerOf (outcomeAt c)
-  turn-stops why e = sym (ap (λ (t : Turn). turnedSaid (turnOf t)) e) ∙ says
+  turn-stops why e = says e
+
+  kind-is : isParallel (c .node .kind) ≡ eqb (s .node .kind) 26
+  kind-is = ap isParallel (met-kind s c m) ∙ sym (parallel-byte (s .node .kind))
 
   puts-no-rows : T (putsRows (c .node .kind)) → ⊥
   puts-no-rows = puts-none (c .node .kind) loops
@@ -126,11 +145,11 @@ module _ (s : Situation) (c : Scene) (m : Meets s c) (loop : T (isLoop (kindAt (
       ChangeIs c (record { answer = Done 0 0; content = content; thread = after; forks = false; fork = fork })
   turn-over e content after fork goes-on =
       record {
-        answer = sym (ap (λ (t : Turn). turnedSaid (turnOf t)) e) ∙ says;
+        answer = says e;
         content = λ h k. absurd (puts-no-rows k);
         room = λ h. absurd h;
         threads = λ h.
-            over-threads c loops (turn-is ∙ ap turnOf e)
+            over-threads c loops (turn-is e)
             ∙ ap₂ (λ (d : M.Node) (x : M.Thread). settle (c .at) (goOn (d .next) x (below (x .stack))) (c .net .threads)) (m .node) (m .thread)
             ∙ ap (λ (us : List M.Thread). settle (c .at) us (c .net .threads)) (sym goes-on)
             ∙ sym (append-nil (settle (c .at) (standing (threadOf after)) (c .net .threads)));
@@ -138,55 +157,61 @@ module _ (s : Situation) (c : Scene) (m : Meets s c) (loop : T (isLoop (kindAt (
 
   -- ── a round ──
 
+  abbrev entry : M.Entry
+  entry = visiting (entryNode (entryOf (s .frame))) (marked 0 (o .visit))
+
+  abbrev bound : M.Bindings
+  bound = withVars (threadOf (s .thread) .bindings) (varsOf (o .vars))
+
   module _ (e : o .turn ≡ Opened) where
-    entry-is : loopEntry c ≡ visiting (entryNode (entryOf (s .frame))) (marked 0 (o .visit))
+    entry-is : loopEntry c ≡ entry
     entry-is =
         ap₂ (λ (x : M.Entry) (v : List ℕ). visiting (entryNode x) v) (m .entry)
-        (ap₂ (λ (i : ℕ) (v : List ℕ). filter (λ j. not (eqb j i)) v) (sym (m .row)) (loop-visit c loops (relationOf q) (met-relation s c m ∙ held) ∙ ap (λ (x : M.Entry). stillToVisit x (length (relationOf q .rows))) (m .entry))
-        ∙ sym (got .visit (ap turnOf e)))
+        (ap₂ (λ (i : ℕ) (v : List ℕ). filter (λ j. not (eqb j i)) v) (sym (m .row)) (loop-visit c loops q (met-relation s c m ∙ r .held) ∙ ap (λ (x : M.Entry). stillToVisit x (length (q .rows))) (m .entry))
+        ∙ sym (r .got .visit (ap turnOf e)))
 
-    bindings-are : roundBindings c ≡ withVars (threadOf (s .thread) .bindings) (varsOf (o .vars))
+    bindings-are : roundBindings c ≡ bound
     bindings-are =
         ap₂ withVars (ap (λ (t : M.Thread). t .bindings) (m .thread))
         (ap₂ (λ (v : Vars) (t : List Operand). rowVars v t (rowAt c (c .row))) (met-vars s c m) (met-template s c m)
         ∙ ap (rowVars (varsOf (s .thread .vars)) (operandsOf (s .node .selector .template)))
-        (loop-row c loops (relationOf q) (met-relation s c m ∙ held) (c .row) ∙ ap (λ (i : ℕ). getD (relationOf q .rows) i []) (sym (m .row)))
-        ∙ sym (got .vars (ap turnOf e)))
+        (loop-row c loops q (met-relation s c m ∙ r .held) (c .row) ∙ ap (λ (i : ℕ). getD (q .rows) i []) (sym (m .row)))
+        ∙ sym (r .got .vars (ap turnOf e)))
 
     -- in the thread: the formals are bound and the body goes on the stack
     pub turn-runs :
-        isParallel (kindAt (s .node .kind)) ≡ false → (content : Code.Relation) (after fork : Thread) →
-        threadOf after ≡ roundIn (threadOf (s .thread)) (varsOf (o .vars)) (toRun (s .node .body)) (visiting (entryNode (entryOf (s .frame))) (marked 0 (o .visit))) →
+        eqb (s .node .kind) 26 ≡ false → (content : Code.Relation) (after fork : Thread) →
+        threadOf after ≡ roundIn (threadOf (s .thread)) (varsOf (o .vars)) (toRun (s .node .body)) entry →
         ChangeIs c (record { answer = Done 0 0; content = content; thread = after; forks = false; fork = fork })
     turn-runs h content after fork p =
         record {
-          answer = sym (ap (λ (t : Turn). turnedSaid (turnOf t)) e) ∙ says;
+          answer = says e;
           content = λ d k. absurd (puts-no-rows k);
           room = λ d. absurd d;
           threads = λ d.
-              sequential-threads c loops (turn-is ∙ ap turnOf e) (ap isParallel (met-kind s c m) ∙ h)
+              sequential-threads c loops (turn-is e) (kind-is ∙ h)
               ∙ ap (λ (t : M.Thread). settle (c .at) (t ∷ []) (c .net .threads))
               (ap₂ (λ (x : M.Entry) (b : M.Bindings). withStack (withBindings (c .thread) b) (toRun (c .node .body) ∷ x ∷ below (c .thread .stack))) entry-is bindings-are
-              ∙ ap₂ (λ (t : M.Thread) (n : M.Node). withStack (withBindings t (withVars (threadOf (s .thread) .bindings) (varsOf (o .vars)))) (toRun (n .body) ∷ visiting (entryNode (entryOf (s .frame))) (marked 0 (o .visit)) ∷ below (t .stack))) (m .thread) (m .node))
+              ∙ ap₂ (λ (t : M.Thread) (n : M.Node). withStack (withBindings t bound) (toRun (n .body) ∷ entry ∷ below (t .stack))) (m .thread) (m .node))
               ∙ ap (λ (us : List M.Thread). settle (c .at) us (c .net .threads)) (sym (ap standing p))
               ∙ sym (append-nil (settle (c .at) (standing (threadOf after)) (c .net .threads)));
         }
 
     -- in a new thread: the loop's own keeps its variables
     pub turn-forks :
-        isParallel (kindAt (s .node .kind)) ≡ true → (content : Code.Relation) (after fork : Thread) → 1 ≤ after .depth →
-        threadOf after ≡ withStack (threadOf (s .thread)) (visiting (entryNode (entryOf (s .frame))) (marked 0 (o .visit)) ∷ below (threadOf (s .thread) .stack)) →
+        eqb (s .node .kind) 26 ≡ true → (content : Code.Relation) (after fork : Thread) → 1 ≤ after .depth →
+        threadOf after ≡ withStack (threadOf (s .thread)) (entry ∷ below (threadOf (s .thread) .stack)) →
         threadOf fork ≡ record { site = s .thread .site; bindings = bindingsOf (o .vars) (s .thread .relations); stack = toRun (s .node .body) ∷ [] } →
         ChangeIs c (record { answer = Done 0 0; content = content; thread = after; forks = true; fork = fork })
     turn-forks h content after fork deep p f =
         record {
-          answer = sym (ap (λ (t : Turn). turnedSaid (turnOf t)) e) ∙ says;
+          answer = says e;
           content = λ d k. absurd (puts-no-rows k);
           room = λ d. (ltb-true (length (c .net .threads)) 8 (sym (ap (λ (n : ℕ). ltb n 8) (m .threads)) ∙ space-is), deep);
           threads = λ d.
-              parallel-threads c loops (turn-is ∙ ap turnOf e) (ap isParallel (met-kind s c m) ∙ h)
+              parallel-threads c loops (turn-is e) (kind-is ∙ h)
               ∙ ap₂ (λ (x : M.Entry) (b : M.Bindings). both (c .thread) (c .node .body) x b) entry-is bindings-are
-              ∙ ap₂ (λ (t : M.Thread) (n : M.Node). both t (n .body) (visiting (entryNode (entryOf (s .frame))) (marked 0 (o .visit))) (withVars (threadOf (s .thread) .bindings) (varsOf (o .vars)))) (m .thread) (m .node)
+              ∙ ap₂ (λ (t : M.Thread) (n : M.Node). both t (n .body) entry bound) (m .thread) (m .node)
               ∙ ap₂ (λ (us : List M.Thread) (u : M.Thread). settle (c .at) us (c .net .threads) ++ (u ∷ [])) (sym (ap standing p)) (sym f);
         }
       where
@@ -194,4 +219,6 @@ module _ (s : Situation) (c : Scene) (m : Meets s c) (loop : T (isLoop (kindAt (
         both t n x b = settle (c .at) (withStack t (x ∷ below (t .stack)) ∷ []) (c .net .threads) ++ (withStack (withBindings t b) (toRun n ∷ []) ∷ [])
 
         space-is : ltb (s .threads) 8 ≡ true
-        space-is = sym (met-room s c m ∙ ap (λ (b : Bool). cond b (ltb (s .threads) 8) (ltb (s .thread .depth) 8)) h) ∙ sym space ∙ round-room got e
+        space-is =
+            sym (ap (λ (b : Bool). cond b (ltb (s .threads) 8) (ltb (s .thread .depth) 8)) (sym (parallel-byte (s .node .kind)) ∙ h))
+            ∙ sym (met-room s c m) ∙ sym (r .space) ∙ round-room (r .got) e
