@@ -112,6 +112,7 @@ pub fn decide_loop(s: Situation) -> Change
             let bound = r.vars;
             let entry = Entry::Loop(node_of(frame));
             let waiting = with_top(thread, Frame { entry, visit });
+            let inner = with_vars(waiting, bound);
             if parallel {
                 return Change {
                     answer: Answer::Done(0, 0),
@@ -124,7 +125,7 @@ pub fn decide_loop(s: Situation) -> Change
             Change {
                 answer: Answer::Done(0, 0),
                 content,
-                thread: push_frame(with_vars(waiting, bound), run_frame(node.body)),
+                thread: push_frame(inner, run_frame(node.body)),
                 forks: false,
                 fork: thread,
             }

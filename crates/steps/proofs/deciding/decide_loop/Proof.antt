@@ -52,14 +52,14 @@ push-frame-requires c κs =
     let o = c .before .before .before .before .before .before .before in
     let r = o .before .before in
     let deep : met r .thread .depth < 8 =
-    ltb-true (met r .thread .depth) 8 (room-runs (eqb (met r .node .kind) 26) (ltb (met r .threads) 8) (ltb (met r .thread .depth) 8) (c .before .before .if1 .left)
+    ltb-true (met r .thread .depth) 8 (room-runs (eqb (met r .node .kind) 26) (ltb (met r .threads) 8) (ltb (met r .thread .depth) 8) (c .before .if1 .left)
     (round-room (r .round .ensures) (o .enum-told2 .given .1))) in
-    subst (λ (n : ℕ). n < 8) (sym (c .before .with-vars .ensures .1 ∙ c .before .before .before .with-top .ensures .1)) deep
+    subst (λ (n : ℕ). n < 8) (sym (c .before .before .with-vars .ensures .1 ∙ c .before .before .before .with-top .ensures .1)) deep
 
 -- a round in a new thread
 returns : tie.Need-returns
 returns c n m =
-    let w = c .before .before in
+    let w = c .before .before .before in
     let o = w .before .before .before .before in
     let r = o .before .before in
     turn-forks (met r) n (r .round .result) (round-at r n m) (o .enum-told2 .given .1) (c .before .if1 .taken) _ (w .with-top .result) (c .forked .result)
@@ -85,8 +85,8 @@ returns-4 c n m =
     let w = c .before .before .before .before in
     let o = w .before .before .before .before in
     let r = o .before .before in
-    turn-runs (met r) n (r .round .result) (round-at r n m) (o .enum-told2 .given .1) (c .before .before .before .if1 .left) _ (c .push-frame .result) _
-    (round-in (threadOf (met r .thread)) (loop-in (threadOf (met r .thread)) (w .before .node-of .ensures) (w .with-top .ensures .0)) (c .before .before .with-vars .ensures .0)
+    turn-runs (met r) n (r .round .result) (round-at r n m) (o .enum-told2 .given .1) (c .before .before .if1 .left) _ (c .push-frame .result) _
+    (round-in (threadOf (met r .thread)) (loop-in (threadOf (met r .thread)) (w .before .node-of .ensures) (w .with-top .ensures .0)) (c .before .before .before .with-vars .ensures .0)
     (c .before .run-frame .ensures) (c .push-frame .ensures .0))
 
 pub decide-loop-spec : {M : Type 1} → statement M
@@ -103,8 +103,8 @@ decide-loop-spec =
     (λ c κs. search needs)
     with-top-requires
     (λ c κs. search needs)
-    returns
     (λ c κs. search needs)
+    returns
     (λ c κs. search needs)
     push-frame-requires
     returns-2
