@@ -1,7 +1,7 @@
 -- The magnitude of a signed number of 32 bits, taken at 64.
 use Prim.Native.Nat.{ℕ, zero, suc, _≤_}
 use mathlib.Core.Path.{_≡_, sym, ap, _∙_, subst}
-use mathlib.Core.Bool.{true, false}
+use mathlib.Core.Bool.{true}
 use native.Mathlib.Omega.{arith}
 use lib.Dec.{T}
 use lib.IntN.{ℤ, pos, negsuc, negℤ, natAbs, _-ℤ_}
@@ -9,7 +9,7 @@ use lib.Signed.{mag, nonNeg, ltZ}
 use mir.Syntax.{w32, w64}
 use mir.Val.{SFits, Fits, ofZ, toZ}
 use borrow.Author.Tests.{ltb-true}
-use Rattle.values.proofs.Ints.{back, wide, wide-is, mag-add}
+use Rattle.values.proofs.Ints.{back, wide, wide-is, mag-add, size}
 
 mag-neg : (z : ℤ) → mag (negℤ z) ≤ suc (mag z)
 mag-neg (pos n) = go n
@@ -23,14 +23,6 @@ mag-neg (negsuc n) = omega arith
 neg-is : (z : ℤ) → ltZ z (pos 0) ≡ true → pos 0 -ℤ z ≡ pos (natAbs z)
 neg-is (pos n) e = absurd (omega (arith, ltb-true n 0 e))
 neg-is (negsuc n) e = ap pos (omega arith)
-
-not-below : (z : ℤ) → ltZ z (pos 0) ≡ false → T (nonNeg z)
-not-below (pos n) e = tt
-not-below (negsuc n) e = subst T e tt
-
-size : (z : ℤ) → natAbs z ≤ suc (mag z)
-size (pos n) = omega arith
-size (negsuc n) = omega arith
 
 module _ (z : ℤ) (p : SFits w32 z) where
   abbrev less : ℤ
@@ -48,9 +40,6 @@ module _ (z : ℤ) (p : SFits w32 z) where
 
   pub below-is : ltZ (toZ w32 (ofZ w32 z)) (pos 0) ≡ true → natAbs (toZ w64 (ofZ w64 less)) ≡ natAbs z
   below-is e = ap natAbs (held-is e)
-
-  pub above-cast : ltZ (toZ w32 (ofZ w32 z)) (pos 0) ≡ false → T (nonNeg (toZ w32 (ofZ w32 z))) × Fits w64 (natAbs (toZ w32 (ofZ w32 z)))
-  above-cast e = (not-below (toZ w32 (ofZ w32 z)) e, rw (back w32 z p) (record { fits = omega (arith, size z) }))
 
   pub above-is : natAbs (toZ w32 (ofZ w32 z)) ≡ natAbs z
   above-is = ap natAbs (back w32 z p)

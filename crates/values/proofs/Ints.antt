@@ -3,11 +3,11 @@ use Prim.Native.Nat.{ℕ, suc, _≤_, _+_, _-_}
 use native.Mathlib.Omega.{arith}
 use mathlib.Core.Path.{_≡_, refl, sym, ap, ap₂, _∙_, subst}
 use mathlib.Core.Bool.{Bool, true, false, cond, not, _&&_}
-use lib.Dec.{leb, ltb}
-use lib.IntN.{ℤ, pos, negsuc, subℕ, _+ℤ_}
-use lib.Signed.{mag, ltZ, leZ}
+use lib.Dec.{T, leb, ltb}
+use lib.IntN.{ℤ, pos, negsuc, natAbs, subℕ, _+ℤ_}
+use lib.Signed.{mag, nonNeg, ltZ, leZ}
 use mir.Syntax.{Width, w32, w64}
-use mir.Val.{SFits, ofZ, toZ}
+use mir.Val.{SFits, Fits, ofZ, toZ}
 use mir.Facts.{toZ-ofZ}
 use borrow.Author.Tests.{ltb-true, ltb-false, le-leb, lt-leb}
 use Rattle.values.specs.declared.Value.the-variants.{Int}
@@ -37,6 +37,20 @@ wide-is z p = ap (λ (y : ℤ). toZ w64 (ofZ w64 y)) (back w32 z p) ∙ back w64
 
 pub cast-fits : (z : ℤ) → SFits w32 z → SFits w64 (toZ w32 (ofZ w32 z))
 cast-fits z p = subst (SFits w64) (sym (back w32 z p)) (widened z p)
+
+-- ── from 32 bits, not below zero, to 64 without a sign ──
+
+not-below : (z : ℤ) → ltZ z (pos 0) ≡ false → T (nonNeg z)
+not-below (pos n) e = tt
+not-below (negsuc n) e = subst T e tt
+
+pub size : (z : ℤ) → natAbs z ≤ suc (mag z)
+size (pos n) = omega arith
+size (negsuc n) = omega arith
+
+-- `z as u64`
+pub above-cast : (z : ℤ) → SFits w32 z → ltZ (toZ w32 (ofZ w32 z)) (pos 0) ≡ false → T (nonNeg (toZ w32 (ofZ w32 z))) × Fits w64 (natAbs (toZ w32 (ofZ w32 z)))
+above-cast z p e = (not-below (toZ w32 (ofZ w32 z)) e, rw (back w32 z p) (record { fits = omega (arith, size z) }))
 
 -- ── sums ──
 

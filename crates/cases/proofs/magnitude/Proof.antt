@@ -1,6 +1,6 @@
 -- `cases::magnitude` meets its contract: below zero the number is negated at 64 bits, where it can't wrap.
-use Rattle.values.proofs.Ints.{cast-fits}
-use Rattle.cases.proofs.Numbers.{less-fits, below-cast, below-is, above-cast, above-is}
+use Rattle.values.proofs.Ints.{cast-fits, above-cast}
+use Rattle.cases.proofs.Numbers.{less-fits, below-cast, below-is, above-is}
 use Rattle.cases.proofs.magnitude.Statement.{statement}
 use Rattle.cases.proofs.magnitude.Tie as tie
 

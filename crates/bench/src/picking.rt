@@ -1,0 +1,27 @@
+// The picks of a chain.
+use nets::Pick;
+
+pub fn is_loop(kind: u8) -> bool {
+    (kind == 25) | (kind == 26)
+}
+
+// Nodes 1 to 126, so that the thread goes on; of loops four, each 16 rounds of two picks and one pick more.
+pub fn chain_length(kind: u8) -> u64 {
+    if is_loop(kind) {
+        return 132;
+    }
+    126
+}
+
+// Pick n of a chain, on thread 0; the fork of a parallel loop is thread 7.
+pub fn pick_at(kind: u8, n: u64) -> Pick {
+    if !is_loop(kind) {
+        return Pick { thread: 0, row: 0 };
+    }
+    let m = n % 33;
+    let row = (m / 2) as u8;
+    if (kind == 26) & (m % 2 == 1) {
+        return Pick { thread: 7, row };
+    }
+    Pick { thread: 0, row }
+}

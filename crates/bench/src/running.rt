@@ -1,0 +1,58 @@
+// Chains of picks.
+use crate::Ran;
+use crate::picking::chain_length;
+use crate::picking::pick_at;
+use crate::summing::with_answer;
+use nets::Net;
+use nets::Pick;
+use steps::stepping::step;
+use steps::stepping::step_sound;
+ghost use lib.Dec.{T};
+ghost use Rattle.nets.specs.Sound.{sound};
+ghost use Rattle.nets.specs.View.{view};
+
+// Every thread has taken node 0, which binds its table variable 0.
+pub fn prepared(start: Net) -> Net {
+    let mut net = start;
+    let mut i: u8 = 0;
+    while i < 8 {
+        let s = step(net, Pick { thread: i, row: 0 });
+        net = s.net;
+        i += 1;
+    }
+    net
+}
+
+// A chain, soundness tested at each step.
+pub fn chain(from: Ran, kind: u8) -> Ran {
+    let count = chain_length(kind);
+    let mut net = from.net;
+    let mut sum = from.sum;
+    let mut n: u64 = 0;
+    while n < count {
+        let s = step(net, pick_at(kind, n));
+        let a = s.answer;
+        sum = with_answer(sum, a);
+        net = s.net;
+        n += 1;
+    }
+    Ran { net, sum }
+}
+
+// The same on a net known to be sound.
+pub fn chain_sound(from: Ran, kind: u8) -> Ran
+    requires { ⌜ T (sound (view (from .net))) ⌝ }
+{
+    let count = chain_length(kind);
+    let mut net = from.net;
+    let mut sum = from.sum;
+    let mut n: u64 = 0;
+    while n < count {
+        let s = step_sound(net, pick_at(kind, n));
+        let a = s.answer;
+        sum = with_answer(sum, a);
+        net = s.net;
+        n += 1;
+    }
+    Ran { net, sum }
+}
