@@ -7,7 +7,8 @@ use lib.ListN.{length}
 use Rattle.nets.specs.declared.Pick.{Pick}
 use Rattle.nets.specs.Nets.{Net, refused}
 use Rattle.nets.specs.Sound.{sound}
-use Rattle.nets.specs.Steps.{sceneOf, check12, check13, check14, check15, check16, check17, check18, check19, check20, performed, judge, checks, step}
+use Rattle.nets.specs.Scenes.{sceneOf}
+use Rattle.nets.specs.Steps.{check12, check13, check14, check15, check16, check17, check18, check19, check20, performed, judge, checks, step}
 
 module _ (net : Net) (p : Pick) where
   pub refuses-10 : sound net ≡ false → step net p ≡ refused 10 []

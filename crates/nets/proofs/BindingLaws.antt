@@ -25,7 +25,8 @@ use Rattle.rows.proofs.RangeLaws.{selected-ok}
 use Rattle.rows.proofs.AggregateLaws.{aggregated-ok}
 use Rattle.nets.specs.Nets.{Kind}
 use Rattle.nets.specs.Sound.{variableOk, columnsOk, relationOk, bindingsOk, tagged, operandsOk}
-use Rattle.nets.specs.Steps.{Scene, vars, template, source, hitRows, result, isBound, bindRelation, withVars}
+use Rattle.nets.specs.Scenes.{Scene, vars, template, source, hitRows, result}
+use Rattle.nets.specs.Steps.{isBound, bindRelation, withVars}
 use Rattle.nets.proofs.SureLaws.{Sure}
 
 -- ── operands ──

@@ -7,7 +7,8 @@ use Rattle.nets.specs.declared.Pick.{Pick}
 use Rattle.nets.specs.Nets.{Net, Outcome}
 use Rattle.nets.specs.Tables.{rowsFit, distinct}
 use Rattle.nets.specs.Sound.{sound}
-use Rattle.nets.specs.Steps.{Scene, sceneOf, tablesBy, threadsAfter, netAfter, performed, checks, step}
+use Rattle.nets.specs.Scenes.{Scene, sceneOf}
+use Rattle.nets.specs.Steps.{tablesBy, threadsAfter, netAfter, performed, checks, step}
 use Rattle.nets.specs.Accounts.{netLeft, nextNet, after}
 use Rattle.nets.proofs.StepLaws.{Pass, pass, judged, performs}
 use Rattle.nets.proofs.SoundLaws.{Clauses, clauses, whole}

@@ -24,7 +24,8 @@ use Rattle.nets.specs.declared.Alias.{Alias}
 use Rattle.nets.specs.Nets.{Table, Kind, acting, other, insert, insertTable, delete, update, create, drop, Node}
 use Rattle.nets.specs.Tables.{columnsOf, withRows}
 use Rattle.nets.specs.Sound.{columnsOk, tableOk, variableOk, aliasOk, operandsOk, fieldsOkAs, nodeOkAs}
-use Rattle.nets.specs.Steps.{Scene, vars, aliasFor, meant, siteOfGot, siteOfL, site, table, source, ownDraft, tablesBy}
+use Rattle.nets.specs.Scenes.{Scene, vars, aliasFor, meant, siteOfGot, siteOfL, site, table, source, ownDraft}
+use Rattle.nets.specs.Steps.{tablesBy}
 use Rattle.nets.proofs.TableLaws.{change-all, change-length, remove-all, remove-length}
 use Rattle.nets.proofs.SureLaws.{Sure}
 use Rattle.nets.proofs.BindingLaws.{ranged, constants-ok, vars-ok}
@@ -59,13 +60,13 @@ site-ok {k} {c} s h = or-zero (siteOfL c) (got-ok (c .net .aliases) (c .thread .
 
 -- ── the tables ──
 
-rows-ok : (rs : List Row) (t : Table) → T (tableOk t) → length rs ≤ 16 → T (all (λ x. all inRange x) rs) → T (tableOk (withRows rs t))
+pub rows-ok : (rs : List Row) (t : Table) → T (tableOk t) → length rs ≤ 16 → T (all (λ x. all inRange x) rs) → T (tableOk (withRows rs t))
 rows-ok rs t h l r = let few = le→leb (length rs) 16 l in search (and-l, and-r, and-in) depth 8
 
 table-few : (t : Table) → T (tableOk t) → length (t .content .rows) ≤ 16
 table-few t h = leb→le (length (t .content .rows)) 16 (search (and-l, and-r))
 
-table-range : (t : Table) → T (tableOk t) → T (all (λ x. all inRange x) (t .content .rows))
+pub table-range : (t : Table) → T (tableOk t) → T (all (λ x. all inRange x) (t .content .rows))
 table-range t h = search (and-l, and-r)
 
 create-name : (n i : ℕ) (d : Node) → T (nodeOkAs (acting create) n i d) → T (isText (d .name))

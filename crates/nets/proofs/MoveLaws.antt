@@ -20,7 +20,8 @@ use Rattle.rows.specs.Changes.{tupleFor, changes, renewed, updated}
 use Rattle.rows.proofs.FitLaws.{fits-row, same-columns, renewed-fits}
 use Rattle.nets.specs.Nets.{Table, Kind, acting, other, insert, insertTable, delete, update, create, drop, acts, needsTable, isCreate}
 use Rattle.nets.specs.Tables.{tableAt, rowsOf, columnsOf, distinct, rowsFit, change, remove}
-use Rattle.nets.specs.Steps.{Scene, vars, template, site, table, source, ownDraft, insertFits, tablesBy, addedBy, takenBy}
+use Rattle.nets.specs.Scenes.{Scene, vars, template, site, table, source, ownDraft}
+use Rattle.nets.specs.Steps.{insertFits, tablesBy, addedBy, takenBy}
 use Rattle.nets.specs.Accounts.{changedRows, rowsAdded, rowsTaken}
 use Rattle.nets.proofs.TableLaws.{sameKey, key-refl, none-of, change-same, change-other, change-all, change-distinct, remove-same, remove-other, remove-all, remove-distinct, append-same, append-other, append-distinct}
 

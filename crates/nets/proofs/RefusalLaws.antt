@@ -9,7 +9,8 @@ use Rattle.values.proofs.Bools.{and-l, and-r}
 use Rattle.nets.specs.declared.Pick.{Pick}
 use Rattle.nets.specs.Nets.{Net, Outcome, refused, done}
 use Rattle.nets.specs.Sound.{isEmpty}
-use Rattle.nets.specs.Steps.{sceneOf, performed, Check, verdict, judge, checks, step}
+use Rattle.nets.specs.Scenes.{sceneOf}
+use Rattle.nets.specs.Steps.{performed, Check, verdict, judge, checks, step}
 use Rattle.nets.specs.Accounts.{nextNet, addedAt, takenAt, isDone}
 
 -- a refusal has a number of 10..20 and no values

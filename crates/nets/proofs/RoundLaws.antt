@@ -16,7 +16,8 @@ use Rattle.rows.specs.Relations.{Relation, noRelation}
 use Rattle.nets.specs.Nets.{Kind, code, readsRelation, isLoop, isParallel, Node, Entry, toRun, visiting, Thread}
 use Rattle.nets.specs.Tables.{contentOf}
 use Rattle.nets.specs.Sound.{noNode, entryNode, variableOk, bindingsOk, linksOkAs, hasPlaces, entryOk, threadOk}
-use Rattle.nets.specs.Steps.{Scene, below, template, table, relation, source, stillToVisit, visit, rowAt, anyReady, opens, roomForRound, bindingsBy, withStack, withBindings, keepThread, goOn, settle, plain, roundBindings, loopEntry, sequentialRound, parallelRound, threadsAfter}
+use Rattle.nets.specs.Scenes.{Scene, below, template, table, relation, source, stillToVisit, visit, rowAt, anyReady, opens}
+use Rattle.nets.specs.Steps.{roomForRound, bindingsBy, withStack, withBindings, keepThread, goOn, settle, plain, roundBindings, loopEntry, sequentialRound, parallelRound, threadsAfter}
 use Rattle.nets.proofs.SureLaws.{Sure, entry-node}
 use Rattle.nets.proofs.BindingLaws.{bind-vars}
 use Rattle.nets.proofs.StackLaws.{goes-on}

@@ -14,7 +14,8 @@ use Rattle.rows.specs.Relations.{Row}
 use Rattle.nets.specs.declared.Pick.{Pick}
 use Rattle.nets.specs.Nets.{Net}
 use Rattle.nets.specs.Tables.{tableAt, rowsFit, distinct}
-use Rattle.nets.specs.Steps.{sceneOf, step}
+use Rattle.nets.specs.Scenes.{sceneOf}
+use Rattle.nets.specs.Steps.{step}
 use Rattle.nets.specs.Accounts.{nextNet, after, answers, reportedAdded, reportedTaken, post, samePosting, times, addedAt, takenAt, added, taken, actedAt, acted, standing}
 use Rattle.nets.specs.Demand3.{EveryRun, keysOf}
 use Rattle.nets.proofs.SourceLaws.{sound-fits, sound-distinct}

@@ -14,7 +14,7 @@ use Rattle.nets.specs.declared.Pick.{Pick}
 use Rattle.nets.specs.Nets.{Table, Thread, Net, readsRelation}
 use Rattle.nets.specs.Tables.{isAt, contentOf, rowsFit, distinct}
 use Rattle.nets.specs.Sound.{sound, relationOk, threadOk, noThread}
-use Rattle.nets.specs.Steps.{Scene, sceneOf, site, table, relation, source}
+use Rattle.nets.specs.Scenes.{Scene, sceneOf, site, table, relation, source}
 
 pub sound-fits : (net : Net) → T (sound net) → T (all rowsFit (net .tables))
 unfolding sound

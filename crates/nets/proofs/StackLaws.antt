@@ -16,7 +16,8 @@ use Rattle.values.proofs.ListLaws.{all-weaken, all-and, not-any}
 use Rattle.rows.specs.Relations.{Relation}
 use Rattle.nets.specs.Nets.{Kind, acting, other, insert, insertTable, delete, update, create, drop, select, selectRelation, aggregate, sequential, parallel, badKind, Node, Entry, toRun, visiting, Bindings, Thread}
 use Rattle.nets.specs.Sound.{noNode, relationOk, bindingsOk, fieldsOkAs, linksOkAs, entryOk, threadOk}
-use Rattle.nets.specs.Steps.{Scene, below, holds, bindRelation, bindingsBy, withBindings, keepThread, goOn}
+use Rattle.nets.specs.Scenes.{Scene, below}
+use Rattle.nets.specs.Steps.{holds, bindRelation, bindingsBy, withBindings, keepThread, goOn}
 use Rattle.nets.proofs.SureLaws.{Sure}
 use Rattle.nets.proofs.BindingLaws.{deleted, stored, bind-relation, deleted-ok, stored-ok, result-ok}
 

@@ -15,7 +15,8 @@ use Rattle.nets.specs.declared.Pick.{Pick}
 use Rattle.nets.specs.Nets.{Table, Kind, acts, Net, Outcome, refused}
 use Rattle.nets.specs.Tables.{tableAt, rowsOf, rowsFit, distinct}
 use Rattle.nets.specs.Sound.{sound}
-use Rattle.nets.specs.Steps.{Scene, sceneOf, site, insertFits, check12, check13, check14, check15, check16, check17, check18, check19, check20, tablesBy, netAfter, performed, Check, verdict, judge, checks, step}
+use Rattle.nets.specs.Scenes.{Scene, sceneOf, site}
+use Rattle.nets.specs.Steps.{insertFits, check12, check13, check14, check15, check16, check17, check18, check19, check20, tablesBy, netAfter, performed, Check, verdict, judge, checks, step}
 use Rattle.nets.specs.Accounts.{netLeft, addedIn, takenIn, post, times, rowsAdded, rowsTaken, isDone, ifDone, postings, standing}
 use Rattle.nets.proofs.TableLaws.{sameKey, key-site, key-name}
 use Rattle.nets.proofs.SourceLaws.{source-fits}

@@ -19,7 +19,8 @@ use Rattle.nets.specs.declared.Pick.{Pick}
 use Rattle.nets.specs.Nets.{Table, Kind, needsTable, hasTemplate, readsRelation, bindsRelation, Node, Entry, toRun, visiting, Thread, Net}
 use Rattle.nets.specs.Tables.{isAt, contentOf}
 use Rattle.nets.specs.Sound.{noNode, noThread, entryNode, columnsOk, rowsOk, tableOk, relationOk, bindingsOk, nodeOkAs, nodesOk, entryOk, stackOk, threadOk}
-use Rattle.nets.specs.Steps.{Scene, sceneOf, top, below, vars, template, site, table, relation, source, hitRows, opens, isBound, known, readsOk, check12, check14, check16, holds, check17, roomBy, roomForRound, check20}
+use Rattle.nets.specs.Scenes.{Scene, sceneOf, top, below, vars, template, site, table, relation, source, hitRows, opens}
+use Rattle.nets.specs.Steps.{isBound, known, readsOk, check12, check14, check16, holds, check17, roomBy, roomForRound, check20}
 use Rattle.nets.proofs.SourceLaws.{source-fits}
 use Rattle.nets.proofs.StepLaws.{Pass}
 use Rattle.nets.proofs.SoundLaws.{Clauses, clauses}

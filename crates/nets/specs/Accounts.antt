@@ -13,7 +13,8 @@ use Rattle.rows.specs.Changes.{changes, tupleFor}
 use Rattle.nets.specs.declared.Pick.{Pick}
 use Rattle.nets.specs.Nets.{acts, Kind, acting, other, insert, insertTable, delete, update, create, drop, Net, Outcome, refused, done}
 use Rattle.nets.specs.Tables.{tableAt, rowsOf, columnsOf}
-use Rattle.nets.specs.Steps.{Scene, sceneOf, vars, template, site, table, source, ownDraft, step}
+use Rattle.nets.specs.Scenes.{Scene, sceneOf, vars, template, site, table, source, ownDraft}
+use Rattle.nets.specs.Steps.{step}
 
 -- ── the run ──
 

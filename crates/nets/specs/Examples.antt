@@ -27,7 +27,8 @@ use Rattle.nets.specs.declared.Pick.{Pick}
 use Rattle.nets.specs.Nets.{Table, Kind, acting, other, insert, insertTable, delete, update, select, aggregate, Node, toRun, Bindings, Net, Outcome, refused, done}
 use Rattle.nets.specs.Tables.{tableAt, distinct, change}
 use Rattle.nets.specs.Sound.{noThread, fieldsOkAs, linksOkAs, sound}
-use Rattle.nets.specs.Steps.{sceneOf, siteOfL, site, table, relation, source, hitRows, ownDraft, result, anyReady, opens, readsOk, check12, check13, check14, check15, check16, check17, check18, check19, check20, tablesBy, addedBy, takenBy, bindingsBy, threadsAfter, netAfter, performed, judge, checks, step}
+use Rattle.nets.specs.Scenes.{sceneOf, siteOfL, site, table, relation, source, hitRows, ownDraft, result, anyReady, opens}
+use Rattle.nets.specs.Steps.{readsOk, check12, check13, check14, check15, check16, check17, check18, check19, check20, tablesBy, addedBy, takenBy, bindingsBy, threadsAfter, netAfter, performed, judge, checks, step}
 use Rattle.nets.specs.Accounts.{nextNet}
 
 -- ── nets of one table, CARD at site 0, and one thread there ──
@@ -35,7 +36,7 @@ use Rattle.nets.specs.Accounts.{nextNet}
 abbrev site0 : Site
 site0 = record { 0 = 0 }
 
-abbrev CARD : ℕ
+abbrev pub CARD : ℕ
 CARD = 0x43415244
 
 -- a node on the thread's own CARD, with T, t and T'; table variable 0 is read and bound
@@ -72,11 +73,11 @@ netOf cs rs x r d =
 abbrev pick : Pick
 pick = record { thread = 0; row = 0 }
 
-abbrev isRefused : ℕ → Outcome → Bool
+abbrev pub isRefused : ℕ → Outcome → Bool
 isRefused k (refused n vs) = eqb k n
 isRefused k (done a t net) = false
 
-abbrev isDoneWith : ℕ → ℕ → Outcome → Bool
+abbrev pub isDoneWith : ℕ → ℕ → Outcome → Bool
 isDoneWith a t (refused n vs) = false
 isDoneWith a t (done b u net) = eqb a b && eqb t u
 

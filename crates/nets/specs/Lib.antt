@@ -1,6 +1,7 @@
 pub mod Nets
 pub mod Tables
 pub mod Sound
+pub mod Scenes
 pub mod Steps
 pub mod Accounts
 pub mod Demand3

@@ -1,146 +1,24 @@
--- One step: the scene that a pick meets, the checks 10..20 in their order, what a done step does, and the step.
+-- One step: the checks 10..20 in their order, what a done step does, and the step.
 use Prim.Native.Nat.{ℕ, zero, suc, _+_}
 use mathlib.Core.Bool.{Bool, true, false, not, cond, _&&_, _||_}
 use mathlib.Core.List.{List, [], _∷_, _++_}
 use mathlib.Core.Option.{Option, none, some}
 use lib.Dec.{eqb, leb, ltb}
 use lib.ListN.{getD, set, length}
-use Rattle.values.specs.declared.Site.{Site}
-use Rattle.values.specs.declared.Locality.{Locality}
-use Rattle.values.specs.declared.Value.the-variants.{Int, Text, Loc}
-use Rattle.values.specs.declared.Got.{Got}
-use Rattle.values.specs.declared.Got.the-variants.{Nothing, One}
+use Rattle.values.specs.declared.Got.the-variants.{Nothing}
 use Rattle.values.specs.declared.Operand.{Operand}
-use Rattle.values.specs.Lists.{all, any, filter, find, count, isSome, orElse, among, places}
-use Rattle.values.specs.Values.{sameSite, sameLocality}
-use Rattle.values.specs.Operands.{Vars, isGot, valuesIn, eval, reads, formals, bind}
-use Rattle.rows.specs.Relations.{Row, Relation, noRelation}
-use Rattle.rows.specs.Matching.{matches1, matches, rowVars, hits, selected, unselected}
-use Rattle.rows.specs.Fit.{Draft, draft, fits, sameColumns}
+use Rattle.values.specs.Lists.{all, any, filter, count, isSome, among}
+use Rattle.values.specs.Operands.{Vars, isGot, valuesIn, reads, formals, bind}
+use Rattle.rows.specs.Relations.{Relation}
+use Rattle.rows.specs.Matching.{matches1, rowVars, hits, unselected}
+use Rattle.rows.specs.Fit.{fits, sameColumns}
 use Rattle.rows.specs.Changes.{changes, updated, selection}
-use Rattle.rows.specs.Aggregates.{aggregated, columnFits}
+use Rattle.rows.specs.Aggregates.{columnFits}
 use Rattle.nets.specs.declared.Pick.{Pick}
-use Rattle.nets.specs.declared.Alias.{Alias}
-use Rattle.nets.specs.Nets.{Table, Kind, acting, other, insert, insertTable, delete, update, create, drop, select, selectRelation, aggregate, sequential, parallel, badKind, hasPlace, needsTable, isCreate, hasTemplate, readsRelation, bindsRelation, isAggregate, isLoop, isParallel, Node, Entry, toRun, visiting, Bindings, Thread, Net, Outcome, refused, done}
-use Rattle.nets.specs.Tables.{tableAt, contentOf, rowsOf, columnsOf, change, remove}
-use Rattle.nets.specs.Sound.{sound, noThread, noNode, entryNode}
-
--- ── the scene of a pick ──
-
-pub record Scene : Type 0 where
-  pub net : Net
-  -- the pick's thread place and row place
-  pub at : ℕ
-  pub row : ℕ
-  pub thread : Thread
-  pub entry : Entry
-  pub node : Node
-
-abbrev pub top : List Entry → Entry
-top [] = toRun 255
-top (x ∷ xs) = x
-
-abbrev pub below : List Entry → List Entry
-below [] = []
-below (x ∷ xs) = xs
-
-unfoldable pub sceneOf : Net → Pick → Scene
-sceneOf net p =
-    let t : Thread = getD (net .threads) (p .thread) noThread in
-    record {
-      net = net;
-      at = p .thread;
-      row = p .row;
-      thread = t;
-      entry = top (t .stack);
-      node = getD (net .nodes) (entryNode (top (t .stack))) noNode;
-    }
-
--- the thread's variables; the node's T
-abbrev pub vars : Scene → Vars
-vars c = c .thread .bindings .vars
-
-abbrev pub template : Scene → List Operand
-template c = c .node .selector .template
-
--- ── where the step acts ──
-
-abbrev pub aliasFor : Site → Locality → Alias → Bool
-aliasFor s l a = sameSite s (a .site) && sameLocality l (a .locality)
-
-abbrev pub meant : Option Alias → Option Site
-meant none = none
-meant (some a) = some (a .means)
-
--- the site that a locality means at a site: 0 is the site itself, others need an alias
-abbrev pub siteMeant : List Alias → Site → Locality → Option Site
-siteMeant ls s l = cond (eqb (l .0) 0) (some s) (meant (find (aliasFor s l) ls))
-
-abbrev pub siteOfGot : List Alias → Site → Got → Option Site
-siteOfGot ls s Nothing = none
-siteOfGot ls s (One (Int i)) = none
-siteOfGot ls s (One (Text t)) = none
-siteOfGot ls s (One (Loc l)) = siteMeant ls s l
-
--- the site that L means at the thread's site, if any
-unfoldable pub siteOfL : Scene → Option Site
-siteOfL c = siteOfGot (c .net .aliases) (c .thread .site) (eval (vars c) (c .node .place))
-
-unfoldable pub site : Scene → Site
-site c = orElse (record { 0 = 0 }) (siteOfL c)
-
-unfoldable pub table : Scene → Option Table
-table c = tableAt (site c) (c .node .name) (c .net .tables)
-
--- the table variable read
-unfoldable pub relation : Scene → Option Relation
-relation c = getD (c .thread .bindings .relations) (c .node .read) none
-
--- ── rows that the step speaks of ──
-
--- the source of rows: the table variable read, or the table
-unfoldable pub source : Scene → Relation
-source c = cond (readsRelation (c .node .kind)) (orElse noRelation (relation c)) (contentOf (table c))
-
--- the rows that match T and satisfy the predicate
-unfoldable pub hitRows : Scene → List Row
-hitRows c = selected (vars c) (c .node .selector) (source c .rows)
-
--- what t gives with no row
-unfoldable pub ownDraft : Scene → Draft
-ownDraft c = draft (vars c) (c .node .tuple)
-
--- the result of an aggregate
-unfoldable pub result : Scene → Got
-result c = aggregated (c .node .function) (c .node .column) (hitRows c)
-
--- ── loops ──
-
-abbrev pub stillToVisit : Entry → ℕ → List ℕ
-stillToVisit (toRun i) n = places 0 n
-stillToVisit (visiting i v) n = v
-
--- the places still to visit: all rows where the loop is first met
-unfoldable pub visit : Scene → List ℕ
-visit c = stillToVisit (c .entry) (length (source c .rows))
-
-unfoldable pub rowAt : Scene → ℕ → Row
-rowAt c i = getD (source c .rows) i []
-
-unfoldable pub ready : Scene → ℕ → Bool
-ready c i = matches (vars c) (template c) (rowAt c i)
-
--- a row still to visit matches T
-unfoldable pub anyReady : Scene → Bool
-anyReady c = any (ready c) (visit c)
-
--- the pick's row place is a row still to visit that matches T
-unfoldable pub pickReady : Scene → Bool
-pickReady c = among (c .row) (visit c) && ready c (c .row)
-
--- the step opens a round
-unfoldable pub opens : Scene → Bool
-opens c = isLoop (c .node .kind) && anyReady c
+use Rattle.nets.specs.Nets.{Table, Kind, acting, other, insert, insertTable, delete, update, create, drop, select, selectRelation, aggregate, sequential, parallel, badKind, hasPlace, needsTable, isCreate, hasTemplate, readsRelation, bindsRelation, isAggregate, isParallel, Node, Entry, toRun, visiting, Bindings, Thread, Net, Outcome, refused, done}
+use Rattle.nets.specs.Tables.{rowsOf, columnsOf, change, remove}
+use Rattle.nets.specs.Sound.{sound, noNode, entryNode}
+use Rattle.nets.specs.Scenes.{Scene, below, sceneOf, vars, template, siteOfL, site, table, source, hitRows, ownDraft, result, visit, rowAt, pickReady, opens}
 
 -- ── the checks 12..20 ──
 

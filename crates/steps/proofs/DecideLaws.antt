@@ -22,7 +22,8 @@ use Rattle.steps.specs.declared.Situation.{Situation}
 use Rattle.nets.specs.Nets as M
 use Rattle.nets.specs.Nets.{Kind, hasPlace, needsTable, isCreate, bindsRelation}
 use Rattle.nets.specs.Tables.{rowsOf, columnsOf, tableAt}
-use Rattle.nets.specs.Steps.{Scene, below, vars, site, table, source, check12, check13, check14, check15, withBindings, withVars, goOn, settle, tablesBy, threadsAfter, judge}
+use Rattle.nets.specs.Scenes.{Scene, below, vars, site, table, source}
+use Rattle.nets.specs.Steps.{check12, check13, check14, check15, withBindings, withVars, goOn, settle, tablesBy, threadsAfter, judge}
 use Rattle.nets.specs.Answers.{Said, refusing, answerOf, numberOf, saidOf}
 use Rattle.steps.specs.Effects.{Parts, saidBy}
 use Rattle.nets.specs.View.{kindAt, threadOf}

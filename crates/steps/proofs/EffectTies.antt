@@ -13,7 +13,8 @@ use Rattle.rows.specs.Matching.{selected}
 use Rattle.rows.specs.Aggregates.{aggregated}
 use Rattle.nets.specs.Nets.{Kind, acting, other, insert, insertTable, delete, update, create, drop, select, selectRelation, aggregate, sequential, parallel, badKind, code, needsTable, readsRelation, bindsRelation, isLoop, Bindings, Outcome}
 use Rattle.nets.specs.Tables.{tableAt, contentOf, rowsOf, columnsOf}
-use Rattle.nets.specs.Steps.{Scene, below, vars, site, table, relation, source, hitRows, ownDraft, result, opens, holds, check12, check13, check14, check15, check16, check17, check18, check19, check20, tablesBy, addedBy, takenBy, bindRelation, withVars, bindingsBy, withBindings, goOn, settle, threadsAfter, performed, verdict, judge}
+use Rattle.nets.specs.Scenes.{Scene, below, vars, site, table, relation, source, hitRows, ownDraft, result, opens}
+use Rattle.nets.specs.Steps.{holds, check12, check13, check14, check15, check16, check17, check18, check19, check20, tablesBy, addedBy, takenBy, bindRelation, withVars, bindingsBy, withBindings, goOn, settle, threadsAfter, performed, verdict, judge}
 use Rattle.nets.specs.Answers.{Said, doing, answerOf}
 use Rattle.steps.specs.Effects.{Parts, passing, saidBy, contentBy, boundBy, varsBy}
 use Rattle.steps.specs.Contracts.{isStep, putsRows, outcomeAt}

@@ -12,7 +12,8 @@ use Rattle.values.proofs.PlaceLaws.{find-place, place-found}
 use Rattle.rows.specs.Relations.{Row}
 use Rattle.nets.specs.Nets.{Table, Kind, acting, other, insert, insertTable, delete, update, create, drop, select, selectRelation, aggregate, sequential, parallel, badKind, Net, Outcome, refused, done}
 use Rattle.nets.specs.Tables.{isAt, tableAt, rowsOf, columnsOf, withRows, changed, change, removed, remove}
-use Rattle.nets.specs.Steps.{Scene, site, table, tablesBy, addedBy, takenBy, threadsAfter, netAfter, performed, Check, verdict, judge}
+use Rattle.nets.specs.Scenes.{Scene, site, table}
+use Rattle.nets.specs.Steps.{tablesBy, addedBy, takenBy, threadsAfter, netAfter, performed, Check, verdict, judge}
 use Rattle.nets.specs.Accounts.{netLeft}
 use Rattle.nets.specs.Answers.{refusing, answerOf}
 use Rattle.steps.specs.Contracts.{isDoing, putsRows, laterChecks, outcomeAt}

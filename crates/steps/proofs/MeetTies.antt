@@ -11,7 +11,8 @@ use Rattle.rows.specs.View.{relationOf, operandsOf}
 use Rattle.steps.specs.declared.Situation.{Situation}
 use Rattle.nets.specs.Nets as M
 use Rattle.nets.specs.Nets.{Kind, bindsRelation, isLoop, isParallel}
-use Rattle.nets.specs.Steps.{Scene, vars, template, relation, source, roomForRound}
+use Rattle.nets.specs.Scenes.{Scene, vars, template, relation, source}
+use Rattle.nets.specs.Steps.{roomForRound}
 use Rattle.nets.specs.View.{kindAt}
 use Rattle.steps.specs.Contracts.{partsOf, visitOf, Meets, relationRead}
 use Rattle.steps.proofs.EffectTies.{PartsIn}

@@ -26,7 +26,8 @@ use Rattle.nets.specs.Nets.{bindsRelation}
 use Rattle.nets.specs.Tables.{tableAt, contentOf}
 use Rattle.nets.specs.Sound as S
 use Rattle.nets.specs.Sound.{sound, entryNode, entryOk}
-use Rattle.nets.specs.Steps.{sceneOf, top, siteOfGot, siteOfL, site, table, holds}
+use Rattle.nets.specs.Scenes.{sceneOf, top, siteOfGot, siteOfL, site, table}
+use Rattle.nets.specs.Steps.{holds}
 use Rattle.nets.specs.View.{noSite, noTable, noNode, kindAt, nodeOf, tableOf, entryOf, threadOf, aliasesOf, tablesOf, nodesOf, noThread, view}
 use Rattle.steps.specs.Contracts.{locatedOf, Meets, Fine}
 use Rattle.nets.proofs.SureLaws.{entry-node}

@@ -12,7 +12,8 @@ use Rattle.values.specs.Operands.{Vars}
 use Rattle.values.proofs.Bools.{is-true}
 use Rattle.rows.specs.Relations.{Relation}
 use Rattle.nets.specs.Nets.{Kind, acting, other, insert, insertTable, delete, update, create, drop, select, selectRelation, aggregate, sequential, parallel, badKind, hasPlace, needsTable, isCreate, isLoop, isParallel, Bindings}
-use Rattle.nets.specs.Steps.{Scene, below, vars, template, siteOfL, table, relation, source, stillToVisit, visit, rowAt, ready, anyReady, pickReady, opens, check12, check13, check14, check15, check16, check17, check18, check19, check20, roomForRound, addedBy, takenBy, bindingsBy, withBindings, goOn, settle, sequentialRound, parallelRound, threadsAfter}
+use Rattle.nets.specs.Scenes.{Scene, below, vars, template, siteOfL, table, relation, source, stillToVisit, visit, rowAt, ready, anyReady, pickReady, opens}
+use Rattle.nets.specs.Steps.{check12, check13, check14, check15, check16, check17, check18, check19, check20, roomForRound, addedBy, takenBy, bindingsBy, withBindings, goOn, settle, sequentialRound, parallelRound, threadsAfter}
 use Rattle.nets.specs.Answers.{Said, refusing, doing, answerOf}
 use Rattle.steps.specs.Effects.{passing}
 use Rattle.steps.specs.Contracts.{Turned, over, opened, stopped, turnBy, readyAt, outcomeAt}

@@ -28,7 +28,8 @@ use Rattle.nets.specs.Nets as M
 use Rattle.nets.specs.Sound as S
 use Rattle.nets.specs.Sound.{sound, aliasOk, tableOk, threadOk, entryOk, entryNode, nodeOkAs, bindingsOk}
 use Rattle.nets.specs.Tables.{isAt, tableAt, contentOf}
-use Rattle.nets.specs.Steps.{Scene, sceneOf, site, table, stillToVisit, judge, checks, step}
+use Rattle.nets.specs.Scenes.{Scene, sceneOf, site, table, stillToVisit}
+use Rattle.nets.specs.Steps.{judge, checks, step}
 use Rattle.nets.specs.View.{noAlias, noTable, noFrame, noNode, noThread, nodeOf, tableOf, entryOf, stackOf, threadOf, tablesOf, view}
 use Rattle.steps.specs.Contracts.{Stacked, outcomeAt, Meets, relationRead, Fine}
 use Rattle.nets.proofs.SoundLaws.{clauses}

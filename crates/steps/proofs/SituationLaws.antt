@@ -24,7 +24,8 @@ use Rattle.steps.specs.declared.Situation.{Situation}
 use Rattle.nets.specs.Nets as M
 use Rattle.nets.specs.Nets.{Kind, hasTemplate, hasTuple, isSelect, isLoop, readsRelation, bindsRelation, code}
 use Rattle.nets.specs.Sound.{operandsOk, isEmpty, templateOk, relationOk, fieldsOkAs, linksOkAs}
-use Rattle.nets.specs.Steps.{Scene, source, isBound, isHeld, readsOk, check12}
+use Rattle.nets.specs.Scenes.{Scene, source}
+use Rattle.nets.specs.Steps.{isBound, isHeld, readsOk, check12}
 use Rattle.nets.specs.View.{kindAt, nodeOf, variableOf, threadOf}
 use Rattle.steps.specs.Contracts.{flagAt, isStep, visitOf, Meets, relationRead, Fine, Known, SourceIs, ActReady}
 use Rattle.steps.proofs.EffectTies.{read-source, own-source}

@@ -30,7 +30,8 @@ use Rattle.nets.specs.Nets as M
 use Rattle.nets.specs.Nets.{Kind, acting, other, insert, insertTable, delete, update, create, drop, select, selectRelation, aggregate, sequential, parallel, badKind, needsTable, isCreate, Outcome}
 use Rattle.nets.specs.Tables.{tableAt, rowsOf, columnsOf}
 use Rattle.nets.specs.Sound.{sound}
-use Rattle.nets.specs.Steps.{Scene, sceneOf, site, table, check14, roomBy, check20, settle, tablesBy, threadsAfter, performed, Check, verdict, judge, step}
+use Rattle.nets.specs.Scenes.{Scene, sceneOf, site, table}
+use Rattle.nets.specs.Steps.{check14, roomBy, check20, settle, tablesBy, threadsAfter, performed, Check, verdict, judge, step}
 use Rattle.nets.specs.Accounts.{netLeft}
 use Rattle.nets.specs.View.{noTable, noThread, kindAt, tableOf, nodeOf, threadOf, tablesOf, threadsOf, view}
 use Rattle.nets.specs.Answers.{Said, refusing, numberOf, answerOf, saidOf, StepIs}

@@ -10,7 +10,8 @@ use Rattle.values.specs.Lists.{removeAt}
 use Rattle.nets.specs.declared.Frame.{Frame}
 use Rattle.nets.specs.declared.Thread.{Thread}
 use Rattle.nets.specs.Nets as M
-use Rattle.nets.specs.Steps.{below, withStack, keepThread, settle}
+use Rattle.nets.specs.Scenes.{below}
+use Rattle.nets.specs.Steps.{withStack, keepThread, settle}
 use Rattle.nets.specs.View.{noFrame, entryOf, stackOf, threadOf}
 use Rattle.steps.specs.Contracts.{standing}
 

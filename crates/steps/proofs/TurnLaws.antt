@@ -25,7 +25,8 @@ use Rattle.steps.specs.declared.Situation.{Situation}
 use Rattle.nets.specs.Nets as M
 use Rattle.nets.specs.Nets.{Kind, acting, other, insert, insertTable, delete, update, create, drop, select, selectRelation, aggregate, sequential, parallel, badKind, isLoop, isParallel, toRun, visiting}
 use Rattle.nets.specs.Sound.{entryNode}
-use Rattle.nets.specs.Steps.{Scene, below, stillToVisit, vars, template, rowAt, roomForRound, check12, loopEntry, roundBindings, withBindings, withStack, withVars, goOn, settle}
+use Rattle.nets.specs.Scenes.{Scene, below, stillToVisit, vars, template, rowAt}
+use Rattle.nets.specs.Steps.{roomForRound, check12, loopEntry, roundBindings, withBindings, withStack, withVars, goOn, settle}
 use Rattle.nets.specs.Answers.{refusing, answerOf, numberOf}
 use Rattle.nets.specs.View.{kindAt, marked, entryOf, bindingsOf, threadOf}
 use Rattle.steps.specs.Contracts.{turnOf, turnBy, opened, readyAt, visitOf, RoundIs, outcomeAt, Meets, relationRead, standing, putsRows, ChangeIs}

@@ -31,7 +31,8 @@ use Rattle.nets.specs.Nets as M
 use Rattle.nets.specs.Nets.{Kind, acting, other, insert, insertTable, delete, update, create, drop, code, isSelect, isLoop, readsRelation, bindsRelation, Outcome}
 use Rattle.nets.specs.Tables.{tableAt, contentOf, rowsOf, columnsOf}
 use Rattle.nets.specs.Sound.{nodeOkAs, bindingsOk}
-use Rattle.nets.specs.Steps.{Scene, isBound, isHeld, readsOk, stillToVisit, site, siteOfL, table, holds, keepThread, settle, tablesBy, threadsAfter, performed, Check, check, check12, check13, check14, check15, check16, check17, check18, check19, check20, judge}
+use Rattle.nets.specs.Scenes.{Scene, stillToVisit, site, siteOfL, table}
+use Rattle.nets.specs.Steps.{isBound, isHeld, readsOk, holds, keepThread, settle, tablesBy, threadsAfter, performed, Check, check, check12, check13, check14, check15, check16, check17, check18, check19, check20, judge}
 use Rattle.nets.specs.View.{kindAt, nodeOf, noTable, tableOf, entryOf, threadOf, marked}
 use Rattle.nets.specs.Answers.{Said, refusing, doing, answerOf, numberOf, saidOf}
 use Rattle.steps.specs.Effects.{Parts, saidBy, contentBy, boundBy, varsBy}

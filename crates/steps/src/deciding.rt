@@ -34,7 +34,8 @@ ghost use mathlib.Core.Bool.{true, false};
 ghost use lib.Dec.{T};
 ghost use Rattle.values.specs.Lists.{isSome};
 ghost use Rattle.nets.specs.Nets.{isLoop};
-ghost use Rattle.nets.specs.Steps.{Scene, check13, check14, check15, goOn, withBindings, below};
+ghost use Rattle.nets.specs.Scenes.{Scene, below};
+ghost use Rattle.nets.specs.Steps.{check13, check14, check15, goOn, withBindings};
 ghost use Rattle.nets.specs.View.{kindAt, threadOf};
 ghost use Rattle.steps.specs.Contracts.{locatedOf, isStep, Meets, Fine, Known, SourceIs, boundWith, standing, ChangeIs};
 

@@ -20,7 +20,7 @@ ghost use Rattle.values.specs.Operands.{varsOf};
 ghost use Rattle.rows.specs.View.{relationOf, operandsOf, Shaped, Short};
 ghost use Rattle.nets.specs.View.{entryOf, marked};
 ghost use Rattle.steps.specs.Contracts.{flagAt, visitOf, readyAt, OpenedIs, RoundIs};
-ghost use Rattle.nets.specs.Steps.{stillToVisit};
+ghost use Rattle.nets.specs.Scenes.{stillToVisit};
 
 // The first n places.
 pub fn all_places(n: usize) -> [bool; 16]

@@ -10,7 +10,7 @@ ghost use mathlib.Core.Path.{_≡_};
 ghost use Prim.Native.Nat.{_≤_};
 ghost use Rattle.values.specs.Lists.{find, placeOf};
 ghost use Rattle.nets.specs.Tables.{isAt};
-ghost use Rattle.nets.specs.Steps.{aliasFor, meant, siteMeant, siteOfGot};
+ghost use Rattle.nets.specs.Scenes.{aliasFor, meant, siteMeant, siteOfGot};
 ghost use Rattle.nets.specs.View.{tableOf, tablesOf, aliasesOf};
 ghost use Rattle.steps.specs.Contracts.{locatedOf};
 

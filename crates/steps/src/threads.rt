@@ -14,7 +14,8 @@ ghost use Rattle.values.specs.Operands.{varsOf};
 ghost use Rattle.rows.specs.View.{relationOf};
 ghost use Rattle.nets.specs.Nets.{toRun};
 ghost use Rattle.nets.specs.Sound.{entryNode};
-ghost use Rattle.nets.specs.Steps.{top, below, withStack, withBindings, withVars, goOn};
+ghost use Rattle.nets.specs.Scenes.{top, below};
+ghost use Rattle.nets.specs.Steps.{withStack, withBindings, withVars, goOn};
 ghost use Rattle.nets.specs.View.{entryOf, threadOf, bindingsOf, variableOf};
 ghost use Rattle.steps.specs.Contracts.{standing, Stacked};
 

@@ -7,7 +7,8 @@ use Rattle.values.proofs.Bools.{T-of}
 use Rattle.nets.specs.declared.Refusal.the-variants.{Unbound, NoPlace, NoTable, TableThere}
 use Rattle.steps.specs.declared.Situation.{Situation}
 use Rattle.nets.specs.Nets.{isLoop}
-use Rattle.nets.specs.Steps.{Scene, check12, check13, check14, check15}
+use Rattle.nets.specs.Scenes.{Scene}
+use Rattle.nets.specs.Steps.{check12, check13, check14, check15}
 use Rattle.nets.specs.View.{kindAt}
 use Rattle.steps.specs.Contracts.{Meets, Known}
 use Rattle.steps.proofs.SituationLaws.{fine-template, fine-tuple, fine-step, flagged-known, flagged-12, known-12}

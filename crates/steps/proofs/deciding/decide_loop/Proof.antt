@@ -6,7 +6,7 @@ use lib.Dec.{eqb, ltb}
 use borrow.Author.Needs.{needs}
 use borrow.Author.Tests.{ltb-true}
 use Rattle.steps.specs.declared.Situation.{Situation}
-use Rattle.nets.specs.Steps.{Scene}
+use Rattle.nets.specs.Scenes.{Scene}
 use Rattle.nets.specs.View.{threadOf}
 use Rattle.steps.specs.Contracts.{Meets}
 use Rattle.steps.proofs.SituationLaws.{fine-template, known-12, loop-read, visits-there}

@@ -19,7 +19,7 @@ use Rattle.rows.specs.Relations.{Relation}
 use Rattle.rows.specs.View.{noField, noRow, valuesOf, operandsOf, relationOf}
 use Rattle.nets.specs.declared.Frame.{Frame}
 use Rattle.steps.specs.declared.Round.{Round}
-use Rattle.nets.specs.Steps.{stillToVisit}
+use Rattle.nets.specs.Scenes.{stillToVisit}
 use Rattle.nets.specs.View.{entryOf, marked}
 use Rattle.steps.specs.Contracts.{Turned, over, opened, stopped, turnOf, turnBy, flagAt, visitOf, readyAt, OpenedIs, RoundIs}
 use Rattle.steps.proofs.MarkLaws.{passing-any, passing-among}

@@ -7,7 +7,7 @@ use Rattle.values.specs.Lists.{find}
 use Rattle.values.proofs.Firsts.{firsts-cons, firsts-end}
 use Rattle.values.proofs.PlaceLaws.{find-here, find-more, find-ends}
 use Rattle.nets.specs.declared.Alias.{Alias}
-use Rattle.nets.specs.Steps.{aliasFor, meant}
+use Rattle.nets.specs.Scenes.{aliasFor, meant}
 use Rattle.nets.specs.View.{noAlias, aliasesOf}
 use Rattle.steps.proofs.places.meant_by.Statement.{statement}
 use Rattle.steps.proofs.places.meant_by.Tie as tie

@@ -2,7 +2,7 @@
 use mathlib.Core.Path.{ap, sym, _∙_}
 use borrow.Author.Needs.{needs}
 use Rattle.values.specs.declared.Got.the-variants.{One}
-use Rattle.nets.specs.Steps.{siteOfGot}
+use Rattle.nets.specs.Scenes.{siteOfGot}
 use Rattle.nets.specs.View.{aliasesOf}
 use Rattle.steps.proofs.places.site_of.Statement.{statement}
 use Rattle.steps.proofs.places.site_of.Tie as tie

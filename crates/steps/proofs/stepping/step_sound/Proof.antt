@@ -5,7 +5,7 @@ use Prim.Native.Nat.{_<_}
 use borrow.Author.Needs.{needs}
 use lib.ListN.{length}
 use Rattle.values.proofs.Arrays.{long}
-use Rattle.nets.specs.Steps.{sceneOf}
+use Rattle.nets.specs.Scenes.{sceneOf}
 use Rattle.nets.specs.View.{view}
 use Rattle.steps.specs.Contracts.{ChangeIs}
 use Rattle.steps.proofs.SceneTies.{few-tables, few-nodes, few-aliases, thread-stacked}

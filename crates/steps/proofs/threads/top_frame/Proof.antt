@@ -1,6 +1,6 @@
 -- `steps::threads::top_frame` meets its contract: the last frame in use is the top.
 use mathlib.Core.Path.{sym, ap}
-use Rattle.nets.specs.Steps.{top}
+use Rattle.nets.specs.Scenes.{top}
 use Rattle.steps.proofs.ThreadLaws.{stack-top}
 use borrow.Author.Needs.{needs}
 use Rattle.steps.proofs.threads.top_frame.Statement.{statement}

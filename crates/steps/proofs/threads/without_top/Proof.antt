@@ -1,6 +1,7 @@
 -- `steps::threads::without_top` meets its contract: one frame less is in use.
 use mathlib.Core.Path.{refl, sym, ap}
-use Rattle.nets.specs.Steps.{below, withStack}
+use Rattle.nets.specs.Scenes.{below}
+use Rattle.nets.specs.Steps.{withStack}
 use Rattle.nets.specs.View.{threadOf}
 use Rattle.steps.proofs.ThreadLaws.{stack-top}
 use borrow.Author.Needs.{needs}

@@ -1,0 +1,12 @@
+pub mod Bytes
+pub mod Decoding
+pub mod Loading
+pub mod FileTables
+pub mod FileDemand3
+pub mod Writing
+pub mod RoundTrip
+pub mod Empty
+pub mod Engine
+pub mod Examples
+pub mod Judging
+pub mod WriteCall
