@@ -17,3 +17,4 @@ pub mod StackLaws
 pub mod StepLaws
 pub mod SureLaws
 pub mod TableLaws
+pub mod TablePlaces

@@ -9,8 +9,8 @@ use lib.ListN.{length, replicate, length-append}
 use lib.Seq.{take-at, drop-at}
 use Rattle.values.specs.Lists.{all}
 use Rattle.values.proofs.Bools.{and-l, and-r, not-T→false}
-use Rattle.records.specs.Bytes.{parts, leading, thenOnly}
-use Rattle.records.specs.Writing.{endToEnd}
+use Rattle.codec.specs.Bytes.{parts, leading, thenOnly}
+use Rattle.codec.specs.Encoding.{endToEnd}
 
 -- ── end to end ──
 

@@ -9,8 +9,8 @@ use Rattle.values.specs.Lists.{all}
 use Rattle.values.proofs.Bools.{and-l, and-r}
 use Rattle.values.proofs.ListLaws.{all-map}
 use Rattle.nets.specs.Steps.{Check}
-use Rattle.records.specs.Bytes.{parts}
-use Rattle.records.specs.Decoding.{Record, Decoded, good, bad, judged, recordIn, wholeRecords, recordsIn}
+use Rattle.codec.specs.Bytes.{parts}
+use Rattle.codec.specs.Decoding.{Record, Decoded, good, bad, judged, recordIn, wholeRecords, recordsIn}
 use Rattle.records.specs.Loading.{Progress, nothingRead, loadChecks, advance, failed, failing, Reading, stopped, finished, proceed, readAll, firstBadLink, LoadAnswer, rejected, accepted, linked, finish, load, loadBytes}
 
 abbrev pub isNumber : ℕ → Bool
@@ -20,7 +20,7 @@ abbrev pub answerNumbered : LoadAnswer → Bool
 answerNumbered (rejected n i) = isNumber n
 answerNumbered (accepted net ps) = true
 
-abbrev decodedNumbered : Decoded → Bool
+abbrev pub decodedNumbered : Decoded → Bool
 decodedNumbered (good r) = true
 decodedNumbered (bad n) = isNumber n
 
@@ -36,7 +36,7 @@ kind-numbered false c x rest h = h
 unknown-numbered : T (decodedNumbered (bad 3))
 unknown-numbered = tt
 
-record-numbered : (r : List ℕ) → T (decodedNumbered (recordIn r))
+pub record-numbered : (r : List ℕ) → T (decodedNumbered (recordIn r))
 unfolding recordIn
 record-numbered r = search (kind-numbered, unknown-numbered) depth 8
 

@@ -20,7 +20,7 @@ use Rattle.nets.specs.Tables.{isAt, tableAt, rowsOf, columnsOf, rowsFit, distin
 use Rattle.nets.specs.Sound.{aliasOk, aliasesDiffer, sameAlias, tableOk}
 use Rattle.nets.proofs.TableLaws.{sameKey, key-site, key-name, key-refl, none-of, change-all, change-length, change-distinct, change-same, change-other, append-distinct, append-same, append-other}
 use Rattle.nets.proofs.KeepTables.{rows-ok, table-range}
-use Rattle.records.specs.Decoding.{Record, aliasRecord, tableRecord, rowRecord, nodeRecord, startRecord, pickRecord}
+use Rattle.codec.specs.Decoding.{Record, aliasRecord, tableRecord, rowRecord, nodeRecord, startRecord, pickRecord}
 use Rattle.records.specs.Loading.{isNew, rowFits, hasRoom, bare, put}
 use Rattle.records.specs.FileTables.{rowsFor1, columnsFor1, orLater, tableWith}
 use Rattle.records.proofs.RecordLaws.{recordOk}
@@ -54,7 +54,7 @@ any-head p b l h = go (p b) h
     go false h = (refl, h)
 
 -- a new alias, at the end
-alias-append : (ls : List Alias) (a : Alias) → T (aliasesDiffer ls) → T (not (any (λ b. sameAlias b a) ls)) → T (aliasesDiffer (ls ++ (a ∷ [])))
+pub alias-append : (ls : List Alias) (a : Alias) → T (aliasesDiffer ls) → T (not (any (λ b. sameAlias b a) ls)) → T (aliasesDiffer (ls ++ (a ∷ [])))
 alias-append [] a h k = tt
 alias-append (b ∷ ls) a h k =
     let q = any-head (λ c. sameAlias c a) b ls k in

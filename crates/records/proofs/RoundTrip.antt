@@ -16,10 +16,11 @@ use Rattle.nets.specs.Nets.{Table}
 use Rattle.nets.specs.Tables.{rowsFit}
 use Rattle.nets.specs.Sound.{tableOk}
 use Rattle.nets.proofs.SoundLaws.{Clauses, clauses}
-use Rattle.records.specs.Bytes.{parts}
-use Rattle.records.specs.Decoding.{recordIn, wholeRecords, recordsIn}
+use Rattle.codec.specs.Bytes.{parts}
+use Rattle.codec.specs.Decoding.{recordIn, wholeRecords, recordsIn}
 use Rattle.records.specs.Loading.{load, loadBytes}
-use Rattle.records.specs.Writing.{endToEnd, tableBytes, rowBytes, rowsBytes, allRows, written}
+use Rattle.codec.specs.Encoding.{endToEnd, tableBytes, rowBytes}
+use Rattle.records.specs.Writing.{rowsBytes, allRows, written}
 use Rattle.records.specs.RoundTrip.{tablesOnly, WrittenIsRead}
 use Rattle.records.proofs.EndToEnd.{sized, ends-length, ends-parts}
 use Rattle.records.proofs.TableBack.{table-length, table-back}

@@ -19,9 +19,9 @@ use Rattle.values.proofs.Bools.{and-l, and-r, and-in, is-true, T-of}
 use Rattle.values.proofs.ListLaws.{all-append, all-map, all-map-of}
 use Rattle.rows.specs.Relations.{Row}
 use Rattle.nets.specs.Sound.{isAbsent, tagged, operandsOk}
-use Rattle.records.specs.Bytes.{part, parts, zeros, thenOnly, leading, operandForm, operandIn, operandsForm, operandsIn}
-use Rattle.records.specs.Decoding.{rowRecord, good, siteAt, nameIn, rowIn, rowForm, judged, recordIn}
-use Rattle.records.specs.Writing.{endToEnd, operandBytes, tupleBytes, rowBytes}
+use Rattle.codec.specs.Bytes.{part, parts, zeros, thenOnly, leading, operandForm, operandIn, operandsForm, operandsIn}
+use Rattle.codec.specs.Decoding.{rowRecord, good, siteAt, nameIn, rowIn, rowForm, judged, recordIn}
+use Rattle.codec.specs.Encoding.{endToEnd, operandBytes, tupleBytes, rowBytes}
 use Rattle.records.proofs.EndToEnd.{sized, ends-length, ends-parts, leading-some, then-some, leading-none, then-none}
 use Rattle.records.proofs.ValueBack.{text-back, asOperand, value-length, value-form, value-back, value-tagged, values-given}
 

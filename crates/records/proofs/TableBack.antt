@@ -14,9 +14,9 @@ use Rattle.values.proofs.ListLaws.{all-weaken}
 use Rattle.rows.specs.Relations.{Columns}
 use Rattle.nets.specs.Nets.{Table}
 use Rattle.nets.specs.Sound.{columnsOk, tableOk}
-use Rattle.records.specs.Bytes.{part, isZero, zeros, columnsForm, columnsIn}
-use Rattle.records.specs.Decoding.{tableRecord, good, siteAt, nameIn, tableForm, judged, recordIn}
-use Rattle.records.specs.Writing.{columnBytes, tableBytes}
+use Rattle.codec.specs.Bytes.{part, isZero, zeros, columnsForm, columnsIn}
+use Rattle.codec.specs.Decoding.{tableRecord, good, siteAt, nameIn, tableForm, judged, recordIn}
+use Rattle.codec.specs.Encoding.{columnBytes, tableBytes}
 use Rattle.records.proofs.EndToEnd.{leading-some, then-some, leading-none, then-none}
 use Rattle.records.proofs.ValueBack.{text-back}
 

@@ -15,9 +15,10 @@ use Rattle.nets.specs.declared.Table.{Table}
 use Rattle.nets.specs.Nets as M
 use Rattle.nets.specs.Sound.{tableOk}
 use Rattle.nets.specs.View.{noTable, tableOf, tablesOf}
-use Rattle.records.specs.Writing.{endToEnd, tableBytes, rowBytes, rowsBytes, allRows, written}
-use Rattle.records.proofs.Stores.{ends-append, ends-length}
-use Rattle.records.proofs.WriteLaws.{row-length, table-length}
+use Rattle.codec.specs.Encoding.{endToEnd, tableBytes, rowBytes}
+use Rattle.records.specs.Writing.{rowsBytes, allRows, written}
+use Rattle.codec.proofs.Stores.{ends-append, ends-length}
+use Rattle.codec.proofs.WriteLaws.{row-length, table-length}
 
 -- ── counts of a table in its ranges ──
 

@@ -37,8 +37,11 @@ abbrev pub noPick : Pick
 noPick = record { thread = 0; row = 0 }
 
 -- as many picks as the count says
+abbrev pub picksOf : ℕ → List Pick → List Pick
+picksOf n ps = firsts (λ (p : Pick). p) noPick n ps
+
 abbrev pub picksIn : Loaded → List Pick
-picksIn l = firsts (λ (p : Pick). p) noPick (l .pickcount) (l .picks)
+picksIn l = picksOf (l .pickcount) (l .picks)
 
 -- the verdict, the net and the picks are the rule's; after a fault the net is the one empty net
 pub record LoadIs (file : List ℕ) (l : Loaded) : Type 0 where

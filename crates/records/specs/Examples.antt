@@ -24,10 +24,11 @@ use Rattle.nets.specs.Accounts.{nextNet, after, answers}
 use Rattle.nets.specs.View.{kindAt}
 use Rattle.nets.specs.Examples as Nets
 use Rattle.nets.specs.Examples.{CARD, isRefused, isDoneWith}
-use Rattle.records.specs.Bytes.{operandForm, operandIn, operandsForm, operandsIn}
-use Rattle.records.specs.Decoding.{nodeIn, aliasForm, tableForm, rowForm, nodeBytes, startForm, pickForm, recordIn, recordsIn}
+use Rattle.codec.specs.Bytes.{operandForm, operandIn, operandsForm, operandsIn}
+use Rattle.codec.specs.Decoding.{nodeIn, aliasForm, tableForm, rowForm, nodeBytes, startForm, pickForm, recordIn, recordsIn}
 use Rattle.records.specs.Loading.{loadChecks, put, advance, readAll, firstBadLink, load, LoadAnswer, rejected, accepted, loadBytes, netLoaded, picksLoaded}
-use Rattle.records.specs.Writing.{Wrote, notWritten, wrote, tupleBytes, tableBytes, rowBytes, written, write, bufferAfter}
+use Rattle.codec.specs.Encoding.{tupleBytes, tableBytes, rowBytes}
+use Rattle.records.specs.Writing.{Wrote, notWritten, wrote, written, write, bufferAfter}
 
 -- ── what loading answers ──
 

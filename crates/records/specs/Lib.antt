@@ -1,5 +1,3 @@
-pub mod Bytes
-pub mod Decoding
 pub mod Loading
 pub mod FileTables
 pub mod FileDemand3
@@ -8,5 +6,5 @@ pub mod RoundTrip
 pub mod Empty
 pub mod Engine
 pub mod Examples
-pub mod Judging
 pub mod WriteCall
+pub mod Walking

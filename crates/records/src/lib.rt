@@ -1,12 +1,21 @@
 // Files of 104-byte records: loading and writing.
+use nets::Alias;
 use nets::Net;
+use nets::Node;
 use nets::Pick;
+use nets::Table;
+use nets::Thread;
 
-pub mod bytes;
-pub mod forms;
+pub mod aliases;
+pub mod blanks;
+pub mod contents;
+pub mod links;
+pub mod loading;
 pub mod nodes;
-pub mod operands;
-pub mod puts;
+pub mod picks;
+pub mod starts;
+pub mod tables;
+pub mod walking;
 pub mod writing;
 
 // A file accepted, or its first fault: number and record place.
@@ -28,4 +37,56 @@ pub enum Written {
     Length(usize),
     Unsound,
     Short,
+}
+
+// How far reading came: the place of the next record, the group of the last one read, and the number of the fault at that place, 0 for none.
+pub struct Reach {
+    pub place: usize,
+    pub group: u8,
+    pub fault: u8,
+}
+
+// What the records of one group gave.
+pub struct AliasesRead {
+    pub aliases: [Alias; 56],
+    pub count: usize,
+    pub reach: Reach,
+}
+
+pub struct TablesRead {
+    pub tables: [Table; 8],
+    pub count: usize,
+    pub reach: Reach,
+}
+
+pub struct NodesRead {
+    pub nodes: [Node; 128],
+    pub count: usize,
+    pub reach: Reach,
+}
+
+pub struct ThreadsRead {
+    pub threads: [Thread; 8],
+    pub count: usize,
+    pub reach: Reach,
+}
+
+pub struct PicksRead {
+    pub picks: [Pick; 256],
+    pub count: usize,
+    pub reach: Reach,
+}
+
+// The fault of a row record, 0 for none, and the tables with the row.
+pub struct RowTaken {
+    pub fault: u8,
+    pub tables: [Table; 8],
+}
+
+// What all records gave, up to the first fault.
+pub struct FileRead {
+    pub net: Net,
+    pub picks: [Pick; 256],
+    pub pickcount: usize,
+    pub reach: Reach,
 }

@@ -1,7 +1,7 @@
 // Writing a net: all tables, then the rows table by table, as records at the start of a lent buffer.
 use crate::Written;
-use crate::puts::put_rows;
-use crate::puts::put_table;
+use codec::puts::put_rows;
+use codec::puts::put_table;
 use nets::Net;
 use nets::Table;
 use soundness::whole::sound_net;
@@ -13,7 +13,8 @@ ghost use lib.ListN.{length};
 ghost use Rattle.values.specs.Lists.{all};
 ghost use Rattle.nets.specs.Sound.{tableOk};
 ghost use Rattle.nets.specs.View.{tablesOf};
-ghost use Rattle.records.specs.Writing.{endToEnd, tableBytes, allRows, written, writtenAnswer, bufferAfter};
+ghost use Rattle.codec.specs.Encoding.{endToEnd, tableBytes};
+ghost use Rattle.records.specs.Writing.{allRows, written, writtenAnswer, bufferAfter};
 ghost use Rattle.records.specs.Engine.{saidWritten, WriteIs};
 ghost use Rattle.records.specs.WriteCall.{ifRoom};
 

@@ -1,11 +1,11 @@
--- What the soundness test of the code speaks of besides `sound`: formals that are the same, what each node asks of a loop entry, and what a table
+-- What the soundness test of the code speaks of besides `sound`: formals that are the same, links, what each node asks of a loop entry, and what a table
 -- variable holds.
 use Prim.Native.Nat.{ℕ, _≤_}
 use mathlib.Core.Path.{_≡_}
-use mathlib.Core.Bool.{Bool, false, cond, _&&_}
+use mathlib.Core.Bool.{Bool, false, not, cond, _&&_, _||_}
 use mathlib.Core.List.{List, map}
 use mathlib.Core.Option.{Option, none, some}
-use lib.Dec.{ltb}
+use lib.Dec.{eqb, ltb}
 use lib.ListN.{length, getD}
 use Rattle.values.specs.declared.Operand.{Operand}
 use Rattle.values.specs.Lists.{all, firsts}
@@ -13,7 +13,7 @@ use Rattle.values.specs.Operands.{formalOf}
 use Rattle.rows.specs.Relations.{Relation}
 use Rattle.rows.specs.Plans.{isFormalOf}
 use Rattle.soundness.specs.declared.Extent.{Extent}
-use Rattle.nets.specs.Nets.{isLoop, Node}
+use Rattle.nets.specs.Nets.{Kind, isLoop, Node}
 use Rattle.nets.specs.Sound.{hasPlaces}
 
 -- ── templates ──
@@ -25,6 +25,12 @@ alike (some i) o = isFormalOf i o
 -- both operands are formals of one variable
 abbrev pub sameFormal : Operand → Operand → Bool
 sameFormal a b = alike (formalOf a) (formalOf b)
+
+-- ── links ──
+
+-- check 9 by a node's kind and two links alone
+abbrev pub linksAt : Kind → ℕ → ℕ → ℕ → ℕ → Bool
+linksAt k n i next body = (eqb next 255 || (ltb i next && ltb next n)) && (not (isLoop k) || (ltb i body && ltb body n))
 
 -- ── nodes, as loop entries see them ──
 

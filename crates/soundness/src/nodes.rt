@@ -27,6 +27,7 @@ ghost use Rattle.rows.specs.View.{operandsOf};
 ghost use Rattle.nets.specs.Nets.{hasTemplate, hasTuple, isSelect};
 ghost use Rattle.nets.specs.Sound.{operandsOk, templateOk, isEmpty, fieldsOkAs, linksOkAs, nodesOk};
 ghost use Rattle.nets.specs.View.{kindAt, nodeOf, nodesOf};
+ghost use Rattle.soundness.specs.SoundParts.{linksAt};
 
 // A field that is used is as its rule says, and else zero.
 pub fn either(used: bool, ok: bool, zeroed: bool) -> bool
@@ -84,13 +85,18 @@ pub fn fields_ok(d: Node) -> bool
 }
 
 // The next node, unless it is 255, and a loop's body come after node `i` and are among the `n` nodes.
+pub fn links_at(kind: u8, next: u8, body: u8, i: usize, n: usize) -> bool
+    ensures { λ r. ⌜ r ≡ linksAt (kindAt kind) n i next body ⌝ }
+{
+    let to = next as usize;
+    let first = body as usize;
+    ((to == 255) | ((i < to) & (to < n))) & (!is_loop(kind) | ((i < first) & (first < n)))
+}
+
 pub fn links_ok(d: Node, i: usize, n: usize) -> bool
     ensures { λ r. ⌜ r ≡ linksOkAs (kindAt (d .kind)) n i (nodeOf d) ⌝ }
 {
-    let next = d.next as usize;
-    let body = d.body as usize;
-    let kind = d.kind;
-    ((next == 255) | ((i < next) & (next < n))) & (!is_loop(kind) | ((i < body) & (body < n)))
+    links_at(d.kind, d.next, d.body, i, n)
 }
 
 pub fn nodes_ok(nodes: [Node; 128], count: usize) -> bool

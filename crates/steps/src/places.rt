@@ -1,17 +1,15 @@
-// Where a step acts: the site that L means, and the table of a site and name.
+// Where a step acts: the site that L means.
 use crate::Located;
 use nets::Alias;
-use nets::Table;
 use values::Got;
 use values::Locality;
 use values::Site;
 use values::Value;
 ghost use mathlib.Core.Path.{_≡_};
 ghost use Prim.Native.Nat.{_≤_};
-ghost use Rattle.values.specs.Lists.{find, placeOf};
-ghost use Rattle.nets.specs.Tables.{isAt};
+ghost use Rattle.values.specs.Lists.{find};
 ghost use Rattle.nets.specs.Scenes.{aliasFor, meant, siteMeant, siteOfGot};
-ghost use Rattle.nets.specs.View.{tableOf, tablesOf, aliasesOf};
+ghost use Rattle.nets.specs.View.{aliasesOf};
 ghost use Rattle.steps.specs.Contracts.{locatedOf};
 
 pub fn is_alias(a: Alias, s: Site, l: Locality) -> bool
@@ -62,27 +60,4 @@ pub fn site_of(aliases: [Alias; 56], count: usize, s: Site, g: Got) -> Located
             Value::Loc(l) => site_meant(aliases, count, s, l),
         },
     }
-}
-
-pub fn is_at(t: Table, s: Site, name: u32) -> bool
-    ensures { λ r. ⌜ r ≡ isAt s name (tableOf t) ⌝ }
-{
-    let site = t.site;
-    (s.0 == site.0) & (name == t.name)
-}
-
-// The place of the table of a site and name; `count` where there is none.
-pub fn find_table(tables: [Table; 8], count: usize, s: Site, name: u32) -> usize
-    requires { ⌜ count ≤ 8 ⌝ }
-    ensures { λ r. ⌜ r ≡ placeOf (isAt s name) (tablesOf count tables) ⌝ }
-{
-    let mut i: usize = 0;
-    while i < count {
-        let t = tables[i];
-        if is_at(t, s, name) {
-            return i;
-        }
-        i += 1;
-    }
-    count
 }

@@ -9,7 +9,7 @@ use borrow.Rule.Slice.PartMut.{putMid}
 use Rattle.rows.specs.View.{Shaped}
 use Rattle.nets.specs.declared.Table.{Table}
 use Rattle.nets.specs.View.{noTable}
-use Rattle.records.proofs.Stores.{part-size, part-written, kept-length}
+use Rattle.codec.proofs.Stores.{part-size, part-written, kept-length}
 use Rattle.records.proofs.WholeLaws.{shaped-at, bodies, body, bodies-next, length-next, bodies-room}
 use Rattle.records.proofs.writing.put_contents.Statement.{statement}
 use Rattle.records.proofs.writing.put_contents.Tie as tie

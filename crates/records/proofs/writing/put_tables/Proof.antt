@@ -10,9 +10,9 @@ use Rattle.values.specs.Lists.{firsts}
 use Rattle.values.proofs.Firsts.{map-firsts}
 use Rattle.nets.specs.declared.Table.{Table}
 use Rattle.nets.specs.View.{noTable, tableOf, tablesOf}
-use Rattle.records.specs.Writing.{endToEnd, tableBytes}
-use Rattle.records.proofs.Stores.{kept-length, ends-more, ends-all}
-use Rattle.records.proofs.WriteLaws.{table-length}
+use Rattle.codec.specs.Encoding.{endToEnd, tableBytes}
+use Rattle.codec.proofs.Stores.{kept-length, ends-more, ends-all}
+use Rattle.codec.proofs.WriteLaws.{table-length}
 use Rattle.records.proofs.writing.put_tables.Statement.{statement}
 use Rattle.records.proofs.writing.put_tables.Tie as tie
 

@@ -10,7 +10,7 @@ use Rattle.nets.specs.declared.Table.{Table}
 use Rattle.nets.specs.View.{tablesOf}
 use Rattle.records.specs.Writing.{written, refusing, writing, writtenAnswer, bufferAfter}
 use Rattle.records.specs.WriteCall.{ifRoom}
-use Rattle.records.proofs.Stores.{part-size, part-written}
+use Rattle.codec.proofs.Stores.{part-size, part-written}
 use Rattle.records.proofs.WholeLaws.{bodies, heads, written-is, heads-length}
 use borrow.Author.Needs.{needs}
 use Rattle.records.proofs.writing.write_tables.Statement.{statement}

@@ -1,4 +1,4 @@
--- `soundness::nodes::links_ok` meets its contract: each test is a clause of `linksOkAs`.
+-- `soundness::nodes::links_ok` meets its contract: the links of the node.
 use Rattle.nets.specs.Sound.{linksOkAs}
 use borrow.Author.Needs.{needs}
 use Rattle.soundness.proofs.nodes.links_ok.Statement.{statement}
@@ -6,7 +6,7 @@ use Rattle.soundness.proofs.nodes.links_ok.Tie as tie
 
 returns : tie.Need-returns
 unfolding linksOkAs
-returns c = rw (c .is-loop .ensures)
+returns c = c .links-at .ensures
 
 pub links-ok-spec : {M : Type 1} → statement M
-links-ok-spec = tie.close (tie.spec (λ c. search needs) (λ c. search needs) (λ c κs. search needs) returns)
+links-ok-spec = tie.close (tie.spec (λ c κs. search needs) returns)

@@ -1,0 +1,5 @@
+-- Laws of bytes: groups, flags, and parts put end to end.
+pub mod ByteLaws
+pub mod GroupLaws
+pub mod Stores
+pub mod WriteLaws

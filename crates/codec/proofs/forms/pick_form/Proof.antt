@@ -1,0 +1,13 @@
+-- `codec::forms::pick_form` meets its contract.
+use Rattle.codec.specs.Decoding.{pickForm}
+use borrow.Author.Needs.{needs}
+use Rattle.codec.proofs.forms.pick_form.Statement.{statement}
+use Rattle.codec.proofs.forms.pick_form.Tie as tie
+
+returns : tie.Need-returns
+unfolding pickForm
+returns c = c .zeros .ensures
+
+pub pick-form-spec : {M : Type 1} → statement M
+pick-form-spec =
+    tie.close (tie.spec (λ c. search needs) (λ c. search needs) (λ c. search needs) (λ c κs. search needs) returns)

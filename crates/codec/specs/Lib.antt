@@ -1,0 +1,4 @@
+pub mod Bytes
+pub mod Decoding
+pub mod Judging
+pub mod Encoding
