@@ -1,21 +1,7 @@
--- Laws that belong to no one function: from the parts of a net that the code holds to the rules.
-pub mod ActLaws
-pub mod ByteLaws
-pub mod CompleteLaws
-pub mod DecideLaws
-pub mod EffectTies
-pub mod FlagLaws
+-- Laws that belong to no one function: from the net that the code holds to the rules.
 pub mod HeldLaws
 pub mod KeepStep
 pub mod ListTies
-pub mod MarkLaws
-pub mod MeetTies
 pub mod ReadTies
-pub mod ReadingLaws
-pub mod RoundTies
-pub mod RowLaws
 pub mod SceneTies
-pub mod SituationLaws
 pub mod StoreTies
-pub mod ThreadLaws
-pub mod TurnLaws

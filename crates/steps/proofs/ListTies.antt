@@ -16,7 +16,8 @@ use Rattle.nets.specs.Scenes.{Scene, site, table}
 use Rattle.nets.specs.Steps.{tablesBy, addedBy, takenBy, threadsAfter, netAfter, performed, Check, verdict, judge}
 use Rattle.nets.specs.Accounts.{netLeft}
 use Rattle.nets.specs.Answers.{refusing, answerOf}
-use Rattle.steps.specs.Contracts.{isDoing, putsRows, laterChecks, outcomeAt}
+use Rattle.acts.specs.Contracts.{isDoing}
+use Rattle.turns.specs.Contracts.{putsRows, laterChecks, outcomeAt}
 use Rattle.nets.proofs.TableLaws.{change-same}
 
 -- ── the place of a site and name ──

@@ -18,8 +18,8 @@ use Rattle.rows.specs.View.{relationOf}
 use Rattle.nets.specs.declared.Pick.{Pick}
 use Rattle.nets.specs.declared.Frame.{Frame}
 use Rattle.nets.specs.declared.Node.{Node}
-use Rattle.steps.specs.declared.Located.{Located}
-use Rattle.steps.specs.declared.Situation.{Situation}
+use Rattle.turns.specs.declared.Located.{Located}
+use Rattle.turns.specs.declared.Situation.{Situation}
 use Rattle.nets.specs.declared.Net.{Net}
 use Rattle.nets.specs.Nets as M
 use Rattle.nets.specs.Nets.{bindsRelation}
@@ -29,7 +29,7 @@ use Rattle.nets.specs.Sound.{sound, entryNode, entryOk}
 use Rattle.nets.specs.Scenes.{sceneOf, top, siteOfGot, siteOfL, site, table}
 use Rattle.nets.specs.Steps.{holds}
 use Rattle.nets.specs.View.{noSite, noTable, noNode, kindAt, nodeOf, tableOf, entryOf, threadOf, aliasesOf, tablesOf, nodesOf, noThread, view}
-use Rattle.steps.specs.Contracts.{locatedOf, Meets, Fine}
+use Rattle.turns.specs.Contracts.{locatedOf, Meets, Fine}
 use Rattle.nets.proofs.SureLaws.{entry-node}
 use Rattle.steps.proofs.ListTies.{placeAt}
 use Rattle.steps.proofs.SceneTies.{threadAt, few-nodes, few-threads, node-below, pick-there, scene-thread, thread-ok, thread-entries, situation-fine, table-found, table-read}

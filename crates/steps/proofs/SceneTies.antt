@@ -1,5 +1,5 @@
 -- The scene of a pick in a sound net: its thread, entry and node are there and sound, in the model and in the code's structs. Assumes nothing.
-use Prim.Native.Nat.{ℕ, zero, suc, _-_, _<_, _≤_}
+use Prim.Native.Nat.{ℕ, zero, suc, _<_, _≤_}
 use mathlib.Core.Path.{_≡_, refl, ap, ap₂, sym, subst, _∙_}
 use mathlib.Core.Bool.{Bool, true, false, cond}
 use mathlib.Core.List.{List}
@@ -13,10 +13,8 @@ use Rattle.values.specs.Lists.{isSome, all}
 use Rattle.values.proofs.Bools.{and-l, and-r, is-true}
 use Rattle.values.proofs.ListLaws.{all-at, find-all}
 use Rattle.values.proofs.Firsts.{length-firsts, firsts-at}
-use Rattle.rows.specs.declared.Relation as Code
 use Rattle.rows.specs.Relations.{Relation}
-use Rattle.rows.specs.View.{noRow, valuesOf, relationOf, Shaped}
-use Rattle.steps.specs.declared.Situation.{Situation}
+use Rattle.turns.specs.declared.Situation.{Situation}
 use Rattle.nets.specs.declared.Pick.{Pick}
 use Rattle.nets.specs.declared.Alias.{Alias}
 use Rattle.nets.specs.declared.Frame.{Frame}
@@ -31,10 +29,12 @@ use Rattle.nets.specs.Tables.{isAt, tableAt, contentOf}
 use Rattle.nets.specs.Scenes.{Scene, sceneOf, site, table, stillToVisit}
 use Rattle.nets.specs.Steps.{judge, checks, step}
 use Rattle.nets.specs.View.{noAlias, noTable, noFrame, noNode, noThread, nodeOf, tableOf, entryOf, stackOf, threadOf, tablesOf, view}
-use Rattle.steps.specs.Contracts.{Stacked, outcomeAt, Meets, relationRead, Fine}
+use Rattle.turns.specs.Contracts.{Stacked, outcomeAt, Meets, relationRead, Fine}
 use Rattle.nets.proofs.SoundLaws.{clauses}
 use Rattle.nets.proofs.SureLaws.{StackFacts, stack-facts, entry-node, node-at}
 use Rattle.nets.proofs.RoundLaws.{visits-ok}
+use Rattle.turns.proofs.ThreadLaws.{length-stack}
+use Rattle.turns.proofs.SituationLaws.{Within, shaped}
 use Rattle.steps.proofs.ListTies.{placeAt, table-there, table-at}
 
 -- ── in the model ──
@@ -48,11 +48,6 @@ thread-entries ds t h = search (and-l, and-r)
 pub thread-bindings : (ds : List M.Node) (t : M.Thread) → T (threadOk ds t) → T (bindingsOk (t .bindings))
 thread-bindings ds t h = search (and-l, and-r)
 
--- at most 4 columns and 16 rows
-pub record Within (r : Relation) : Type 0 where
-  pub columns : length (r .columns) ≤ 4
-  pub rows : length (r .rows) ≤ 16
-
 content-within : (o : Option M.Table) → ((t : M.Table) → o ≡ some t → T (tableOk t)) → Within (contentOf o)
 content-within none h = record { columns = omega arith; rows = omega arith }
 content-within (some t) h =
@@ -63,17 +58,6 @@ content-within (some t) h =
     }
 
 -- ── counts of the code's structs ──
-
-pub shaped : (r : Code.Relation) → Within (relationOf r) → Shaped r
-shaped r h =
-    record {
-      columns = subst (λ (n : ℕ). n ≤ 4) (length-firsts (λ (k : ℕ). k) 0 (r .columns) (r .kinds)) (h .columns);
-      count = subst (λ (n : ℕ). n ≤ 16) (length-firsts (valuesOf (r .columns)) noRow (r .count) (r .rows)) (h .rows);
-    }
-
-pub length-stack : (n : ℕ) (l : List Frame) → length (stackOf n l) ≡ n
-length-stack zero l = refl
-length-stack (suc n) l = ap suc (length-stack n l)
 
 stack-within : (t : Thread) (ds : List M.Node) → T (threadOk ds (threadOf t)) → Stacked t
 stack-within t ds h =

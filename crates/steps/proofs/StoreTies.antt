@@ -20,8 +20,8 @@ use Rattle.nets.specs.declared.Refusal.the-variants.{NoThread}
 use Rattle.nets.specs.declared.Answer.{Answer}
 use Rattle.nets.specs.declared.Answer.the-variants.{Done, Refused}
 use Rattle.nets.specs.declared.Frame.{Frame}
-use Rattle.steps.specs.declared.Located.{Located}
-use Rattle.steps.specs.declared.Change.{Change}
+use Rattle.turns.specs.declared.Located.{Located}
+use Rattle.turns.specs.declared.Change.{Change}
 use Rattle.steps.specs.declared.TableList.{TableList}
 use Rattle.steps.specs.declared.ThreadList.{ThreadList}
 use Rattle.nets.specs.declared.Net.{Net}
@@ -35,7 +35,9 @@ use Rattle.nets.specs.Steps.{check14, roomBy, check20, settle, tablesBy, thread
 use Rattle.nets.specs.Accounts.{netLeft}
 use Rattle.nets.specs.View.{noTable, noThread, kindAt, tableOf, nodeOf, threadOf, tablesOf, threadsOf, view}
 use Rattle.nets.specs.Answers.{Said, refusing, numberOf, answerOf, saidOf, StepIs}
-use Rattle.steps.specs.Contracts.{isDoing, putsRows, putContent, tablesWith, laterChecks, outcomeAt, standing, forksOf, ChangeIs}
+use Rattle.acts.specs.Contracts.{isDoing}
+use Rattle.turns.specs.Contracts.{putsRows, laterChecks, outcomeAt, standing, forksOf, ChangeIs}
+use Rattle.steps.specs.Contracts.{putContent, tablesWith}
 use Rattle.nets.proofs.StepLaws.{Passed}
 use Rattle.nets.proofs.AnswerLaws.{refuses-11}
 use Rattle.nets.proofs.RoundLaws.{given}

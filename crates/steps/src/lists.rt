@@ -16,7 +16,8 @@ ghost use Rattle.rows.specs.View.{relationOf};
 ghost use Rattle.nets.specs.Steps.{settle};
 ghost use Rattle.nets.specs.Nets.{needsTable, isCreate};
 ghost use Rattle.nets.specs.View.{kindAt, tableOf, tablesOf, nodeOf, threadOf, threadsOf};
-ghost use Rattle.steps.specs.Contracts.{putContent, tablesWith, standing, forksOf};
+ghost use Rattle.turns.specs.Contracts.{standing, forksOf};
+ghost use Rattle.steps.specs.Contracts.{putContent, tablesWith};
 
 // ---- tables
 

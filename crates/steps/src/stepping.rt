@@ -1,12 +1,7 @@
 // The single step: the one place that reads the net's lists by a place and stores to them.
-use crate::Located;
-use crate::Situation;
-use crate::deciding::decide;
 use crate::lists::tables_after;
 use crate::lists::threads_after;
 use crate::places::site_of;
-use crate::threads::node_of;
-use crate::threads::top_frame;
 use nets::Answer;
 use nets::Entry;
 use nets::Net;
@@ -22,6 +17,11 @@ use rows::Cell;
 use rows::Relation;
 use rows::Row;
 use soundness::whole::sound_net;
+use turns::Located;
+use turns::Situation;
+use turns::deciding::decide;
+use turns::threads::node_of;
+use turns::threads::top_frame;
 use values::Site;
 use values::Value;
 use values::eval::eval_in;
@@ -39,7 +39,7 @@ ghost use Rattle.nets.specs.Sound.{sound, entryNode};
 ghost use Rattle.nets.specs.Steps.{holds};
 ghost use Rattle.nets.specs.Answers.{StepIs};
 ghost use Rattle.nets.specs.View.{noSite, noTable, tableOf, tablesOf, nodesOf, threadOf, view};
-ghost use Rattle.steps.specs.Contracts.{locatedOf};
+ghost use Rattle.turns.specs.Contracts.{locatedOf};
 
 pub fn refuse(r: Refusal, net: Net) -> Stepped
     ensures { λ o. ⌜ (o .answer ≡ Answer.Refused r) × (o .net ≡ net) ⌝ }

@@ -12,8 +12,8 @@ use Rattle.nets.specs.declared.Thread.{Thread}
 use Rattle.nets.specs.Nets as M
 use Rattle.nets.specs.Steps.{settle}
 use Rattle.nets.specs.View.{threadOf, threadsOf}
-use Rattle.steps.specs.Contracts.{standing, forksOf}
-use Rattle.steps.proofs.ThreadLaws.{standing-gone, standing-there, settle-none, settle-one}
+use Rattle.turns.specs.Contracts.{standing, forksOf}
+use Rattle.turns.proofs.ThreadLaws.{standing-gone, standing-there, settle-none, settle-one}
 use borrow.Author.Needs.{needs}
 use Rattle.steps.proofs.lists.threads_after.Statement.{statement}
 use Rattle.steps.proofs.lists.threads_after.Tie as tie

@@ -2,9 +2,9 @@
 use mathlib.Core.Path.{sym, ap}
 use borrow.Author.Needs.{needs}
 use Rattle.values.specs.Lists.{orElse}
-use Rattle.steps.specs.declared.Located.{Located}
+use Rattle.turns.specs.declared.Located.{Located}
 use Rattle.nets.specs.View.{noSite}
-use Rattle.steps.specs.Contracts.{locatedOf}
+use Rattle.turns.specs.Contracts.{locatedOf}
 use Rattle.steps.proofs.stepping.site_in.Statement.{statement}
 use Rattle.steps.proofs.stepping.site_in.Tie as tie
 

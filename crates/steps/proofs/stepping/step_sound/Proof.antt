@@ -7,7 +7,7 @@ use lib.ListN.{length}
 use Rattle.values.proofs.Arrays.{long}
 use Rattle.nets.specs.Scenes.{sceneOf}
 use Rattle.nets.specs.View.{view}
-use Rattle.steps.specs.Contracts.{ChangeIs}
+use Rattle.turns.specs.Contracts.{ChangeIs}
 use Rattle.steps.proofs.SceneTies.{few-tables, few-nodes, few-aliases, thread-stacked}
 use Rattle.steps.proofs.ReadTies.{Read, thread-below, entries-there, number-below, read-meets, read-fine}
 use Rattle.steps.proofs.StoreTies.{refused-is, past-refused, change-refused, tables-ready, threads-ready, done-is}

@@ -1,0 +1,220 @@
+-- What soundness and check 12 say of the parts that a pick meets: counts, table variables, the source of rows, and a select's t. Assumes nothing.
+use Prim.Native.Nat.{ℕ, _≤_, _<_}
+use mathlib.Core.Path.{_≡_, refl, ap, ap₂, sym, subst, _∙_}
+use mathlib.Core.Bool.{Bool, true, false, not, cond}
+use mathlib.Core.List.{List, map}
+use mathlib.Core.Option.{Option, none, some}
+use native.Mathlib.Omega.{arith}
+use lib.Dec.{T, eqb, ltb, eqb→eq, leb→le, ltb→lt}
+use lib.ListN.{length}
+use Rattle.values.specs.declared.Operand.{Operand}
+use Rattle.values.specs.Lists.{isSome, all}
+use Rattle.values.specs.Operands.{varsOf}
+use Rattle.values.proofs.Bools.{and-l, and-r, and-in, is-true, T-of, T-not-of}
+use Rattle.values.proofs.ListLaws.{all-at}
+use Rattle.values.proofs.Firsts.{length-firsts}
+use Rattle.rows.specs.declared.Field.{Field}
+use Rattle.rows.specs.declared.Operands.{Operands}
+use Rattle.rows.specs.declared.Relation as Code
+use Rattle.rows.specs.Relations.{Relation}
+use Rattle.rows.specs.View.{noRow, noField, valuesOf, relationOf, operandsOf, Shaped, Short}
+use Rattle.rows.specs.Contracts.{Complete}
+use Rattle.nets.specs.declared.TableVariable.{TableVariable}
+use Rattle.turns.specs.declared.Situation.{Situation}
+use Rattle.nets.specs.Nets as M
+use Rattle.nets.specs.Nets.{Kind, hasTemplate, hasTuple, isSelect, isLoop, readsRelation, bindsRelation, code}
+use Rattle.nets.specs.Sound.{operandsOk, isEmpty, templateOk, relationOk, fieldsOkAs, linksOkAs}
+use Rattle.nets.specs.Scenes.{Scene, source}
+use Rattle.nets.specs.Steps.{isBound, isHeld, readsOk, check12}
+use Rattle.nets.specs.View.{kindAt, nodeOf, variableOf, threadOf}
+use Rattle.acts.specs.Contracts.{flagAt, isStep, ActReady}
+use Rattle.turns.specs.Contracts.{visitOf, Meets, relationRead, Fine, Known, SourceIs}
+use Rattle.turns.proofs.EffectTies.{read-source, own-source}
+use Rattle.nets.proofs.RoundLaws.{given, loop-reads}
+use Rattle.turns.proofs.CompleteLaws.{select-complete}
+use Rattle.turns.proofs.MeetTies.{met-kind, met-relation}
+
+-- ── counts of a relation ──
+
+-- at most 4 columns and 16 rows
+pub record Within (r : Relation) : Type 0 where
+  pub columns : length (r .columns) ≤ 4
+  pub rows : length (r .rows) ≤ 16
+
+pub shaped : (r : Code.Relation) → Within (relationOf r) → Shaped r
+shaped r h =
+    record {
+      columns = subst (λ (n : ℕ). n ≤ 4) (length-firsts (λ (k : ℕ). k) 0 (r .columns) (r .kinds)) (h .columns);
+      count = subst (λ (n : ℕ). n ≤ 16) (length-firsts (valuesOf (r .columns)) noRow (r .count) (r .rows)) (h .rows);
+    }
+
+-- ── a node's fields, used or not ──
+
+either : {P : Type 0} (a x y : Bool) → (T x → P) → (T y → P) → T (cond a x y) → P
+either true x y f g h = f h
+either false x y f g h = g h
+
+below-two : (a : Bool) (n : ℕ) → T (cond a (ltb n 2) (eqb n 0)) → n < 2
+below-two a n = either a (ltb n 2) (eqb n 0) (ltb→lt n 2) (λ e. omega (arith, eqb→eq n 0 e))
+
+-- operands with tags, or none
+module _ (l : List Operand) where
+  some-few : (hi : ℕ) → T (operandsOk hi l) → length l ≤ 4
+  some-few hi h = leb→le (length l) 4 (search (and-l, and-r))
+
+  none-few : T (isEmpty l) → length l ≤ 4
+  none-few h = omega (arith, eqb→eq (length l) 0 h)
+
+short : (t : Operands) → length (operandsOf t) ≤ 4 → Short t
+short t h = record { count = subst (λ (n : ℕ). n ≤ 4) (length-firsts (λ (f : Field). f .operand) noField (t .count) (t .fields)) h }
+
+module _ (k : Kind) (d : M.Node) (h : T (fieldsOkAs k d)) where
+  known-kind : T (not (eqb (code k) 0))
+  unfolding fieldsOkAs
+  known-kind = search (and-l, and-r) depth 14
+
+  bound-below : d .bound < 2
+  unfolding fieldsOkAs
+  bound-below = below-two (bindsRelation k) (d .bound) (search (and-l, and-r) depth 14)
+
+  read-below : d .read < 2
+  unfolding fieldsOkAs
+  read-below = below-two (readsRelation k) (d .read) (search (and-l, and-r) depth 14)
+
+  template-few : length (d .selector .template) ≤ 4
+  unfolding fieldsOkAs
+  template-few =
+      let t : List Operand = d .selector .template in
+      either (hasTemplate k) (templateOk t) (isEmpty t) (λ g. some-few t 6 (search and-l)) (none-few t) (search (and-l, and-r) depth 14)
+
+  tuple-few : length (d .tuple) ≤ 4
+  unfolding fieldsOkAs
+  tuple-few =
+      let t : List Operand = d .tuple in
+      either (hasTuple k) (operandsOk 5 t) (cond (isSelect k) (operandsOk 4 t) (isEmpty t)) (some-few t 5)
+      (either (isSelect k) (operandsOk 4 t) (isEmpty t) (some-few t 4) (none-few t)) (search (and-l, and-r) depth 14)
+
+module _ (s : Situation) (f : Fine s) where
+  fields-fine : T (fieldsOkAs (kindAt (s .node .kind)) (nodeOf (s .node)))
+  fields-fine = and-l (fieldsOkAs (kindAt (s .node .kind)) (nodeOf (s .node))) (linksOkAs (kindAt (s .node .kind)) (f .count) (f .number) (nodeOf (s .node))) (f .node)
+
+  pub fine-bound : s .node .bound < 2
+  fine-bound = bound-below (kindAt (s .node .kind)) (nodeOf (s .node)) fields-fine
+
+  pub fine-read : s .node .read < 2
+  fine-read = read-below (kindAt (s .node .kind)) (nodeOf (s .node)) fields-fine
+
+  pub fine-template : Short (s .node .selector .template)
+  fine-template = short (s .node .selector .template) (template-few (kindAt (s .node .kind)) (nodeOf (s .node)) fields-fine)
+
+  pub fine-tuple : Short (s .node .tuple)
+  fine-tuple = short (s .node .tuple) (tuple-few (kindAt (s .node .kind)) (nodeOf (s .node)) fields-fine)
+
+  -- a kind that is no loop
+  pub fine-step : {b : Bool} → b ≡ isLoop (kindAt (s .node .kind)) → b ≡ false → T (isStep (kindAt (s .node .kind)))
+  fine-step e h =
+      and-in (not (eqb (code (kindAt (s .node .kind))) 0)) (not (isLoop (kindAt (s .node .kind)))) (known-kind (kindAt (s .node .kind)) (nodeOf (s .node)) fields-fine)
+      (T-not-of (isLoop (kindAt (s .node .kind))) (sym e ∙ h))
+
+  -- ── table variables ──
+
+  bound-fine : T (relationOk (relationRead s))
+  bound-fine =
+      let b : M.Bindings = threadOf (s .thread) .bindings in
+      let k = f .bindings in
+      let two : length (b .relations) ≡ 2 = eqb→eq (length (b .relations)) 2 (search (and-l, and-r)) in
+      all-at relationOk (b .relations) (s .node .read) none (search (and-l, and-r)) (omega (arith, fine-read))
+
+  read-shaped : (q : Code.Relation) → relationRead s ≡ some (relationOf q) → Shaped q
+  read-shaped q e =
+      let k : T (relationOk (some (relationOf q))) = subst (λ (o : Option Relation). T (relationOk o)) e bound-fine in
+      shaped q
+      (record {
+        columns = leb→le (length (relationOf q .columns)) 4 (search (and-l, and-r));
+        rows = leb→le (length (relationOf q .rows)) 16 (search (and-l, and-r));
+      })
+
+-- a table variable that holds something is bound
+variable-bound : (v : TableVariable) {o : Option Relation} → variableOf v ≡ o → T (isSome o) → o ≡ some (relationOf (v .content))
+variable-bound v {o} e h = go (v .bound) (sym e)
+  where
+    go : (b : Bool) → o ≡ cond b (some (relationOf (v .content))) none → o ≡ some (relationOf (v .content))
+    go true p = p
+    go false p = absurd (subst (λ (x : Option Relation). T (isSome x)) p h)
+
+module _ (s : Situation) (k : Known s) where
+  read-bound : T (readsRelation (kindAt (s .node .kind))) → T (isSome (relationRead s))
+  unfolding readsOk
+  read-bound r = let q = k .reads in given (readsRelation (kindAt (s .node .kind))) (isSome (relationRead s)) r (search and-r)
+
+  -- ── a select's t ──
+
+  pub known-complete : Fine s → T (isSelect (kindAt (s .node .kind))) → Complete (varsOf (s .thread .vars)) (operandsOf (s .node .selector .template)) (operandsOf (s .node .tuple))
+  known-complete f h = select-complete (threadOf (s .thread) .bindings) (nodeOf (s .node)) (f .count) (f .number) (f .node) (f .bindings) (k .reads) h
+
+-- ── check 12 ──
+
+module _ (s : Situation) (c : Scene) (m : Meets s c) where
+  met-12 : check12 c ≡ readsOk (isBound (threadOf (s .thread) .bindings .vars)) (isHeld (threadOf (s .thread) .bindings .relations)) (nodeOf (s .node))
+  unfolding check12
+  met-12 = ap₂ (λ (t : M.Thread) (d : M.Node). readsOk (isBound (t .bindings .vars)) (isHeld (t .bindings .relations)) d) (m .thread) (m .node)
+
+  pub known-12 : Known s → check12 c ≡ true
+  known-12 k = met-12 ∙ is-true (readsOk (isBound (threadOf (s .thread) .bindings .vars)) (isHeld (threadOf (s .thread) .bindings .relations)) (nodeOf (s .node))) (k .reads)
+
+-- with the variables and table variables that are bound given by flags
+module _ (s : Situation) (fs hs : List Bool) (bound : (i : ℕ) → flagAt fs i ≡ isBound (varsOf (s .thread .vars)) i) (held : (i : ℕ) → flagAt hs i ≡ isHeld (map variableOf (s .thread .relations)) i)
+    {b : Bool} (e : b ≡ readsOk (flagAt fs) (flagAt hs) (nodeOf (s .node))) where
+  reads-flagged : b ≡ readsOk (isBound (threadOf (s .thread) .bindings .vars)) (isHeld (threadOf (s .thread) .bindings .relations)) (nodeOf (s .node))
+  reads-flagged = e ∙ (λ i. readsOk (λ n. bound n i) (λ n. held n i) (nodeOf (s .node)))
+
+  pub flagged-known : b ≡ true → Known s
+  flagged-known h = record { reads = subst T (sym h ∙ reads-flagged) tt }
+
+  pub flagged-12 : (c : Scene) → Meets s c → b ≡ check12 c
+  flagged-12 c m = reads-flagged ∙ sym (met-12 s c m)
+
+-- ── the source of rows ──
+
+module _ (s : Situation) (f : Fine s) {b : Bool} (e : b ≡ readsRelation (kindAt (s .node .kind))) where
+  pub source-read : b ≡ true → Known s → (v : TableVariable) → variableOf v ≡ relationRead s → SourceIs s (v .content)
+  source-read h k v p =
+      let r : T (readsRelation (kindAt (s .node .kind))) = T-of (readsRelation (kindAt (s .node .kind))) (sym e ∙ h) in
+      let held = variable-bound v p (read-bound s k r) in
+      record {
+        shaped = read-shaped s f (v .content) held;
+        read = λ g. held;
+        own = λ g. absurd (subst T g r);
+      }
+
+  pub source-own : b ≡ false → SourceIs s (s .content)
+  source-own h = record { shaped = f .content; read = λ g. absurd (subst T (sym e ∙ h) g); own = λ g. refl }
+
+module _ (s : Situation) (q : Code.Relation) (i : SourceIs s q) where
+  pub source-met : (c : Scene) → Meets s c → relationOf q ≡ source c
+  source-met c m = go (readsRelation (kindAt (s .node .kind))) refl
+    where
+      go : (b : Bool) → readsRelation (kindAt (s .node .kind)) ≡ b → relationOf q ≡ source c
+      go true e =
+          sym (read-source c (T-of (readsRelation (c .node .kind)) (ap readsRelation (met-kind s c m) ∙ e)) (relationOf q)
+          (met-relation s c m ∙ i .read (T-of (readsRelation (kindAt (s .node .kind))) e)))
+      go false e = i .own e ∙ m .content ∙ sym (own-source c (ap readsRelation (met-kind s c m) ∙ e))
+
+  pub loop-read : T (isLoop (kindAt (s .node .kind))) → relationRead s ≡ some (relationOf q)
+  loop-read l = i .read (loop-reads (kindAt (s .node .kind)) l)
+
+  -- the places to visit are rows of it
+  pub visits-there : Fine s → T (isLoop (kindAt (s .node .kind))) → T (all (λ (j : ℕ). ltb j (q .count)) (visitOf (s .frame) (relationOf q)))
+  visits-there f l =
+      subst (λ (n : ℕ). T (all (λ (j : ℕ). ltb j n) (visitOf (s .frame) (relationOf q))))
+      (length-firsts (valuesOf (q .columns)) noRow (q .count) (q .rows)) (f .visits l (relationOf q) (loop-read l))
+
+  pub act-ready : Fine s → Known s → ActReady (s .node) (s .content) q (s .thread .vars)
+  act-ready f k =
+      record {
+        content = f .content;
+        source = i .shaped;
+        template = fine-template s f;
+        tuple = fine-tuple s f;
+        complete = known-complete s k f;
+      }

@@ -1,0 +1,175 @@
+-- What the functions that decide on a step require and give back, part by part.
+use Prim.Native.Nat.{ℕ, _≤_, _<_}
+use mathlib.Core.Path.{_≡_}
+use mathlib.Core.Bool.{Bool, true, false, not, cond, _&&_}
+use mathlib.Core.List.{List, [], _∷_, _++_}
+use mathlib.Core.Option.{Option, none, some}
+use lib.Dec.{T, eqb, ltb}
+use lib.ListN.{getD, set, length}
+use Rattle.values.specs.declared.Site.{Site}
+use Rattle.values.specs.declared.Operand.{Operand}
+use Rattle.values.specs.Lists.{all, any, among, filter, isSome}
+use Rattle.values.specs.Operands.{Vars, varsOf}
+use Rattle.rows.specs.declared.Relation as Code
+use Rattle.rows.specs.Relations.{Relation}
+use Rattle.rows.specs.Matching.{matches, rowVars}
+use Rattle.rows.specs.View.{relationOf, Shaped}
+use Rattle.rows.specs.Contracts.{Holds}
+use Rattle.turns.specs.declared.Located.{Located}
+use Rattle.turns.specs.declared.Located.the-variants.{Nowhere, At}
+use Rattle.nets.specs.declared.Frame.{Frame}
+use Rattle.nets.specs.declared.Thread.{Thread}
+use Rattle.acts.specs.declared.Effect.{Effect}
+use Rattle.turns.specs.declared.Turn.{Turn}
+use Rattle.turns.specs.declared.Turn.the-variants.{Over, Opened, Stopped}
+use Rattle.turns.specs.declared.Round.{Round}
+use Rattle.turns.specs.declared.Situation.{Situation}
+use Rattle.turns.specs.declared.Change.{Change}
+use Rattle.nets.specs.Nets as M
+use Rattle.nets.specs.Nets.{Kind, code, isLoop, readsRelation, bindsRelation, Outcome}
+use Rattle.nets.specs.Tables.{tableAt, contentOf, rowsOf, columnsOf}
+use Rattle.nets.specs.Sound.{nodeOkAs, bindingsOk}
+use Rattle.nets.specs.Scenes.{Scene, stillToVisit, site, siteOfL, table}
+use Rattle.nets.specs.Steps.{isBound, isHeld, readsOk, holds, keepThread, settle, tablesBy, threadsAfter, performed, Check, check, check12, check13, check14, check15, check16, check17, check18, check19, check20, judge}
+use Rattle.nets.specs.View.{kindAt, nodeOf, entryOf, threadOf, marked}
+use Rattle.nets.specs.Answers.{answerOf, numberOf, saidOf}
+use Rattle.acts.specs.Contracts.{isDoing}
+
+-- ── places ──
+
+abbrev pub locatedOf : Located → Option Site
+locatedOf Nowhere = none
+locatedOf (At s) = some s
+
+-- ── rounds of loops ──
+
+-- over, a round, or refused with a number
+pub data Turned : Type 0 where
+  over opened : Turned
+  stopped : ℕ → Turned
+
+abbrev pub turnOf : Turn → Turned
+turnOf Over = over
+turnOf Opened = opened
+turnOf (Stopped r) = stopped (numberOf r)
+
+-- from the tests: T is as long as the columns, a row still to visit matches, the row picked is one, there is room
+abbrev pub turnBy : Bool → Bool → Bool → Bool → Turned
+turnBy false a q r = stopped 16
+turnBy true false q r = over
+turnBy true true false r = stopped 19
+turnBy true true true false = stopped 20
+turnBy true true true true = opened
+
+-- the places still to visit in a relation
+abbrev pub visitOf : Frame → Relation → List ℕ
+visitOf f r = stillToVisit (entryOf f) (length (r .rows))
+
+abbrev pub readyAt : Vars → List Operand → Relation → ℕ → Bool
+readyAt e t r i = matches e t (getD (r .rows) i [])
+
+-- a round on a row: its place leaves the set, and T's formals bind to it
+pub record OpenedIs (e : Vars) (t : List Operand) (r : Relation) (v : List ℕ) (row : ℕ) (o : Round) : Type 0 where
+  pub turn : o .turn ≡ Opened
+  pub visit : marked 0 (o .visit) ≡ filter (λ i. not (eqb i row)) v
+  pub vars : varsOf (o .vars) ≡ rowVars e t (getD (r .rows) row [])
+
+pub record RoundIs (e : Vars) (t : List Operand) (r : Relation) (f : Frame) (row : ℕ) (room : Bool) (o : Round) : Type 0 where
+  pub turn :
+      turnOf (o .turn)
+      ≡ turnBy (eqb (length t) (length (r .columns))) (any (readyAt e t r) (visitOf f r)) (among row (visitOf f r) && readyAt e t r row) room
+  pub visit : turnOf (o .turn) ≡ opened → marked 0 (o .visit) ≡ filter (λ i. not (eqb i row)) (visitOf f r)
+  pub vars : turnOf (o .turn) ≡ opened → varsOf (o .vars) ≡ rowVars e t (getD (r .rows) row [])
+
+-- ── threads ──
+
+-- a stack with an entry, within its array
+pub record Stacked (t : Thread) : Type 0 where
+  pub some : 1 ≤ t .depth
+  pub few : t .depth ≤ 8
+
+-- ── the step from small parts ──
+
+-- the checks after 10 and 11
+abbrev pub laterChecks : Scene → List Check
+laterChecks c =
+    check 12 (check12 c)
+    ∷ check 13 (check13 c)
+    ∷ check 14 (check14 c)
+    ∷ check 15 (check15 c)
+    ∷ check 16 (check16 c)
+    ∷ check 17 (check17 c)
+    ∷ check 18 (check18 c)
+    ∷ check 19 (check19 c)
+    ∷ check 20 (check20 c)
+    ∷ []
+
+abbrev pub outcomeAt : Scene → Outcome
+outcomeAt c = judge (laterChecks c) (performed c)
+
+-- the parts that a pick meets are those of a scene
+pub record Meets (s : Situation) (c : Scene) : Type 0 where
+  pub thread : c .thread ≡ threadOf (s .thread)
+  pub entry : c .entry ≡ entryOf (s .frame)
+  pub node : c .node ≡ nodeOf (s .node)
+  pub located : siteOfL c ≡ locatedOf (s .located)
+  pub found : s .found ≡ isSome (table c)
+  pub content : relationOf (s .content) ≡ contentOf (table c)
+  pub held : T (bindsRelation (c .node .kind)) → s .held ≡ any (holds (c .net .nodes) (c .node .bound)) (c .thread .stack)
+  pub tables : s .tables ≡ length (c .net .tables)
+  pub threads : s .threads ≡ length (c .net .threads)
+  pub row : s .row ≡ c .row
+
+-- the table variable that the node reads
+abbrev pub relationRead : Situation → Option Relation
+relationRead s = getD (threadOf (s .thread) .bindings .relations) (s .node .read) none
+
+-- what soundness says of them
+pub record Fine (s : Situation) : Type 0 where
+  pub number : ℕ
+  pub count : ℕ
+  pub node : T (nodeOkAs (kindAt (s .node .kind)) count number (nodeOf (s .node)))
+  pub bindings : T (bindingsOk (threadOf (s .thread) .bindings))
+  pub stacked : Stacked (s .thread)
+  pub content : Shaped (s .content)
+  -- a loop entry's places are rows of the table variable read
+  pub visits : T (isLoop (kindAt (s .node .kind))) → (r : Relation) → relationRead s ≡ some r → T (all (λ i. ltb i (length (r .rows))) (visitOf (s .frame) r))
+
+-- check 12 passed, said of the parts
+pub record Known (s : Situation) : Type 0 where
+  pub reads : T (readsOk (isBound (threadOf (s .thread) .bindings .vars)) (isHeld (threadOf (s .thread) .bindings .relations)) (nodeOf (s .node)))
+
+-- the source of rows: what the table variable read holds, or the table's content
+pub record SourceIs (s : Situation) (r : Code.Relation) : Type 0 where
+  pub shaped : Shaped r
+  pub read : T (readsRelation (kindAt (s .node .kind))) → relationRead s ≡ some (relationOf r)
+  pub own : readsRelation (kindAt (s .node .kind)) ≡ false → relationOf r ≡ relationOf (s .content)
+
+-- the bindings of a thread after an effect
+abbrev pub boundWith : Situation → Effect → M.Bindings
+boundWith s e =
+    record {
+      vars = varsOf (e .vars);
+      relations = cond (bindsRelation (kindAt (s .node .kind))) (set (threadOf (s .thread) .bindings .relations) (s .node .bound) (some (relationOf (e .bound)))) (threadOf (s .thread) .bindings .relations);
+    }
+
+-- what becomes of a thread: itself, or nothing where its stack is empty
+abbrev pub standing : M.Thread → List M.Thread
+standing t = keepThread t (t .stack)
+
+-- the new thread of a parallel round, if there is one
+abbrev pub forksOf : Bool → Thread → List M.Thread
+forksOf false t = []
+forksOf true t = threadOf t ∷ []
+
+-- the step changes the rows of a table that stays
+abbrev pub putsRows : Kind → Bool
+putsRows k = among (code k) (16 ∷ 17 ∷ 18 ∷ 21 ∷ [])
+
+pub record ChangeIs (c : Scene) (r : Change) : Type 0 where
+  pub answer : saidOf (r .answer) ≡ answerOf (outcomeAt c)
+  -- the rows of the table at the step's site and name afterwards, where the step changes them
+  pub content : T (isDoing (saidOf (r .answer))) → T (putsRows (c .node .kind)) → Holds (r .content) (columnsOf (table c)) (rowsOf (tableAt (site c) (c .node .name) (tablesBy (c .node .kind) c)))
+  -- what becomes of the thread, and the new thread of a parallel round
+  pub room : T (r .forks) → (length (c .net .threads) < 8) × (1 ≤ r .thread .depth)
+  pub threads : T (isDoing (saidOf (r .answer))) → threadsAfter c ≡ settle (c .at) (standing (threadOf (r .thread))) (c .net .threads) ++ forksOf (r .forks) (r .fork)
