@@ -1,17 +1,16 @@
--- Tables by their place: what is found at a site and name, changed and removed there, and the net after a step. Assumes nothing.
-use Prim.Native.Nat.{ℕ, _<_}
+-- Tables changed and removed at their place, and the net after a step. Assumes nothing.
+use Prim.Native.Nat.{ℕ}
 use mathlib.Core.Path.{_≡_, refl, ap, sym, _∙_}
 use mathlib.Core.Bool.{Bool, true, false}
 use mathlib.Core.List.{List, [], _∷_}
 use mathlib.Core.Option.{Option, some}
-use lib.Dec.{T, ltb, ltb→lt}
-use lib.ListN.{length, getD, set}
+use lib.Dec.{T}
+use lib.ListN.{getD, set}
 use Rattle.values.specs.declared.Site.{Site}
-use Rattle.values.specs.Lists.{isSome, nextPlace, placeOf, removeAt}
-use Rattle.values.proofs.PlaceLaws.{find-place, place-found}
+use Rattle.values.specs.Lists.{isSome, removeAt}
 use Rattle.rows.specs.Relations.{Row}
 use Rattle.nets.specs.Nets.{Table, Kind, acting, other, insert, insertTable, delete, update, create, drop, select, selectRelation, aggregate, sequential, parallel, badKind, Net, Outcome, refused, done}
-use Rattle.nets.specs.Tables.{isAt, tableAt, rowsOf, columnsOf, withRows, changed, change, removed, remove}
+use Rattle.nets.specs.Tables.{tableAt, rowsOf, columnsOf, withRows, change}
 use Rattle.nets.specs.Scenes.{Scene, site, table}
 use Rattle.nets.specs.Steps.{tablesBy, addedBy, takenBy, threadsAfter, netAfter, performed, Check, verdict, judge}
 use Rattle.nets.specs.Accounts.{netLeft}
@@ -19,54 +18,23 @@ use Rattle.nets.specs.Answers.{refusing, answerOf}
 use Rattle.acts.specs.Contracts.{isDoing}
 use Rattle.turns.specs.Contracts.{putsRows, laterChecks, outcomeAt}
 use Rattle.nets.proofs.TableLaws.{change-same}
+use Rattle.nets.proofs.TablePlaces.{placeAt, place-below, table-at, change-place, remove-place}
 
 -- ── the place of a site and name ──
 
 module _ (s : Site) (n : ℕ) where
-  -- the first table there; the number of tables where there is none
-  abbrev pub placeAt : List Table → ℕ
-  placeAt ts = placeOf (isAt s n) ts
-
-  pub table-there : (ts : List Table) → isSome (tableAt s n ts) ≡ ltb (placeAt ts) (length ts)
-  table-there ts = sym (find-place (isAt s n) ts)
-
-  pub place-below : (ts : List Table) → T (isSome (tableAt s n ts)) → placeAt ts < length ts
-  place-below ts h = ltb→lt (placeAt ts) (length ts) (rw table-there at h)
-
-  pub table-at : (ts : List Table) (d : Table) → placeAt ts < length ts → tableAt s n ts ≡ some (getD ts (placeAt ts) d)
-  table-at ts d h = place-found (isAt s n) ts d h
-
-  pub change-place : (g : List Row → List Row) (ts : List Table) (d : Table) → change s n g ts ≡ set ts (placeAt ts) (withRows (g (getD ts (placeAt ts) d .content .rows)) (getD ts (placeAt ts) d))
-  unfolding change
-  change-place g [] d = refl
-  change-place g (t ∷ ts) d = go (isAt s n t) (change-place g ts d)
-    where
-      go : (b : Bool) → change s n g ts ≡ set ts (placeAt ts) (withRows (g (getD ts (placeAt ts) d .content .rows)) (getD ts (placeAt ts) d)) →
-          changed b g t ts (change s n g ts) ≡ set (t ∷ ts) (nextPlace b (placeAt ts)) (withRows (g (getD (t ∷ ts) (nextPlace b (placeAt ts)) d .content .rows)) (getD (t ∷ ts) (nextPlace b (placeAt ts)) d))
-      go true ih = refl
-      go false ih = ap (t ∷_) ih
-
-  pub remove-place : (ts : List Table) → remove s n ts ≡ removeAt (placeAt ts) ts
-  unfolding remove
-  remove-place [] = refl
-  remove-place (t ∷ ts) = go (isAt s n t) (remove-place ts)
-    where
-      go : (b : Bool) → remove s n ts ≡ removeAt (placeAt ts) ts → removed b t ts (remove s n ts) ≡ removeAt (nextPlace b (placeAt ts)) (t ∷ ts)
-      go true ih = refl
-      go false ih = ap (t ∷_) ih
-
   -- the table at the place, with the rows that a change leaves there
   abbrev pub rowsPut : List Table → List Table → Table → Table
   rowsPut ts us t = record { site = t .site; name = t .name; content = record { columns = columnsOf (tableAt s n ts); rows = rowsOf (tableAt s n us) } }
 
-  change-put : (g : List Row → List Row) (ts : List Table) (d : Table) → T (isSome (tableAt s n ts)) → change s n g ts ≡ set ts (placeAt ts) (rowsPut ts (change s n g ts) (getD ts (placeAt ts) d))
-  change-put g ts d h = change-place g ts d ∙ ap (set ts (placeAt ts)) same
+  change-put : (g : List Row → List Row) (ts : List Table) (d : Table) → T (isSome (tableAt s n ts)) → change s n g ts ≡ set ts (placeAt s n ts) (rowsPut ts (change s n g ts) (getD ts (placeAt s n ts) d))
+  change-put g ts d h = change-place s n g ts d ∙ ap (set ts (placeAt s n ts)) same
     where
       t : Table
-      t = getD ts (placeAt ts) d
+      t = getD ts (placeAt s n ts) d
 
       found : tableAt s n ts ≡ some t
-      found = table-at ts d (place-below ts h)
+      found = table-at s n ts d (place-below s n ts h)
 
       rows : g (t .content .rows) ≡ rowsOf (tableAt s n (change s n g ts))
       rows = ap (λ (o : Option Table). g (rowsOf o)) (sym found) ∙ sym (change-same s n g ts h)

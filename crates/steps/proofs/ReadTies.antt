@@ -31,7 +31,7 @@ use Rattle.nets.specs.Steps.{holds}
 use Rattle.nets.specs.View.{noSite, noTable, noNode, kindAt, nodeOf, tableOf, entryOf, threadOf, aliasesOf, tablesOf, nodesOf, noThread, view}
 use Rattle.turns.specs.Contracts.{locatedOf, Meets, Fine}
 use Rattle.nets.proofs.SureLaws.{entry-node}
-use Rattle.steps.proofs.ListTies.{placeAt}
+use Rattle.nets.proofs.TablePlaces.{placeAt}
 use Rattle.steps.proofs.SceneTies.{threadAt, few-nodes, few-threads, node-below, pick-there, scene-thread, thread-ok, thread-entries, situation-fine, table-found, table-read}
 
 abbrev pub nodeRead : Net → ℕ → Node

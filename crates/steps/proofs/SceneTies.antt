@@ -35,7 +35,7 @@ use Rattle.nets.proofs.SureLaws.{StackFacts, stack-facts, entry-node, node-at}
 use Rattle.nets.proofs.RoundLaws.{visits-ok}
 use Rattle.turns.proofs.ThreadLaws.{length-stack}
 use Rattle.turns.proofs.SituationLaws.{Within, shaped}
-use Rattle.steps.proofs.ListTies.{placeAt, table-there, table-at}
+use Rattle.nets.proofs.TablePlaces.{placeAt, table-there, table-at}
 
 -- ── in the model ──
 
