@@ -19,7 +19,8 @@ use Rattle.records.specs.declared.Loaded.{Loaded}
 use Rattle.records.specs.Loading.{LoadAnswer, rejected, accepted, emptyNet, loadBytes, faultOf, isAccepted}
 use Rattle.records.specs.FileDemand3.{fileNet, FileDemand3}
 use Rattle.records.specs.Empty.{blankNet}
-use Rattle.records.specs.Engine.{faultIn, LoadIs, Chain, lastNet, addedSaid, takenSaid, addedReported, takenReported, EveryEngineRun}
+use Rattle.records.specs.Engine.{faultIn, LoadIs}
+use Rattle.records.specs.EngineDemand3.{Chain, lastNet, addedSaid, takenSaid, addedReported, takenReported, EveryEngineRun}
 use Rattle.records.proofs.FileLaws.{file-demand3}
 
 -- ── the rules, given what was left and reported ──

@@ -8,16 +8,13 @@ use lib.Dec.{T, leb, leb→le}
 use lib.ListN.{length, take, drop, length-append, length-drop}
 use lib.Seq.{take-at}
 use Rattle.values.specs.Lists.{among}
-use Rattle.nets.specs.declared.Net as Code
 use Rattle.nets.specs.Nets.{Net}
 use Rattle.nets.specs.Sound.{sound}
 use Rattle.nets.specs.View.{view}
 use Rattle.nets.proofs.SoundLaws.{clauses, whole}
-use Rattle.records.specs.declared.Written.the-variants.{Length}
-use Rattle.records.specs.Loading.{accepted, loadBytes}
+use Rattle.records.specs.Loading.{accepted, loadBytes, faultOf, netLoaded, picksLoaded}
 use Rattle.records.specs.Writing.{written, Wrote, notWritten, wrote, write, bufferAfter, writing, writtenAnswer}
-use Rattle.records.specs.RoundTrip.{tablesOnly}
-use Rattle.records.specs.Engine.{WriteIs}
+use Rattle.records.specs.RoundTrip.{tablesOnly, EveryWriteIsRead}
 use Rattle.records.proofs.RoundTrip.{written-read}
 
 -- a refusal is 10 or 21
@@ -75,6 +72,8 @@ module _ (net : Net) (buffer : List ℕ) where
           let i = wrote-is bs q in
           ap loadBytes (take-at bs (drop (length bs) buffer) n l ∙ i .1) ∙ written-read (net .tables) (tables-sound net (i .0))
 
--- of what the engine returned: the first bytes of the buffer, as many as it says, load as the tables that it wrote
-pub engine-read-back : (net : Code.Net) (before after : List ℕ) (n : ℕ) → WriteIs net before after (Length n) → loadBytes (take n after) ≡ accepted (tablesOnly (view net .tables)) []
-engine-read-back net before after n h = ap (λ bs. loadBytes (take n bs)) (h .buffer) ∙ write-read (view net) before n (sym (h .answer))
+-- of what the calls returned: the first bytes of the buffer, as many as `write` says, load as the tables that it wrote
+pub engine-read-back : EveryWriteIsRead
+engine-read-back net before after n h l k =
+    let e : loadBytes (take n after) ≡ accepted (tablesOnly (view net .tables)) [] = ap (λ bs. loadBytes (take n bs)) (h .buffer) ∙ write-read (view net) before n (sym (h .answer)) in
+    record { fault = k .fault ∙ ap faultOf e; tables = k .net ∙ ap netLoaded e; picks = k .picks ∙ ap picksLoaded e }

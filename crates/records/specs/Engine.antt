@@ -1,16 +1,14 @@
--- The contracts of loading and writing, and demand 3 of what the engine's own calls return.
+-- The contracts of loading and writing: what the calls return, by the rules.
 use Prim.Native.Nat.{ℕ}
 use mathlib.Core.Path.{_≡_}
 use mathlib.Core.Bool.{Bool, true, false}
-use mathlib.Core.List.{List, [], _∷_, map}
+use mathlib.Core.List.{List}
 use mathlib.Core.Option.{Option, none, some}
 use lib.Dec.{T}
-use Rattle.values.specs.Lists.{sum, firsts}
+use Rattle.values.specs.Lists.{firsts}
 use Rattle.nets.specs.declared.Pick.{Pick}
 use Rattle.nets.specs.declared.Net.{Net}
-use Rattle.nets.specs.declared.Stepped.{Stepped}
 use Rattle.nets.specs.View.{view}
-use Rattle.nets.specs.Answers.{Said, refusing, doing, saidOf, StepIs}
 use Rattle.records.specs.declared.Verdict.{Verdict}
 use Rattle.records.specs.declared.Verdict.the-variants as verdict
 use Rattle.records.specs.declared.Loaded.{Loaded}
@@ -19,7 +17,6 @@ use Rattle.records.specs.declared.Written.the-variants.{Length, Unsound,
 use Rattle.records.specs.Loading.{loadBytes, Fault, faultOf, netLoaded, picksLoaded}
 use Rattle.records.specs.Writing as W
 use Rattle.records.specs.Writing.{WriteSaid, writing, write, bufferAfter, writtenAnswer}
-use Rattle.records.specs.FileDemand3.{FileDemand3}
 use Rattle.records.specs.Empty.{blankNet}
 
 -- ── loading ──
@@ -62,46 +59,3 @@ saidWritten Short = W.refusing 21
 pub record WriteIs (net : Net) (before after : List ℕ) (r : Written) : Type 0 where
   pub answer : saidWritten r ≡ writtenAnswer (write (view net) before)
   pub buffer : after ≡ bufferAfter before (write (view net) before)
-
--- ── one call of `step` after another ──
-
--- each call met its contract, and got exactly the net that the call before it gave back
-abbrev pub Chain : Net → List Pick → List Stepped → Type 0
-Chain net [] [] = Unit {0}
-Chain net [] (r ∷ rs) = ⊥
-Chain net (p ∷ ps) [] = ⊥
-Chain net (p ∷ ps) (r ∷ rs) = StepIs net p r × Chain (r .net) ps rs
-
--- the net that the last call gave back; for no calls the one they would begin with
-abbrev pub lastNet : Net → List Stepped → Net
-lastNet net [] = net
-lastNet net (r ∷ rs) = lastNet (r .net) rs
-
--- the counts in an answer; a refused pick reports none
-abbrev pub addedSaid : Said → ℕ
-addedSaid (refusing n vs) = 0
-addedSaid (doing a t) = a
-
-abbrev pub takenSaid : Said → ℕ
-takenSaid (refusing n vs) = 0
-takenSaid (doing a t) = t
-
--- the sums of the counts in the answers returned
-abbrev pub addedReported : List Stepped → ℕ
-addedReported rs = sum (map (λ (r : Stepped). addedSaid (saidOf (r .answer))) rs)
-
-abbrev pub takenReported : List Stepped → ℕ
-takenReported rs = sum (map (λ (r : Stepped). takenSaid (saidOf (r .answer))) rs)
-
--- ── demand 3 of what the engine returned ──
-
--- standing, fit, names and what is untouched are read off the last net returned, and reported counts off the answers returned; loaded, added, taken
--- and acted are of the file and the picks
-abbrev pub EngineDemand3 : List ℕ → Loaded → List Pick → List Stepped → Type 0
-EngineDemand3 file l ps rs = FileDemand3 file ps (view (lastNet (l .net) rs)) (addedReported rs) (takenReported rs)
-
--- the whole claim over the engine: every file that it accepts, every list of picks, every list of answers to them
-abbrev pub EveryEngineRun : Type 0
-EveryEngineRun =
-    (file : List ℕ) (l : Loaded) → LoadIs file l → l .verdict ≡ verdict.Accepted →
-    (ps : List Pick) (rs : List Stepped) → Chain (l .net) ps rs → EngineDemand3 file l ps rs
