@@ -13,9 +13,9 @@ use Rattle.codec.specs.Decoding.{Record, aliasRecord, tableRecord, rowRecord, n
 use Rattle.codec.specs.Judging.{groupAt}
 use Rattle.codec.proofs.GroupLaws.{byGroup, by-group}
 use Rattle.records.specs.declared.Reach.{Reach}
-use Rattle.records.specs.Loading.{Progress, groupOf, stopped, readAll}
+use Rattle.files.specs.Loading.{Progress, groupOf, stopped, readAll}
 use Rattle.records.specs.Walking.{rest, byFault, outcome, groupNext, Going, byEnd, Ends, isGood, decodedFault}
-use Rattle.records.proofs.FaultLaws.{decodedNumbered, record-numbered}
+use Rattle.files.proofs.FaultLaws.{decodedNumbered, record-numbered}
 use Rattle.records.proofs.WalkLaws.{recordAt, withGroup, first-byte, records-length, rest-bad, rest-early}
 
 -- ── by the group ──

@@ -1,23 +1,10 @@
--- Laws of the model of files: what loading accepts is sound and has the file's tables; demand 3; what is written is read again.
+-- Laws for the code of loading and writing.
 pub mod AliasLaws
-pub mod EndToEnd
-pub mod EngineLaws
-pub mod FaultLaws
 pub mod FormLaws
-pub mod FileLaws
 pub mod LeftLaws
 pub mod LinkLaws
 pub mod LoadCall
-pub mod LoadLaws
 pub mod PlaceTies
-pub mod PutLaws
-pub mod ReadBack
-pub mod RecordLaws
-pub mod RoundTrip
-pub mod RowBack
 pub mod RowLaws
-pub mod TableBack
 pub mod WalkLaws
-pub mod ValueBack
 pub mod WholeLaws
-pub mod WrittenBack

@@ -16,7 +16,7 @@ use Rattle.soundness.specs.SoundParts.{linksAt}
 use Rattle.codec.specs.Bytes.{at}
 use Rattle.codec.specs.Decoding.{Record, aliasRecord, tableRecord, rowRecord, nodeRecord, startRecord, pickRecord, Decoded, good, bad, siteAt, nodeIn, nodeForm, startForm, judged, recordIn, wholeRecords, recordsIn}
 use Rattle.codec.specs.Judging.{groupAt}
-use Rattle.records.specs.Loading.{groupOf, linkOk, numberAfter, badLink, firstBadLink}
+use Rattle.files.specs.Loading.{groupOf, linkOk, numberAfter, badLink, firstBadLink}
 use Rattle.records.specs.Walking.{isGood, placeOr, LinkIs}
 use Rattle.records.proofs.LeftLaws.{not-good, of-group, good-group}
 use Rattle.records.proofs.WalkLaws.{recordAt, records-cons, records-length}

@@ -14,14 +14,14 @@ use Rattle.nets.specs.declared.Net.{Net}
 use Rattle.nets.specs.declared.Pick.{Pick}
 use Rattle.nets.specs.View.{noNode, nodeOf, view}
 use Rattle.codec.specs.Decoding.{Decoded, good, bad, wholeRecords, recordsIn}
-use Rattle.records.specs.declared.Loaded.{Loaded}
+use Rattle.files.specs.declared.Loaded.{Loaded}
 use Rattle.records.specs.declared.Reach.{Reach}
-use Rattle.records.specs.declared.Verdict.the-variants as verdict
-use Rattle.records.specs.Empty.{blankNet}
-use Rattle.records.specs.Engine.{faultIn, picksOf, LoadIs}
-use Rattle.records.specs.Loading.{Progress, nothingRead, loadChecks, advance, failing, Reading, stopped, finished, proceed, readAll, linkOk, numberAfter, badLink, firstBadLink, rejected, accepted, linked, finish, load, loadBytes, faultOf, netLoaded, picksLoaded}
+use Rattle.files.specs.declared.Verdict.the-variants as verdict
+use Rattle.files.specs.Empty.{blankNet}
+use Rattle.files.specs.Engine.{faultIn, picksOf, LoadIs}
+use Rattle.files.specs.Loading.{Progress, nothingRead, loadChecks, advance, failing, Reading, stopped, finished, proceed, readAll, linkOk, numberAfter, badLink, firstBadLink, rejected, accepted, linked, finish, load, loadBytes, faultOf, netLoaded, picksLoaded}
 use Rattle.records.specs.Walking.{byEnd, ending, isGood, placeOr}
-use Rattle.records.proofs.EngineLaws.{blank-empty}
+use Rattle.files.proofs.EngineLaws.{blank-empty}
 use Rattle.records.proofs.WalkLaws.{records-length}
 
 -- ── what a caller gets ──

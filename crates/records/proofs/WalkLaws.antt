@@ -20,7 +20,7 @@ use Rattle.codec.proofs.ByteLaws.{not-this}
 use Rattle.codec.proofs.Stores.{part-size}
 use Rattle.codec.proofs.GroupLaws.{byGroup, by-group}
 use Rattle.records.specs.declared.Reach.{Reach}
-use Rattle.records.specs.Loading.{Progress, groupOf, loadChecks, advance, failed, failing, stopped, proceed, readAll}
+use Rattle.files.specs.Loading.{Progress, groupOf, loadChecks, advance, failed, failing, stopped, proceed, readAll}
 use Rattle.records.specs.Walking.{rest, byFault, Leads, groupNext, Going, orZero, numberOf, formThen}
 
 -- ── the record at a place ──

@@ -16,7 +16,7 @@ use Rattle.nets.specs.Nets as M
 use Rattle.nets.specs.Sound.{tableOk}
 use Rattle.nets.specs.View.{noTable, tableOf, tablesOf}
 use Rattle.codec.specs.Encoding.{endToEnd, tableBytes, rowBytes}
-use Rattle.records.specs.Writing.{rowsBytes, allRows, written}
+use Rattle.files.specs.Writing.{rowsBytes, allRows, written}
 use Rattle.codec.proofs.Stores.{ends-append, ends-length}
 use Rattle.codec.proofs.WriteLaws.{row-length, table-length}
 

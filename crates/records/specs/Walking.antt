@@ -17,7 +17,7 @@ use Rattle.codec.specs.Bytes.{at}
 use Rattle.codec.specs.Decoding.{Record, Decoded, good, bad, recordIn, wholeRecords, recordsIn}
 use Rattle.codec.specs.Judging.{groupAt}
 use Rattle.records.specs.declared.Reach.{Reach}
-use Rattle.records.specs.Loading.{Progress, failing, Reading, stopped, finished, readAll, linkOk}
+use Rattle.files.specs.Loading.{Progress, failing, Reading, stopped, finished, readAll, linkOk}
 
 -- ── what was read, with one list in the place of another ──
 

@@ -4,7 +4,7 @@ use mathlib.Core.Bool.{cond}
 use mathlib.Core.List.{List}
 use lib.Dec.{leb}
 use lib.ListN.{length}
-use Rattle.records.specs.Writing.{Wrote, notWritten, wrote}
+use Rattle.files.specs.Writing.{Wrote, notWritten, wrote}
 
 unfoldable pub ifRoom : List ℕ → List ℕ → Wrote
 ifRoom bs buffer = cond (leb (length bs) (length buffer)) (wrote bs) (notWritten 21)

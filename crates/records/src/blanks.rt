@@ -23,7 +23,7 @@ use values::Slot;
 use values::Value;
 ghost use mathlib.Core.Path.{_≡_};
 ghost use Rattle.nets.specs.View.{noAlias};
-ghost use Rattle.records.specs.Empty.{blankRelation, blankTable, blankOperands, blankNode, blankThread, blankNet};
+ghost use Rattle.files.specs.Empty.{blankRelation, blankTable, blankOperands, blankNode, blankThread, blankNet};
 
 pub fn blank_alias() -> Alias
     ensures { λ r. ⌜ r ≡ noAlias ⌝ }

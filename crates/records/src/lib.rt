@@ -18,27 +18,6 @@ pub mod tables;
 pub mod walking;
 pub mod writing;
 
-// A file accepted, or its first fault: number and record place.
-pub enum Verdict {
-    Accepted,
-    Fault(u8, usize),
-}
-
-// The net and the picks of an accepted file; of a refused one the empty net and no picks.
-pub struct Loaded {
-    pub verdict: Verdict,
-    pub net: Net,
-    pub picks: [Pick; 256],
-    pub pickcount: usize,
-}
-
-// The length written, or the number of a refusal.
-pub enum Written {
-    Length(usize),
-    Unsound,
-    Short,
-}
-
 // How far reading came: the place of the next record, the group of the last one read, and the number of the fault at that place, 0 for none.
 pub struct Reach {
     pub place: usize,

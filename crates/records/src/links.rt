@@ -8,7 +8,7 @@ ghost use lib.Dec.{T, eqb, ltb};
 ghost use lib.ListN.{length};
 ghost use Rattle.values.specs.Lists.{all};
 ghost use Rattle.codec.specs.Decoding.{wholeRecords, recordsIn};
-ghost use Rattle.records.specs.Loading.{firstBadLink};
+ghost use Rattle.files.specs.Loading.{firstBadLink};
 ghost use Rattle.records.specs.Walking.{isGood, placeOr, LinkIs};
 
 // A start's node is among the `n` nodes.

@@ -1,8 +1,6 @@
 // Loading: checks 1 to 9 in order, and the net and picks of a file that passes them.
 use crate::FileRead;
-use crate::Loaded;
 use crate::Reach;
-use crate::Verdict;
 use crate::aliases::aliases_from;
 use crate::blanks::blank_net;
 use crate::contents::rows_from;
@@ -18,6 +16,8 @@ use codec::forms::row_form;
 use codec::forms::start_form;
 use codec::forms::table_form;
 use codec::nodes::node_form;
+use files::Loaded;
+use files::Verdict;
 use nets::Net;
 use nets::Pick;
 ghost use mathlib.Core.Path.{_≡_};
@@ -26,9 +26,9 @@ ghost use Prim.Native.Nat.{_≤_, _*_};
 ghost use lib.ListN.{length};
 ghost use Rattle.nets.specs.View.{view};
 ghost use Rattle.codec.specs.Decoding.{recordIn, wholeRecords, recordsIn};
-ghost use Rattle.records.specs.Empty.{blankNet};
-ghost use Rattle.records.specs.Engine.{LoadIs, picksOf};
-ghost use Rattle.records.specs.Loading.{nothingRead, readAll};
+ghost use Rattle.files.specs.Empty.{blankNet};
+ghost use Rattle.files.specs.Engine.{LoadIs, picksOf};
+ghost use Rattle.files.specs.Loading.{nothingRead, readAll};
 ghost use Rattle.records.specs.Walking.{Going, Ends, ending, decodedFault};
 
 fn formed(ok: bool) -> u8

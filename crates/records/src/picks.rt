@@ -9,7 +9,7 @@ ghost use mathlib.Core.Path.{_≡_};
 ghost use mathlib.Core.List.{[]};
 ghost use lib.ListN.{length};
 ghost use Rattle.codec.specs.Decoding.{pickForm};
-ghost use Rattle.records.specs.Engine.{picksOf};
+ghost use Rattle.files.specs.Engine.{picksOf};
 ghost use Rattle.records.specs.Walking.{putPicks, Leads, Going, formThen};
 
 // The number of its fault, 0 for none.

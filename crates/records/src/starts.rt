@@ -16,7 +16,7 @@ ghost use Rattle.nets.specs.Steps.{check};
 ghost use Rattle.nets.specs.View.{threadOf, threadsOf};
 ghost use Rattle.codec.specs.Bytes.{at};
 ghost use Rattle.codec.specs.Decoding.{siteAt, startForm};
-ghost use Rattle.records.specs.Loading.{fresh};
+ghost use Rattle.files.specs.Loading.{fresh};
 ghost use Rattle.records.specs.Walking.{putThreads, Leads, Going, formThen};
 
 // The number of its fault, 0 for none.

@@ -25,7 +25,7 @@ ghost use Rattle.nets.specs.Steps.{check};
 ghost use Rattle.nets.specs.View.{tableOf, tablesOf};
 ghost use Rattle.codec.specs.Bytes.{part, columnsIn};
 ghost use Rattle.codec.specs.Decoding.{siteAt, nameIn, tableForm};
-ghost use Rattle.records.specs.Loading.{bare};
+ghost use Rattle.files.specs.Loading.{bare};
 ghost use Rattle.records.specs.Walking.{putTables, AllShaped, Leads, Going, formThen};
 
 // The number of its fault, 0 for none.

@@ -1,7 +1,7 @@
 // Writing a net: all tables, then the rows table by table, as records at the start of a lent buffer.
-use crate::Written;
 use codec::puts::put_rows;
 use codec::puts::put_table;
+use files::Written;
 use nets::Net;
 use nets::Table;
 use soundness::whole::sound_net;
@@ -14,8 +14,8 @@ ghost use Rattle.values.specs.Lists.{all};
 ghost use Rattle.nets.specs.Sound.{tableOk};
 ghost use Rattle.nets.specs.View.{tablesOf};
 ghost use Rattle.codec.specs.Encoding.{endToEnd, tableBytes};
-ghost use Rattle.records.specs.Writing.{allRows, written, writtenAnswer, bufferAfter};
-ghost use Rattle.records.specs.Engine.{saidWritten, WriteIs};
+ghost use Rattle.files.specs.Writing.{allRows, written, writtenAnswer, bufferAfter};
+ghost use Rattle.files.specs.Engine.{saidWritten, WriteIs};
 ghost use Rattle.records.specs.WriteCall.{ifRoom};
 
 // How many rows all tables have.

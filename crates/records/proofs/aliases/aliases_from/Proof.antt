@@ -7,7 +7,7 @@ use Rattle.values.proofs.Firsts.{length-firsts, firsts-push}
 use Rattle.nets.specs.Steps.{check}
 use Rattle.codec.specs.Decoding.{wholeRecords, aliasRecord, aliasIn, aliasForm}
 use Rattle.records.specs.declared.Reach.{Reach}
-use Rattle.records.specs.Loading.{Progress, loadChecks, failing, put, advance}
+use Rattle.files.specs.Loading.{Progress, loadChecks, failing, put, advance}
 use Rattle.records.specs.Walking.{Leads, groupNext, Going, formThen, putAliases}
 use Rattle.records.proofs.WalkLaws.{recordAt, withGroup, past, stop, leads-trans, leads-refl, leads-on, leads-off, near, sized, place-few, gone-on, gone-off, gone-by}
 use mathlib.Core.Path.{_≡_, refl, sym, ap, subst, _∙_}
@@ -23,7 +23,7 @@ use Rattle.nets.specs.Sound.{aliasOk, sameAlias, aliasesDiffer}
 use Rattle.nets.specs.View.{noAlias, aliasesOf}
 use Rattle.codec.specs.Bytes.{part, zeros}
 use Rattle.records.proofs.AliasLaws.{few-aliases}
-use Rattle.records.proofs.PutLaws.{alias-append}
+use Rattle.files.proofs.PutLaws.{alias-append}
 use Rattle.records.proofs.aliases.aliases_from.Statement.{statement}
 use Rattle.records.proofs.aliases.aliases_from.Tie as tie
 

@@ -7,7 +7,7 @@ use Rattle.nets.specs.declared.Node.{Node}
 use Rattle.nets.specs.declared.Thread.{Thread}
 use Rattle.nets.specs.declared.Net.{Net}
 use Rattle.nets.specs.View.{noAlias}
-use Rattle.records.specs.Empty.{blankTable, blankNode, blankThread, blankNet}
+use Rattle.files.specs.Empty.{blankTable, blankNode, blankThread, blankNet}
 use borrow.Author.Needs.{needs}
 use Rattle.records.proofs.blanks.blank_net.Statement.{statement}
 use Rattle.records.proofs.blanks.blank_net.Tie as tie

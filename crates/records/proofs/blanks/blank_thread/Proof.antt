@@ -6,7 +6,7 @@ use Rattle.rows.specs.declared.Relation.{Relation}
 use Rattle.rows.specs.View.{noSlot}
 use Rattle.nets.specs.declared.Thread.{Thread}
 use Rattle.nets.specs.View.{noSite}
-use Rattle.records.specs.Empty.{blankFrame}
+use Rattle.files.specs.Empty.{blankFrame}
 use borrow.Author.Needs.{needs}
 use Rattle.records.proofs.blanks.blank_thread.Statement.{statement}
 use Rattle.records.proofs.blanks.blank_thread.Tie as tie

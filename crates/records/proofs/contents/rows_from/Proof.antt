@@ -19,7 +19,7 @@ use Rattle.nets.specs.View.{tablesOf}
 use Rattle.codec.specs.Bytes.{part}
 use Rattle.codec.specs.Decoding.{rowRecord, wholeRecords, siteAt, nameIn, rowIn, rowForm}
 use Rattle.records.specs.declared.Reach.{Reach}
-use Rattle.records.specs.Loading.{Progress, loadChecks, failing, put, advance}
+use Rattle.files.specs.Loading.{Progress, loadChecks, failing, put, advance}
 use Rattle.records.specs.Walking.{putTables, AllShaped, Leads, groupNext, Going, formThen}
 use Rattle.records.proofs.WalkLaws.{recordAt, withGroup, past, stop, leads-trans, leads-refl, leads-on, leads-off, near, sized, place-few, gone-on, gone-off, gone-by}
 use Rattle.records.proofs.contents.rows_from.Statement.{statement}

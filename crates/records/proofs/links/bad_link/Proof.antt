@@ -10,7 +10,7 @@ use borrow.Author.Needs.{needs}
 use borrow.Author.Tests.{not-true, not-false}
 use Rattle.codec.specs.Decoding.{wholeRecords, recordsIn}
 use Rattle.codec.specs.Judging.{groupAt}
-use Rattle.records.specs.Loading.{firstBadLink}
+use Rattle.files.specs.Loading.{firstBadLink}
 use Rattle.records.proofs.LinkLaws.{link-found, link-passed, no-link}
 use Rattle.records.proofs.WalkLaws.{recordAt, first-byte}
 use Rattle.records.proofs.links.bad_link.Statement.{statement}

@@ -12,7 +12,7 @@ use Rattle.values.proofs.Firsts.{length-firsts, firsts-push}
 use Rattle.nets.specs.Steps.{check}
 use Rattle.codec.specs.Decoding.{wholeRecords, nodeRecord, nodeIn, nodeForm}
 use Rattle.records.specs.declared.Reach.{Reach}
-use Rattle.records.specs.Loading.{Progress, loadChecks, failing, put, advance}
+use Rattle.files.specs.Loading.{Progress, loadChecks, failing, put, advance}
 use Rattle.records.specs.Walking.{Leads, groupNext, Going, formThen, putNodes}
 use Rattle.records.proofs.WalkLaws.{recordAt, withGroup, past, stop, leads-trans, leads-refl, leads-on, leads-off, near, sized, place-few, gone-on, gone-off, gone-by}
 use Rattle.nets.specs.declared.Node.{Node}

@@ -7,13 +7,13 @@ use lib.ListN.{length, set, length-set}
 use borrow.Author.Needs.{needs}
 use Rattle.codec.specs.Decoding.{wholeRecords, pickRecord, pickIn, pickForm}
 use Rattle.records.specs.declared.Reach.{Reach}
-use Rattle.records.specs.Loading.{Progress, loadChecks, failing, put, advance}
+use Rattle.files.specs.Loading.{Progress, loadChecks, failing, put, advance}
 use Rattle.records.specs.Walking.{Leads, groupNext, Going, formThen, putPicks}
 use Rattle.records.proofs.WalkLaws.{recordAt, withGroup, past, stop, leads-trans, leads-refl, leads-on, leads-off, near, sized, place-few, gone-on, gone-off, gone-by}
 use borrow.Author.Tests.{le-leb}
 use Rattle.values.proofs.Firsts.{firsts-push}
 use Rattle.nets.specs.declared.Pick.{Pick}
-use Rattle.records.specs.Engine.{noPick, picksOf}
+use Rattle.files.specs.Engine.{noPick, picksOf}
 use Rattle.records.proofs.picks.picks_from.Statement.{statement}
 use Rattle.records.proofs.picks.picks_from.Tie as tie
 

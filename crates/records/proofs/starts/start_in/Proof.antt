@@ -7,8 +7,8 @@ use Rattle.values.specs.declared.Site.{Site}
 use Rattle.nets.specs.declared.Entry.the-variants.{Run}
 use Rattle.nets.specs.declared.Thread.{Thread}
 use Rattle.nets.specs.View.{threadOf}
-use Rattle.records.specs.Empty.{blankThread}
-use Rattle.records.specs.Loading.{fresh}
+use Rattle.files.specs.Empty.{blankThread}
+use Rattle.files.specs.Loading.{fresh}
 use borrow.Author.Needs.{needs}
 use Rattle.records.proofs.starts.start_in.Statement.{statement}
 use Rattle.records.proofs.starts.start_in.Tie as tie

@@ -12,7 +12,7 @@ use Rattle.values.proofs.Firsts.{length-firsts, firsts-push}
 use Rattle.nets.specs.Steps.{check}
 use Rattle.codec.specs.Decoding.{wholeRecords, startRecord, siteAt, startForm}
 use Rattle.records.specs.declared.Reach.{Reach}
-use Rattle.records.specs.Loading.{Progress, loadChecks, failing, put, advance, fresh}
+use Rattle.files.specs.Loading.{Progress, loadChecks, failing, put, advance, fresh}
 use Rattle.records.specs.Walking.{Leads, groupNext, Going, formThen, putThreads}
 use Rattle.records.proofs.WalkLaws.{recordAt, withGroup, past, stop, leads-trans, leads-refl, leads-on, leads-off, near, sized, place-few, gone-on, gone-off, gone-by}
 use Rattle.values.specs.declared.Site.{Site}

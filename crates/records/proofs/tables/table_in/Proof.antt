@@ -8,7 +8,7 @@ use Rattle.rows.specs.declared.Row.{Row}
 use Rattle.rows.specs.View.{columnsOf}
 use Rattle.nets.specs.View.{tableOf}
 use Rattle.codec.specs.Bytes.{columnsIn}
-use Rattle.records.specs.Loading.{bare}
+use Rattle.files.specs.Loading.{bare}
 use borrow.Author.Needs.{needs}
 use Rattle.records.proofs.tables.table_in.Statement.{statement}
 use Rattle.records.proofs.tables.table_in.Tie as tie

@@ -20,7 +20,7 @@ use Rattle.nets.specs.View.{noTable, tableOf, tablesOf}
 use Rattle.codec.specs.Bytes.{part, columnsIn}
 use Rattle.codec.specs.Decoding.{tableRecord, wholeRecords, siteAt, nameIn, tableForm}
 use Rattle.records.specs.declared.Reach.{Reach}
-use Rattle.records.specs.Loading.{Progress, loadChecks, failing, bare, put, advance}
+use Rattle.files.specs.Loading.{Progress, loadChecks, failing, bare, put, advance}
 use Rattle.records.specs.Walking.{putTables, AllShaped, Leads, groupNext, Going, formThen}
 use Rattle.records.proofs.PlaceTies.{more-shaped}
 use Rattle.records.proofs.WalkLaws.{recordAt, withGroup, past, stop, leads-trans, leads-refl, leads-on, leads-off, near, sized, place-few, gone-on, gone-off, gone-by}

@@ -14,9 +14,9 @@ use Rattle.nets.specs.Nets as M
 use Rattle.nets.specs.Sound.{tableOk, sound}
 use Rattle.nets.specs.View.{noTable, tableOf, tablesOf, view}
 use Rattle.nets.proofs.SoundLaws.{clauses}
-use Rattle.records.specs.declared.Written.{Written}
-use Rattle.records.specs.Writing.{notWritten, refusing, write, written, writtenAnswer, bufferAfter}
-use Rattle.records.specs.Engine.{saidWritten}
+use Rattle.files.specs.declared.Written.{Written}
+use Rattle.files.specs.Writing.{notWritten, refusing, write, written, writtenAnswer, bufferAfter}
+use Rattle.files.specs.Engine.{saidWritten}
 use Rattle.records.specs.WriteCall.{ifRoom}
 use borrow.Author.Needs.{needs}
 use Rattle.records.proofs.writing.write.Statement.{statement}

@@ -18,14 +18,14 @@ use Rattle.nets.specs.Sound.{tableOk}
 use Rattle.nets.proofs.SoundLaws.{Clauses, clauses}
 use Rattle.codec.specs.Bytes.{parts}
 use Rattle.codec.specs.Decoding.{recordIn, wholeRecords, recordsIn}
-use Rattle.records.specs.Loading.{load, loadBytes}
+use Rattle.files.specs.Loading.{load, loadBytes}
 use Rattle.codec.specs.Encoding.{endToEnd, tableBytes, rowBytes}
-use Rattle.records.specs.Writing.{rowsBytes, allRows, written}
-use Rattle.records.specs.RoundTrip.{tablesOnly, WrittenIsRead}
-use Rattle.records.proofs.EndToEnd.{sized, ends-length, ends-parts}
-use Rattle.records.proofs.TableBack.{table-length, table-back}
-use Rattle.records.proofs.RowBack.{row-length, row-back}
-use Rattle.records.proofs.ReadBack.{head, line, lines, tables-load}
+use Rattle.files.specs.Writing.{rowsBytes, allRows, written}
+use Rattle.files.specs.RoundTrip.{tablesOnly, WrittenIsRead}
+use Rattle.files.proofs.EndToEnd.{sized, ends-length, ends-parts}
+use Rattle.files.proofs.TableBack.{table-length, table-back}
+use Rattle.files.proofs.RowBack.{row-length, row-back}
+use Rattle.files.proofs.ReadBack.{head, line, lines, tables-load}
 
 -- ── bytes end to end ──
 

@@ -20,10 +20,10 @@ use Rattle.nets.specs.Steps.{Check}
 use Rattle.nets.proofs.StepLaws.{Passed}
 use Rattle.nets.proofs.SoundLaws.{whole}
 use Rattle.codec.specs.Decoding.{Record, aliasRecord, tableRecord, rowRecord, nodeRecord, startRecord, pickRecord, Decoded, good, bad}
-use Rattle.records.specs.Loading.{Progress, emptyNet, nothingRead, isNew, rowFits, hasRoom, loadChecks, fresh, put, advance, failed, failing, Reading, stopped, finished, proceed, readAll, badLink, firstBadLink, LoadAnswer, rejected, accepted, linked, finish, load}
-use Rattle.records.specs.FileTables.{rowsFor1, rowsFor, columnsFor1, columnsFor, orLater, tableWith}
-use Rattle.records.proofs.RecordLaws.{recordOk, decodedOk}
-use Rattle.records.proofs.PutLaws.{Good, put-good, put-rows, columnsAt, or-none, put-columns, table-is}
+use Rattle.files.specs.Loading.{Progress, emptyNet, nothingRead, isNew, rowFits, hasRoom, loadChecks, fresh, put, advance, failed, failing, Reading, stopped, finished, proceed, readAll, badLink, firstBadLink, LoadAnswer, rejected, accepted, linked, finish, load}
+use Rattle.files.specs.FileTables.{rowsFor1, rowsFor, columnsFor1, columnsFor, orLater, tableWith}
+use Rattle.files.proofs.RecordLaws.{recordOk, decodedOk}
+use Rattle.files.proofs.PutLaws.{Good, put-good, put-rows, columnsAt, or-none, put-columns, table-is}
 
 -- ── nodes and threads of the records ──
 

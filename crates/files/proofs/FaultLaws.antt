@@ -11,7 +11,7 @@ use Rattle.values.proofs.ListLaws.{all-map}
 use Rattle.nets.specs.Steps.{Check}
 use Rattle.codec.specs.Bytes.{parts}
 use Rattle.codec.specs.Decoding.{Record, Decoded, good, bad, judged, recordIn, wholeRecords, recordsIn}
-use Rattle.records.specs.Loading.{Progress, nothingRead, loadChecks, advance, failed, failing, Reading, stopped, finished, proceed, readAll, firstBadLink, LoadAnswer, rejected, accepted, linked, finish, load, loadBytes}
+use Rattle.files.specs.Loading.{Progress, nothingRead, loadChecks, advance, failed, failing, Reading, stopped, finished, proceed, readAll, firstBadLink, LoadAnswer, rejected, accepted, linked, finish, load, loadBytes}
 
 abbrev pub isNumber : ℕ → Bool
 isNumber n = leb 1 n && leb n 9

@@ -14,14 +14,14 @@ use Rattle.nets.specs.Steps.{step}
 use Rattle.nets.specs.Accounts.{nextNet, after, answers, addedIn, takenIn, reportedAdded, reportedTaken}
 use Rattle.nets.specs.View.{view}
 use Rattle.nets.specs.Answers.{answerOf}
-use Rattle.records.specs.declared.Verdict.the-variants.{Accepted}
-use Rattle.records.specs.declared.Loaded.{Loaded}
-use Rattle.records.specs.Loading.{LoadAnswer, rejected, accepted, emptyNet, loadBytes, faultOf, isAccepted}
-use Rattle.records.specs.FileDemand3.{fileNet, FileDemand3}
-use Rattle.records.specs.Empty.{blankNet}
-use Rattle.records.specs.Engine.{faultIn, LoadIs}
-use Rattle.records.specs.EngineDemand3.{Chain, lastNet, addedSaid, takenSaid, addedReported, takenReported, EveryEngineRun}
-use Rattle.records.proofs.FileLaws.{file-demand3}
+use Rattle.files.specs.declared.Verdict.the-variants.{Accepted}
+use Rattle.files.specs.declared.Loaded.{Loaded}
+use Rattle.files.specs.Loading.{LoadAnswer, rejected, accepted, emptyNet, loadBytes, faultOf, isAccepted}
+use Rattle.files.specs.FileDemand3.{fileNet, FileDemand3}
+use Rattle.files.specs.Empty.{blankNet}
+use Rattle.files.specs.Engine.{faultIn, LoadIs}
+use Rattle.files.specs.EngineDemand3.{Chain, lastNet, addedSaid, takenSaid, addedReported, takenReported, EveryEngineRun}
+use Rattle.files.proofs.FileLaws.{file-demand3}
 
 -- ── the rules, given what was left and reported ──
 

@@ -23,10 +23,10 @@ use Rattle.nets.specs.declared.Net.{Net}
 use Rattle.nets.specs.declared.Stepped.{Stepped}
 use Rattle.nets.specs.View.{view}
 use Rattle.nets.specs.Answers.{Said, refusing, doing, saidOf, StepIs}
-use Rattle.records.specs.declared.Verdict.the-variants as verdict
-use Rattle.records.specs.declared.Loaded.{Loaded}
-use Rattle.records.specs.FileDemand3.{FileDemand3}
-use Rattle.records.specs.Engine.{LoadIs}
+use Rattle.files.specs.declared.Verdict.the-variants as verdict
+use Rattle.files.specs.declared.Loaded.{Loaded}
+use Rattle.files.specs.FileDemand3.{FileDemand3}
+use Rattle.files.specs.Engine.{LoadIs}
 
 -- ── one call of `step` after another ──
 

@@ -9,11 +9,11 @@ use Rattle.nets.specs.declared.Net as Code
 use Rattle.nets.specs.Nets.{Table, Net}
 use Rattle.nets.specs.Sound.{sound}
 use Rattle.nets.specs.View.{view}
-use Rattle.records.specs.declared.Loaded.{Loaded}
-use Rattle.records.specs.declared.Written.the-variants.{Length}
-use Rattle.records.specs.Engine.{faultIn, picksIn, LoadIs, WriteIs}
-use Rattle.records.specs.Loading.{accepted, loadBytes}
-use Rattle.records.specs.Writing.{written}
+use Rattle.files.specs.declared.Loaded.{Loaded}
+use Rattle.files.specs.declared.Written.the-variants.{Length}
+use Rattle.files.specs.Engine.{faultIn, picksIn, LoadIs, WriteIs}
+use Rattle.files.specs.Loading.{accepted, loadBytes}
+use Rattle.files.specs.Writing.{written}
 
 -- a net of these tables and nothing else
 abbrev pub tablesOnly : List Table → Net

@@ -26,9 +26,9 @@ use Rattle.nets.specs.Examples as Nets
 use Rattle.nets.specs.Examples.{CARD, isRefused, isDoneWith}
 use Rattle.codec.specs.Bytes.{operandForm, operandIn, operandsForm, operandsIn}
 use Rattle.codec.specs.Decoding.{nodeIn, aliasForm, tableForm, rowForm, nodeBytes, startForm, pickForm, recordIn, recordsIn}
-use Rattle.records.specs.Loading.{loadChecks, put, advance, readAll, firstBadLink, load, LoadAnswer, rejected, accepted, loadBytes, netLoaded, picksLoaded}
+use Rattle.files.specs.Loading.{loadChecks, put, advance, readAll, firstBadLink, load, LoadAnswer, rejected, accepted, loadBytes, netLoaded, picksLoaded}
 use Rattle.codec.specs.Encoding.{tupleBytes, tableBytes, rowBytes}
-use Rattle.records.specs.Writing.{Wrote, notWritten, wrote, written, write, bufferAfter}
+use Rattle.files.specs.Writing.{Wrote, notWritten, wrote, written, write, bufferAfter}
 
 -- ── what loading answers ──
 

@@ -17,8 +17,8 @@ use Rattle.nets.specs.Sound.{columnsOk, tableOk}
 use Rattle.codec.specs.Bytes.{part, isZero, zeros, columnsForm, columnsIn}
 use Rattle.codec.specs.Decoding.{tableRecord, good, siteAt, nameIn, tableForm, judged, recordIn}
 use Rattle.codec.specs.Encoding.{columnBytes, tableBytes}
-use Rattle.records.proofs.EndToEnd.{leading-some, then-some, leading-none, then-none}
-use Rattle.records.proofs.ValueBack.{text-back}
+use Rattle.files.proofs.EndToEnd.{leading-some, then-some, leading-none, then-none}
+use Rattle.files.proofs.ValueBack.{text-back}
 
 -- ── columns ──
 

@@ -9,15 +9,15 @@ use Rattle.values.specs.Lists.{firsts}
 use Rattle.nets.specs.declared.Pick.{Pick}
 use Rattle.nets.specs.declared.Net.{Net}
 use Rattle.nets.specs.View.{view}
-use Rattle.records.specs.declared.Verdict.{Verdict}
-use Rattle.records.specs.declared.Verdict.the-variants as verdict
-use Rattle.records.specs.declared.Loaded.{Loaded}
-use Rattle.records.specs.declared.Written.{Written}
-use Rattle.records.specs.declared.Written.the-variants.{Length, Unsound, Short}
-use Rattle.records.specs.Loading.{loadBytes, Fault, faultOf, netLoaded, picksLoaded}
-use Rattle.records.specs.Writing as W
-use Rattle.records.specs.Writing.{WriteSaid, writing, write, bufferAfter, writtenAnswer}
-use Rattle.records.specs.Empty.{blankNet}
+use Rattle.files.specs.declared.Verdict.{Verdict}
+use Rattle.files.specs.declared.Verdict.the-variants as verdict
+use Rattle.files.specs.declared.Loaded.{Loaded}
+use Rattle.files.specs.declared.Written.{Written}
+use Rattle.files.specs.declared.Written.the-variants.{Length, Unsound, Short}
+use Rattle.files.specs.Loading.{loadBytes, Fault, faultOf, netLoaded, picksLoaded}
+use Rattle.files.specs.Writing as W
+use Rattle.files.specs.Writing.{WriteSaid, writing, write, bufferAfter, writtenAnswer}
+use Rattle.files.specs.Empty.{blankNet}
 
 -- ── loading ──
 

@@ -22,8 +22,8 @@ use Rattle.nets.specs.Sound.{isAbsent, tagged, operandsOk}
 use Rattle.codec.specs.Bytes.{part, parts, zeros, thenOnly, leading, operandForm, operandIn, operandsForm, operandsIn}
 use Rattle.codec.specs.Decoding.{rowRecord, good, siteAt, nameIn, rowIn, rowForm, judged, recordIn}
 use Rattle.codec.specs.Encoding.{endToEnd, operandBytes, tupleBytes, rowBytes}
-use Rattle.records.proofs.EndToEnd.{sized, ends-length, ends-parts, leading-some, then-some, leading-none, then-none}
-use Rattle.records.proofs.ValueBack.{text-back, asOperand, value-length, value-form, value-back, value-tagged, values-given}
+use Rattle.files.proofs.EndToEnd.{sized, ends-length, ends-parts, leading-some, then-some, leading-none, then-none}
+use Rattle.files.proofs.ValueBack.{text-back, asOperand, value-length, value-form, value-back, value-tagged, values-given}
 
 all-replicate : {A : Type 0} (p : A → Bool) (n : ℕ) (a : A) → T (p a) → T (all p (replicate n a))
 all-replicate p zero a h = tt

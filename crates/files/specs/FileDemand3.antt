@@ -14,8 +14,8 @@ use Rattle.nets.specs.Tables.{tableAt, rowsFit, distinct}
 use Rattle.nets.specs.Sound.{sound}
 use Rattle.nets.specs.Accounts.{after, reportedAdded, reportedTaken, Posting, post, times, added, taken, acted, standing}
 use Rattle.nets.specs.Demand3.{differing, covers, accounts}
-use Rattle.records.specs.Loading.{loadBytes, isAccepted, netLoaded}
-use Rattle.records.specs.FileTables.{fileTable, loadedCount}
+use Rattle.files.specs.Loading.{loadBytes, isAccepted, netLoaded}
+use Rattle.files.specs.FileTables.{fileTable, loadedCount}
 
 -- the net that a file gives
 abbrev pub fileNet : List ℕ → Net

@@ -16,11 +16,11 @@ use Rattle.nets.specs.Accounts.{after, post, times, standing}
 use Rattle.nets.proofs.KeepSound.{run-sound}
 use Rattle.nets.proofs.RunLaws.{demand3}
 use Rattle.codec.specs.Decoding.{wholeRecords, recordsIn}
-use Rattle.records.specs.Loading.{LoadAnswer, rejected, accepted, load, loadBytes, isAccepted, netLoaded}
-use Rattle.records.specs.FileTables.{loadedCount}
-use Rattle.records.specs.FileDemand3.{fileNet, fileAdded, FileLoaded, EveryFile}
-use Rattle.records.proofs.RecordLaws.{records-ok}
-use Rattle.records.proofs.LoadLaws.{Accepted, load-accepted}
+use Rattle.files.specs.Loading.{LoadAnswer, rejected, accepted, load, loadBytes, isAccepted, netLoaded}
+use Rattle.files.specs.FileTables.{loadedCount}
+use Rattle.files.specs.FileDemand3.{fileNet, fileAdded, FileLoaded, EveryFile}
+use Rattle.files.proofs.RecordLaws.{records-ok}
+use Rattle.files.proofs.LoadLaws.{Accepted, load-accepted}
 
 -- what loading accepts from bytes it accepts from their records
 bytes-load : (file : List ℕ) (net : Net) (ps : List Pick) → loadBytes file ≡ accepted net ps → load (recordsIn file) ≡ accepted net ps

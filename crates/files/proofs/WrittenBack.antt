@@ -12,10 +12,10 @@ use Rattle.nets.specs.Nets.{Net}
 use Rattle.nets.specs.Sound.{sound}
 use Rattle.nets.specs.View.{view}
 use Rattle.nets.proofs.SoundLaws.{clauses, whole}
-use Rattle.records.specs.Loading.{accepted, loadBytes, faultOf, netLoaded, picksLoaded}
-use Rattle.records.specs.Writing.{written, Wrote, notWritten, wrote, write, bufferAfter, writing, writtenAnswer}
-use Rattle.records.specs.RoundTrip.{tablesOnly, EveryWriteIsRead}
-use Rattle.records.proofs.RoundTrip.{written-read}
+use Rattle.files.specs.Loading.{accepted, loadBytes, faultOf, netLoaded, picksLoaded}
+use Rattle.files.specs.Writing.{written, Wrote, notWritten, wrote, write, bufferAfter, writing, writtenAnswer}
+use Rattle.files.specs.RoundTrip.{tablesOnly, EveryWriteIsRead}
+use Rattle.files.proofs.RoundTrip.{written-read}
 
 -- a refusal is 10 or 21
 abbrev pub writeNumbered : Wrote → Bool

@@ -19,8 +19,8 @@ use Rattle.nets.specs.Sound.{tableOk, sound}
 use Rattle.nets.proofs.TableLaws.{key-refl}
 use Rattle.nets.proofs.SoundLaws.{Clauses, clauses}
 use Rattle.codec.specs.Decoding.{Record, aliasRecord, tableRecord, rowRecord, nodeRecord, startRecord, pickRecord, Decoded, good, bad}
-use Rattle.records.specs.Loading.{Progress, groupOf, isNew, rowFits, hasRoom, loadChecks, put, advance, Reading, readAll, firstBadLink, accepted, linked, finish, load}
-use Rattle.records.specs.RoundTrip.{tablesOnly}
+use Rattle.files.specs.Loading.{Progress, groupOf, isNew, rowFits, hasRoom, loadChecks, put, advance, Reading, readAll, firstBadLink, accepted, linked, finish, load}
+use Rattle.files.specs.RoundTrip.{tablesOnly}
 
 -- ── a table in the midst of others ──
 
