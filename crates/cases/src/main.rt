@@ -1,6 +1,10 @@
 // The row layer on the worked cases of the Klaim-DB paper (its Figure 3 and Examples 2 to 6): the table KLD of one branch, in texts of four bytes.
 // Columns: shoe, colour, size, sales.
 use libc::STDOUT_FILENO;
+use printing::cells::put_rows;
+use printing::cells::put_value;
+use printing::pages::put_byte;
+use printing::pages::write_page;
 use rows::Cell;
 use rows::Field;
 use rows::Function;
@@ -20,7 +24,6 @@ use values::Slot;
 use values::Value;
 ghost use mathlib.Core.Path.{_≡_};
 ghost use mathlib.Core.List.{[], _∷_};
-ghost use lib.IntN.{natAbs};
 ghost use lib.ListN.{replicate};
 ghost use Rattle.values.specs.declared.Got.the-variants.{Nothing};
 ghost use Rattle.values.specs.Operands.{varsOf};
@@ -117,73 +120,28 @@ fn nothing_bound() -> [Slot; 16]
 
 // ---- printing
 
-fn print_text(t: u32) {
-    let bytes = [
-        (t / 16777216 % 256) as u8,
-        (t / 65536 % 256) as u8,
-        (t / 256 % 256) as u8,
-        (t % 256) as u8,
-    ];
-    io::write_all(STDOUT_FILENO, &bytes);
-}
-
-fn magnitude(i: i32) -> u64
-    ensures { λ r. ⌜ r ≡ natAbs i ⌝ }
-{
-    if i < 0 {
-        let m = 0 - (i as i64);
-        return m as u64;
-    }
-    i as u64
-}
-
-fn print_int(i: i32) {
-    if i < 0 {
-        io::write_all(STDOUT_FILENO, b"-");
-    }
-    io::print_decimal(STDOUT_FILENO, magnitude(i));
-}
-
-fn print_value(v: Value) {
-    io::write_all(STDOUT_FILENO, b" ");
-    match v {
-        Value::Int(i) => {
-            print_int(i);
-        }
-        Value::Text(t) => {
-            print_text(t);
-        }
-        Value::Loc(l) => {
-            io::write_all(STDOUT_FILENO, b"@");
-            io::print_decimal(STDOUT_FILENO, l.0 as u64);
-        }
-    }
-}
-
-fn print_row(row: Row, columns: usize) {
-    io::write_all(STDOUT_FILENO, b"row");
-    let mut i: usize = 0;
-    while i < 4 {
-        if i < columns {
-            let c = row.cells[i];
-            let v = c.value;
-            print_value(v);
-        }
-        i += 1;
-    }
-    io::write_all(STDOUT_FILENO, b"\n");
-}
-
 fn print_rows(r: Relation) {
-    let count = r.count;
-    let columns = r.columns;
-    let mut i: usize = 0;
-    while i < 16 {
-        if i < count {
-            let row = r.rows[i];
-            print_row(row, columns);
+    let mut page = [0u8; 4096];
+    let at = put_rows(&mut page, 0, r);
+    write_page(&page, at);
+}
+
+fn print_one(v: Value) {
+    let mut page = [0u8; 4096];
+    let mut at = put_byte(&mut page, 0, b' ');
+    at = put_value(&mut page, at, v);
+    at = put_byte(&mut page, at, b'\n');
+    write_page(&page, at);
+}
+
+fn print_got(g: Got) {
+    match g {
+        Got::Nothing => {
+            io::write_all(STDOUT_FILENO, b" none\n");
         }
-        i += 1;
+        Got::One(v) => {
+            print_one(v);
+        }
     }
 }
 
@@ -215,18 +173,6 @@ fn not_red(r: Relation)
         3,
     );
     print_rows(project(r, s, t, nothing_bound()));
-}
-
-fn print_got(g: Got) {
-    match g {
-        Got::Nothing => {
-            io::write_all(STDOUT_FILENO, b" none\n");
-        }
-        Got::One(v) => {
-            print_value(v);
-            io::write_all(STDOUT_FILENO, b"\n");
-        }
-    }
 }
 
 // Example 6: the sum of the sales of shoe 001.

@@ -93,7 +93,7 @@ rowForm r =
     && operandsOk 3 (operandsIn (part 56 88 r))
     && zeros (part 88 104 r)
 
--- the bytes of a node of kind `k` that `nodeIn` leaves out: bytes 12 to 15 are a name that no kind uses
+-- what a node of kind `k` asks of its bytes beyond what the fields of `nodeIn` show: numbers of predicate and function, operands, and unused bytes
 unfoldable pub nodeBytes : Kind → List ℕ → Bool
 nodeBytes k r =
     isTest (at r 3)

@@ -4,7 +4,8 @@
 --
 --   over every net that loading accepted        every `file` and every `l` that `load` returned for it (`LoadIs`), its verdict Accepted
 --   over every list of picks, refused ones too  every `ps`; `Chain` has one call of `step` for each pick, whatever it answered
---   from what the engine itself gave back       `Chain`: each call met its contract and got the very net that the call before it gave back
+--   from what the engine itself gave back       `Chain (l .net)`: each call met its contract; the first got the very net that `load` gave back, and each
+--                                               later one the very net that the call before it gave back
 --   all rows fit                                `fit`, of the last net returned
 --   no site has two tables of one name          `names`, of the last net returned
 --   standing + taken = loaded + added           `balance`, for each site, name and row: standing in the last net returned, loaded by the file's row
@@ -13,7 +14,7 @@
 --   reported counts sum to what was added       `addedAll`, `addedAccounts`, `addedSum`: the sum of the counts in the answers returned is the number of
 --   and taken, exactly                          all rows added, and the accounts summed over all sites, names and rows; `taken..` likewise
 --
--- The parts themselves are the fields of `FileDemand3`. Nothing here speaks of a pick by itself: it is one claim about the list.
+-- The parts themselves are the fields of `FileDemand3`, which has one more, `isSound`: the last net returned is sound, so no later pick is refused by 10. Nothing here speaks of a pick by itself: it is one claim about the list.
 use Prim.Native.Nat.{ℕ}
 use mathlib.Core.Path.{_≡_}
 use mathlib.Core.List.{List, [], _∷_, map}

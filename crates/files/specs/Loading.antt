@@ -135,7 +135,7 @@ readAll i l (good r ∷ xs) = proceed (failing (loadChecks l r)) i (readAll (suc
 
 -- ── check 9, again record by record ──
 
--- with `n` nodes in all, `j` the number of the next node
+-- with `n` nodes in all, `j` the number of the node met next: this record's, if it is a node
 abbrev pub linkOk : ℕ → ℕ → Record → Bool
 linkOk n j (aliasRecord a) = true
 linkOk n j (tableRecord s m cs) = true

@@ -18,14 +18,14 @@ pub mod tables;
 pub mod walking;
 pub mod writing;
 
-// How far reading came: the place of the next record, the group of the last one read, and the number of the fault at that place, 0 for none.
+// A place in the file: of the next record, with the group of the last one looked at and the number of the fault there, 0 for none.
 pub struct Reach {
     pub place: usize,
     pub group: u8,
     pub fault: u8,
 }
 
-// What the records of one group gave.
+// The lists that records gave, and the place after them.
 pub struct AliasesRead {
     pub aliases: [Alias; 56],
     pub count: usize,
@@ -56,7 +56,7 @@ pub struct PicksRead {
     pub reach: Reach,
 }
 
-// The fault of a row record, 0 for none, and the tables with the row.
+// The fault of a row record, 0 for none, and the tables, with the row where there is no fault.
 pub struct RowTaken {
     pub fault: u8,
     pub tables: [Table; 8],

@@ -18,7 +18,7 @@ pub fn start_ok(node: u8, n: usize) -> bool
     (node as usize) < n
 }
 
-// The number of the next node after a record of this group.
+// The number of the node met next, after a record of this group.
 pub fn number_after(group: u8, j: usize) -> usize
     requires { ⌜ j ≤ 256 ⌝ }
     ensures { λ r. ⌜ r ≡ cond (eqb group 4) (j + 1) j ⌝ }
@@ -29,7 +29,7 @@ pub fn number_after(group: u8, j: usize) -> usize
     j
 }
 
-// With `n` nodes in all, `j` the number of the next node.
+// With `n` nodes in all, `j` the number of the node met next: this record's, if it is a node.
 pub fn link_ok(r: &[u8], n: usize, j: usize) -> bool
     requires { ⌜ length (now r) ≡ 104 ⌝ }
     ensures { λ o. ⌜ LinkIs n j (now (r .entry)) o ⌝ }

@@ -136,6 +136,7 @@ fn refused(number: u8, place: usize) -> Loaded
     }
 }
 
+// The first fault with its place, or the net and the picks.
 pub fn load(file: &[u8]) -> Loaded
     ensures { λ r. ⌜ LoadIs (now (file .entry)) r ⌝ }
 {

@@ -1,4 +1,4 @@
-// Where reading stands in a file.
+// The next record of a file, by its group.
 use crate::Reach;
 use codec::forms::group_of;
 ghost use mathlib.Core.Path.{_≡_};

@@ -80,6 +80,7 @@ fn write_tables(out: &mut [u8], tables: [Table; 8], count: usize) -> Written
     Written::Length(size)
 }
 
+// The length written, or the number of the refusal; what follows the records stays, and after a refusal all does.
 pub fn write(net: Net, out: &mut [u8]) -> Written
     ensures { λ r. ⌜ WriteIs net (now (out .entry)) (now (out .exit)) r ⌝ }
 {

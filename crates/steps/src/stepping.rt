@@ -176,6 +176,7 @@ pub fn step_sound(net: Net, pick: Pick) -> Stepped
     }
 }
 
+// Any net and any pick: the answer and the next net; after a refusal the very net that came in.
 pub fn step(net: Net, pick: Pick) -> Stepped
     ensures { λ r. ⌜ StepIs net pick r ⌝ }
 {

@@ -3,7 +3,7 @@
 use compare::cases::{generated, stored, Case};
 use compare::report::compare;
 use engine::quirk::Quirk;
-use generate::examples;
+use generate::examples::{self, Example};
 use std::path::Path;
 use std::process::Command;
 
@@ -34,8 +34,17 @@ fn a_wrong_engine_differs_with_the_seed_that_shows_it() {
 
 #[test]
 fn stored_examples_are_those_computed_by_hand() {
-    let stored = stored(directory()).expect("the stored examples");
-    let mut made = examples::all();
+    agree(directory(), examples::all());
+}
+
+#[test]
+fn shown_examples_are_those_computed_by_hand() {
+    let directory = Path::new(concat!(env!("CARGO_MANIFEST_DIR"), "/../../examples"));
+    agree(directory, examples::shown());
+}
+
+fn agree(directory: &Path, mut made: Vec<Example>) {
+    let stored = stored(directory).expect("the stored examples");
     made.sort_by_key(|example| format!("{}.net", example.name));
     assert_eq!(stored.len(), made.len());
     for (stored, made) in stored.iter().zip(made) {

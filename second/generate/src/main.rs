@@ -1,7 +1,8 @@
 //! Writes generated files, or says how often each number and each kind done occurs in them.
 
+use generate::examples::{self, Example};
 use generate::stats::Stats;
-use generate::{examples, file, Class};
+use generate::{file, Class};
 use std::io::{self, Write};
 use std::process::ExitCode;
 use std::{env, fs, path::Path};
@@ -10,11 +11,13 @@ const HELP: &str = "\
 usage: generate [--class CLASS] --seed SEED
        generate [--class CLASS] [--from SEED] [--count N] --stats
        generate --examples DIR
+       generate --shown DIR
 
   --seed SEED      write the file of a seed on standard output
   --stats          count the numbers and kinds done in the files of a row of seeds, and
                    hold the engine to demand 3 on each accepted one
   --examples DIR   write the examples computed by hand as NAME.net and NAME.out
+  --shown DIR      write the few of them that the repository shows
   --class CLASS    valid, damaged, sweep or mixed (the default)
   --from SEED      the first seed (0)
   --count N        how many seeds (10000)
@@ -27,6 +30,7 @@ struct Options {
     count: u64,
     stats: bool,
     examples: Option<String>,
+    shown: Option<String>,
 }
 
 fn main() -> ExitCode {
@@ -57,6 +61,7 @@ fn options(mut arguments: impl Iterator<Item = String>) -> Option<Options> {
         count: 10_000,
         stats: false,
         examples: None,
+        shown: None,
     };
     while let Some(argument) = arguments.next() {
         match argument.as_str() {
@@ -65,11 +70,13 @@ fn options(mut arguments: impl Iterator<Item = String>) -> Option<Options> {
             "--from" => options.from = arguments.next()?.parse().ok()?,
             "--count" => options.count = arguments.next()?.parse().ok()?,
             "--examples" => options.examples = Some(arguments.next()?),
+            "--shown" => options.shown = Some(arguments.next()?),
             "--stats" => options.stats = true,
             _ => return None,
         }
     }
-    (options.stats || options.seed.is_some() || options.examples.is_some()).then_some(options)
+    let writes = options.examples.is_some() || options.shown.is_some();
+    (options.stats || options.seed.is_some() || writes).then_some(options)
 }
 
 /// Whether all was well.
@@ -78,7 +85,10 @@ fn run(options: &Options) -> io::Result<bool> {
         io::stdout().lock().write_all(&file(options.class, seed))?;
     }
     if let Some(directory) = &options.examples {
-        write_examples(Path::new(directory))?;
+        write_examples(&examples::all(), Path::new(directory))?;
+    }
+    if let Some(directory) = &options.shown {
+        write_examples(&examples::shown(), Path::new(directory))?;
     }
     if options.stats {
         let stats = Stats::of(options.class, options.from..options.from + options.count);
@@ -88,8 +98,8 @@ fn run(options: &Options) -> io::Result<bool> {
     Ok(true)
 }
 
-fn write_examples(directory: &Path) -> io::Result<()> {
-    for example in examples::all() {
+fn write_examples(examples: &[Example], directory: &Path) -> io::Result<()> {
+    for example in examples {
         fs::write(directory.join(example.name).with_extension("net"), &example.file)?;
         fs::write(directory.join(example.name).with_extension("out"), &example.text)?;
     }

@@ -13,6 +13,32 @@ pub struct Example {
     pub text: String,
 }
 
+/// The few that stand in the repository's `examples`: the name there, and the example's own.
+const SHOWN: [(&str, &str); 13] = [
+    ("printed-run", "k-printed-run"),
+    ("insert", "16-insert"),
+    ("insert-table", "17-insert-table"),
+    ("delete", "18-delete"),
+    ("select", "19-select-constants"),
+    ("update", "21-update-of-what-fits"),
+    ("aggregates", "22-aggregates"),
+    ("create", "23-create"),
+    ("drop", "24-drop"),
+    ("sequential-loop", "25-sequential"),
+    ("parallel-loop", "26-parallel"),
+    ("refused-steps", "refused-steps"),
+    ("refused-file", "07-kind"),
+];
+
+pub fn shown() -> Vec<Example> {
+    let mut all = all();
+    let mut take = |(name, own): (&'static str, &str)| {
+        let place = all.iter().position(|example| example.name == own)?;
+        Some(Example { name, ..all.swap_remove(place) })
+    };
+    SHOWN.into_iter().map(|names| take(names).expect("an example of that name")).collect()
+}
+
 pub fn all() -> Vec<Example> {
     [document::all(), loading::all(), steps::all(), loops::all()].into_iter().flatten().collect()
 }

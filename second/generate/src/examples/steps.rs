@@ -21,6 +21,7 @@ pub fn all() -> Vec<Example> {
         misfits(),
         full(),
         precedence(),
+        vec![refused_steps()],
     ]
     .into_iter()
     .flatten()
@@ -304,4 +305,22 @@ fn precedence() -> Vec<Example> {
         refused("14-before-16", &[insert.at(loc(0)).tuple(&[loc(0), loc(0)])], 0, 14),
         refused("16-before-18", &[least.tuple(&[int(0)])], 0, 16),
     ]
+}
+
+/// One thread for each of several numbers; thread 6 is not there.
+fn refused_steps() -> Example {
+    let nodes = [
+        on_nums(INSERT, END).tuple(&[var(0)]),
+        node(DROP, END).name(CARD).at(loc(2)),
+        on_nums(DROP, END).name(CARD),
+        on_nums(CREATE, END).columns(&[INT]),
+        on_nums(INSERT, END).tuple(&[text(b"RIG1")]),
+        on_nums(AGGREGATE, END).function(LEAST, 0).template(&[formal(0)]).tuple(&[formal(1)]),
+    ];
+    let starts: Vec<Record> = (0..6).map(|place| start(0, place)).collect();
+    let picks: Vec<Record> = (0..7).map(|place| pick(place, 0)).collect();
+    let answers = ["pick 0 no 12", "pick 1 no 13", "pick 2 no 14", "pick 3 no 15"];
+    let more = ["pick 4 no 16", "pick 5 no 18", "pick 6 no 11"];
+    let lines = [&answers[..], &more, &CARD_LINES, &[NUMS_LINE]].concat();
+    example("refused-steps", &joined(&[&world(), &nodes, &starts, &picks]), &lines)
 }

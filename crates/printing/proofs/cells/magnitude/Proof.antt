@@ -1,8 +1,8 @@
--- `cases::magnitude` meets its contract: below zero the number is negated at 64 bits, where it can't wrap.
+-- `printing::magnitude` meets its contract: below zero the number is negated at 64 bits, where it can't wrap.
 use Rattle.values.proofs.Ints.{cast-fits, above-cast}
-use Rattle.cases.proofs.Numbers.{less-fits, below-cast, below-is, above-is}
-use Rattle.cases.proofs.magnitude.Statement.{statement}
-use Rattle.cases.proofs.magnitude.Tie as tie
+use Rattle.printing.proofs.Numbers.{less-fits, below-cast, below-is, above-is}
+use Rattle.printing.proofs.cells.magnitude.Statement.{statement}
+use Rattle.printing.proofs.cells.magnitude.Tie as tie
 
 cast-m : tie.Need-cast-m
 cast-m c = cast-fits (c .before .args .i) (c .before .fits .i)
