@@ -1,0 +1,28 @@
+-- `forged::full::all_aliases` is safe and ends.
+use Prim.Native.Nat.{_-_}
+use borrow.Author.Needs.{needs}
+use Rattle.forged.proofs.full.all_aliases.Statement.{statement}
+use Rattle.forged.proofs.full.all_aliases.Tie as tie
+
+abbrev Inv-loop : tie.InvT-loop
+Inv-loop full₀ i₀ full i = Unit {0}
+
+abbrev μ-loop : tie.MeasureT-loop
+μ-loop full₀ i₀ full i = 56 - i
+
+pub all-aliases-spec : {M : Type 1} → statement M
+all-aliases-spec =
+    tie.close
+    (tie.spec
+    Inv-loop
+    μ-loop
+    (λ c. search needs)
+    (λ c. search needs)
+    (λ c. search needs)
+    (λ c κs. search needs)
+    (λ c. search needs)
+    (λ c. search needs)
+    (λ c. search needs)
+    (λ c. search needs)
+    (λ c. search needs)
+    (λ c. search needs))

@@ -1,0 +1,30 @@
+-- `forged::full::eight_tables` is safe and ends.
+use Prim.Native.Nat.{_-_}
+use borrow.Author.Needs.{needs}
+use Rattle.forged.proofs.full.eight_tables.Statement.{statement}
+use Rattle.forged.proofs.full.eight_tables.Tie as tie
+
+abbrev Inv-loop : tie.InvT-loop
+Inv-loop full₀ i₀ full i = Unit {0}
+
+abbrev μ-loop : tie.MeasureT-loop
+μ-loop full₀ i₀ full i = 8 - i
+
+pub eight-tables-spec : {M : Type 1} → statement M
+eight-tables-spec =
+    tie.close
+    (tie.spec
+    Inv-loop
+    μ-loop
+    (λ c. search needs)
+    (λ c. search needs)
+    (λ c. search needs)
+    (λ c. search needs)
+    (λ c κs. search needs)
+    (λ c κs. search needs)
+    (λ c. search needs)
+    (λ c. search needs)
+    (λ c. search needs)
+    (λ c. search needs)
+    (λ c. search needs)
+    (λ c. search needs))
