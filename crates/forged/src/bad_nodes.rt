@@ -1,11 +1,11 @@
 // Nodes with one clause of check 4 or 9 broken, in the fields that are numbers.
-use crate::base::CARD;
-use crate::full::many_nodes;
-use crate::programs::bare;
-use crate::programs::placed;
-use crate::programs::remade;
-use crate::programs::with_node;
 use crate::trying::try_net;
+use forging::base::CARD;
+use forging::full::many_nodes;
+use forging::programs::bare;
+use forging::programs::placed;
+use forging::programs::remade;
+use forging::programs::with_node;
 use nets::Net;
 use nets::Node;
 use rows::Function;

@@ -1,14 +1,14 @@
 // Nodes with one clause of check 4 broken, in the fields that are operands.
-use crate::programs::formals;
-use crate::programs::four;
-use crate::programs::giving;
-use crate::programs::matching;
-use crate::programs::none;
-use crate::programs::remade;
-use crate::programs::selecting;
-use crate::programs::two;
-use crate::programs::with_node;
 use crate::trying::try_net;
+use forging::programs::formals;
+use forging::programs::four;
+use forging::programs::giving;
+use forging::programs::matching;
+use forging::programs::none;
+use forging::programs::remade;
+use forging::programs::selecting;
+use forging::programs::two;
+use forging::programs::with_node;
 use nets::Net;
 use nets::Node;
 use rows::Operands;

@@ -1,17 +1,12 @@
 // Nets that no file gives: one clause of soundness broken in each, and sound ones with loop entries, bindings and whatever lies past the counts.
-use crate::base::base;
+use forging::base::base;
 
 mod bad_nodes;
 mod bad_operands;
 mod bad_tables;
 mod bad_threads;
-mod base;
-mod comparing;
-mod full;
-mod programs;
 mod sound;
 mod trying;
-mod whole;
 
 fn main() {
     let net = base();

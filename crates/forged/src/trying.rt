@@ -1,6 +1,6 @@
 // A net is handed to a step and to writing, and a line printed: the answers, and whether the net and the buffer stayed as they were.
-use crate::whole::same_net;
 use files::Written;
+use forging::whole::same_net;
 use nets::Net;
 use nets::Pick;
 use printing::lines::put_answer;

@@ -1,17 +1,17 @@
--- `forged::whole::same_nodes` is safe and ends.
+-- `forging::comparing::same_rows` is safe and ends.
 use Prim.Native.Nat.{_-_}
 use borrow.Author.Needs.{needs}
-use Rattle.forged.proofs.whole.same_nodes.Statement.{statement}
-use Rattle.forged.proofs.whole.same_nodes.Tie as tie
+use Rattle.forging.proofs.comparing.same_rows.Statement.{statement}
+use Rattle.forging.proofs.comparing.same_rows.Tie as tie
 
 abbrev Inv-loop : tie.InvT-loop
 Inv-loop a b i₀ i = Unit {0}
 
 abbrev μ-loop : tie.MeasureT-loop
-μ-loop a b i₀ i = 128 - i
+μ-loop a b i₀ i = 16 - i
 
-pub same-nodes-spec : {M : Type 1} → statement M
-same-nodes-spec =
+pub same-rows-spec : {M : Type 1} → statement M
+same-rows-spec =
     tie.close
     (tie.spec
     Inv-loop

@@ -1,8 +1,8 @@
--- `forged::comparing::same_rows` is safe and ends.
+-- `forging::whole::same_visit` is safe and ends.
 use Prim.Native.Nat.{_-_}
 use borrow.Author.Needs.{needs}
-use Rattle.forged.proofs.comparing.same_rows.Statement.{statement}
-use Rattle.forged.proofs.comparing.same_rows.Tie as tie
+use Rattle.forging.proofs.whole.same_visit.Statement.{statement}
+use Rattle.forging.proofs.whole.same_visit.Tie as tie
 
 abbrev Inv-loop : tie.InvT-loop
 Inv-loop a b i₀ i = Unit {0}
@@ -10,8 +10,8 @@ Inv-loop a b i₀ i = Unit {0}
 abbrev μ-loop : tie.MeasureT-loop
 μ-loop a b i₀ i = 16 - i
 
-pub same-rows-spec : {M : Type 1} → statement M
-same-rows-spec =
+pub same-visit-spec : {M : Type 1} → statement M
+same-visit-spec =
     tie.close
     (tie.spec
     Inv-loop
@@ -19,9 +19,6 @@ same-rows-spec =
     (λ c. search needs)
     (λ c. search needs)
     (λ c. search needs)
-    (λ c. search needs)
-    (λ c. search needs)
-    (λ c κs. search needs)
     (λ c. search needs)
     (λ c. search needs)
     (λ c. search needs)

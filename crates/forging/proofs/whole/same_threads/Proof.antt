@@ -1,17 +1,17 @@
--- `forged::comparing::same_cells` is safe and ends.
+-- `forging::whole::same_threads` is safe and ends.
 use Prim.Native.Nat.{_-_}
 use borrow.Author.Needs.{needs}
-use Rattle.forged.proofs.comparing.same_cells.Statement.{statement}
-use Rattle.forged.proofs.comparing.same_cells.Tie as tie
+use Rattle.forging.proofs.whole.same_threads.Statement.{statement}
+use Rattle.forging.proofs.whole.same_threads.Tie as tie
 
 abbrev Inv-loop : tie.InvT-loop
 Inv-loop a b i₀ i = Unit {0}
 
 abbrev μ-loop : tie.MeasureT-loop
-μ-loop a b i₀ i = 4 - i
+μ-loop a b i₀ i = 8 - i
 
-pub same-cells-spec : {M : Type 1} → statement M
-same-cells-spec =
+pub same-threads-spec : {M : Type 1} → statement M
+same-threads-spec =
     tie.close
     (tie.spec
     Inv-loop

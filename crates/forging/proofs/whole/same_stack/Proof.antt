@@ -1,8 +1,8 @@
--- `forged::whole::same_stack` is safe and ends.
+-- `forging::whole::same_stack` is safe and ends.
 use Prim.Native.Nat.{_-_}
 use borrow.Author.Needs.{needs}
-use Rattle.forged.proofs.whole.same_stack.Statement.{statement}
-use Rattle.forged.proofs.whole.same_stack.Tie as tie
+use Rattle.forging.proofs.whole.same_stack.Statement.{statement}
+use Rattle.forging.proofs.whole.same_stack.Tie as tie
 
 abbrev Inv-loop : tie.InvT-loop
 Inv-loop a b i₀ i = Unit {0}

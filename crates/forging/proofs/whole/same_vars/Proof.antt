@@ -1,17 +1,17 @@
--- `forged::comparing::same_fields` is safe and ends.
+-- `forging::whole::same_vars` is safe and ends.
 use Prim.Native.Nat.{_-_}
 use borrow.Author.Needs.{needs}
-use Rattle.forged.proofs.comparing.same_fields.Statement.{statement}
-use Rattle.forged.proofs.comparing.same_fields.Tie as tie
+use Rattle.forging.proofs.whole.same_vars.Statement.{statement}
+use Rattle.forging.proofs.whole.same_vars.Tie as tie
 
 abbrev Inv-loop : tie.InvT-loop
 Inv-loop a b i₀ i = Unit {0}
 
 abbrev μ-loop : tie.MeasureT-loop
-μ-loop a b i₀ i = 4 - i
+μ-loop a b i₀ i = 16 - i
 
-pub same-fields-spec : {M : Type 1} → statement M
-same-fields-spec =
+pub same-vars-spec : {M : Type 1} → statement M
+same-vars-spec =
     tie.close
     (tie.spec
     Inv-loop

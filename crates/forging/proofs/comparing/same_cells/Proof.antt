@@ -1,17 +1,17 @@
--- `forged::full::eight_tables` is safe and ends.
+-- `forging::comparing::same_cells` is safe and ends.
 use Prim.Native.Nat.{_-_}
 use borrow.Author.Needs.{needs}
-use Rattle.forged.proofs.full.eight_tables.Statement.{statement}
-use Rattle.forged.proofs.full.eight_tables.Tie as tie
+use Rattle.forging.proofs.comparing.same_cells.Statement.{statement}
+use Rattle.forging.proofs.comparing.same_cells.Tie as tie
 
 abbrev Inv-loop : tie.InvT-loop
-Inv-loop full₀ i₀ full i = Unit {0}
+Inv-loop a b i₀ i = Unit {0}
 
 abbrev μ-loop : tie.MeasureT-loop
-μ-loop full₀ i₀ full i = 8 - i
+μ-loop a b i₀ i = 4 - i
 
-pub eight-tables-spec : {M : Type 1} → statement M
-eight-tables-spec =
+pub same-cells-spec : {M : Type 1} → statement M
+same-cells-spec =
     tie.close
     (tie.spec
     Inv-loop
@@ -20,9 +20,8 @@ eight-tables-spec =
     (λ c. search needs)
     (λ c. search needs)
     (λ c. search needs)
-    (λ c κs. search needs)
-    (λ c κs. search needs)
     (λ c. search needs)
+    (λ c κs. search needs)
     (λ c. search needs)
     (λ c. search needs)
     (λ c. search needs)

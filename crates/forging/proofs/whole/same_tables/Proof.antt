@@ -1,17 +1,17 @@
--- `forged::full::all_aliases` is safe and ends.
+-- `forging::whole::same_tables` is safe and ends.
 use Prim.Native.Nat.{_-_}
 use borrow.Author.Needs.{needs}
-use Rattle.forged.proofs.full.all_aliases.Statement.{statement}
-use Rattle.forged.proofs.full.all_aliases.Tie as tie
+use Rattle.forging.proofs.whole.same_tables.Statement.{statement}
+use Rattle.forging.proofs.whole.same_tables.Tie as tie
 
 abbrev Inv-loop : tie.InvT-loop
-Inv-loop full₀ i₀ full i = Unit {0}
+Inv-loop a b i₀ i = Unit {0}
 
 abbrev μ-loop : tie.MeasureT-loop
-μ-loop full₀ i₀ full i = 56 - i
+μ-loop a b i₀ i = 8 - i
 
-pub all-aliases-spec : {M : Type 1} → statement M
-all-aliases-spec =
+pub same-tables-spec : {M : Type 1} → statement M
+same-tables-spec =
     tie.close
     (tie.spec
     Inv-loop
@@ -19,8 +19,9 @@ all-aliases-spec =
     (λ c. search needs)
     (λ c. search needs)
     (λ c. search needs)
-    (λ c κs. search needs)
     (λ c. search needs)
+    (λ c. search needs)
+    (λ c κs. search needs)
     (λ c. search needs)
     (λ c. search needs)
     (λ c. search needs)

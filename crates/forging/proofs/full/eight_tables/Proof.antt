@@ -1,17 +1,17 @@
--- `forged::whole::same_vars` is safe and ends.
+-- `forging::full::eight_tables` is safe and ends.
 use Prim.Native.Nat.{_-_}
 use borrow.Author.Needs.{needs}
-use Rattle.forged.proofs.whole.same_vars.Statement.{statement}
-use Rattle.forged.proofs.whole.same_vars.Tie as tie
+use Rattle.forging.proofs.full.eight_tables.Statement.{statement}
+use Rattle.forging.proofs.full.eight_tables.Tie as tie
 
 abbrev Inv-loop : tie.InvT-loop
-Inv-loop a b i₀ i = Unit {0}
+Inv-loop full₀ i₀ full i = Unit {0}
 
 abbrev μ-loop : tie.MeasureT-loop
-μ-loop a b i₀ i = 16 - i
+μ-loop full₀ i₀ full i = 8 - i
 
-pub same-vars-spec : {M : Type 1} → statement M
-same-vars-spec =
+pub eight-tables-spec : {M : Type 1} → statement M
+eight-tables-spec =
     tie.close
     (tie.spec
     Inv-loop
@@ -20,8 +20,9 @@ same-vars-spec =
     (λ c. search needs)
     (λ c. search needs)
     (λ c. search needs)
-    (λ c. search needs)
     (λ c κs. search needs)
+    (λ c κs. search needs)
+    (λ c. search needs)
     (λ c. search needs)
     (λ c. search needs)
     (λ c. search needs)

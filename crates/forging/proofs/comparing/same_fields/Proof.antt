@@ -1,17 +1,17 @@
--- `forged::whole::same_visit` is safe and ends.
+-- `forging::comparing::same_fields` is safe and ends.
 use Prim.Native.Nat.{_-_}
 use borrow.Author.Needs.{needs}
-use Rattle.forged.proofs.whole.same_visit.Statement.{statement}
-use Rattle.forged.proofs.whole.same_visit.Tie as tie
+use Rattle.forging.proofs.comparing.same_fields.Statement.{statement}
+use Rattle.forging.proofs.comparing.same_fields.Tie as tie
 
 abbrev Inv-loop : tie.InvT-loop
 Inv-loop a b i₀ i = Unit {0}
 
 abbrev μ-loop : tie.MeasureT-loop
-μ-loop a b i₀ i = 16 - i
+μ-loop a b i₀ i = 4 - i
 
-pub same-visit-spec : {M : Type 1} → statement M
-same-visit-spec =
+pub same-fields-spec : {M : Type 1} → statement M
+same-fields-spec =
     tie.close
     (tie.spec
     Inv-loop
@@ -19,6 +19,9 @@ same-visit-spec =
     (λ c. search needs)
     (λ c. search needs)
     (λ c. search needs)
+    (λ c. search needs)
+    (λ c. search needs)
+    (λ c κs. search needs)
     (λ c. search needs)
     (λ c. search needs)
     (λ c. search needs)
