@@ -2,16 +2,17 @@
 use Prim.Native.Nat.{ℕ, zero, suc, _+_, _*_, _≤_, _<_}
 use mathlib.Core.Path.{_≡_, refl, ap, sym, _∙_}
 use mathlib.Core.Bool.{Bool, true, false, cond, _&&_}
-use mathlib.Core.List.{List, [], _∷_, map}
+use mathlib.Core.List.{List, [], _∷_, _++_, map}
 use mathlib.Core.Option.{Option, none, some}
 use native.Mathlib.Omega.{arith}
 use borrow.Author.Tests.{ne-eqb}
 use lib.Dec.{T, eqb, eqb→eq, leb, ltb, ltb→lt}
 use native.Mathlib.Numerals.{add-one}
-use lib.ListN.{length, getD, take, drop, length-take, length-drop}
+use lib.ListN.{length, getD, set, take, drop, length-take, length-drop}
 use lib.Seq.{drop-drop, getD-take, getD-drop}
-use Rattle.values.specs.Lists.{all}
+use Rattle.values.specs.Lists.{all, firsts}
 use Rattle.values.proofs.Bools.{and-l, and-r, T-of}
+use Rattle.values.proofs.Firsts.{length-firsts, firsts-push}
 use Rattle.nets.specs.Steps.{Check}
 use Rattle.codec.specs.Bytes.{at, part, parts}
 use Rattle.codec.specs.Decoding.{Record, Decoded, good, bad, judged, recordIn, wholeRecords, recordsIn}
@@ -181,6 +182,36 @@ module _ (k : ℕ) (pos : 1 ≤ k) (file : List ℕ) (r : Reach) (n : ℕ) (e : 
           stopped-as : (j : ℕ) (l : Progress) → (j ≡ 0 → ⊥) → stopped j (r .place) ≡ byFault j file (r .place) l
           stopped-as zero l n = absurd (n refl)
           stopped-as (suc j) l n = refl
+
+-- ── a list to which the records of one group add ──
+
+-- an element `a` of the code is seen as `seen a`; a record is judged by `form` and `ks`, says `said`, and adds `element`
+module _ {A B : Type 0} (k : ℕ) (pos : 1 ≤ k) (seen : A → B) (z : A) (put : List B → Progress → Progress) (form : List ℕ → Bool) (said : List ℕ → Record) (element : List ℕ → B)
+    (ks : ℕ → List B → List ℕ → List Check) (same : (bs : List ℕ) → byGroup k bs ≡ judged (form bs) (said bs))
+    (checks : (g c : ℕ) (xs : List B) (bs : List ℕ) (l : Progress) → g ≤ k → length xs ≡ c → failing (loadChecks (withGroup g (put xs l)) (said bs)) ≡ failing (ks c xs bs))
+    (added : (g : ℕ) (xs : List B) (bs : List ℕ) (l : Progress) → advance (withGroup g (put xs l)) (said bs) ≡ withGroup k (put (xs ++ (element bs ∷ [])) l))
+    (file : List ℕ) (from r : Reach) (n : ℕ) (e : n ≡ groupNext file r) (e′ : n ≡ k) (g : Going file k r) (c : ℕ) (xs : List A) (f : ℕ)
+    (w : f ≡ formThen (form (recordAt file (r .place))) (ks c (firsts seen z c xs) (recordAt file (r .place)))) (h : Leads file from r (put []) (put (firsts seen z c xs))) where
+  abbrev bytes : List ℕ
+  bytes = recordAt file (r .place)
+
+  abbrev list : List B
+  list = firsts seen z c xs
+
+  judging : (l : Progress) → failing (loadChecks (withGroup (r .group) (put list l)) (said bytes)) ≡ failing (ks c list bytes)
+  judging l = checks (r .group) c list bytes l (g .group) (length-firsts seen z c xs)
+
+  pub list-stops : (f ≡ 0 → ⊥) → Leads file from (stop r k f) (put []) (put list)
+  list-stops y =
+      leads-trans file from r (stop r k f) (put []) (put list) (put list) h
+      (leads-off k pos file r n e e′ g (put list) (form bytes) (said bytes) (ks c list bytes) (same bytes) judging (put list) f w y)
+
+  pub list-grows : (x : A) → f ≡ 0 → Positive (ks c list bytes) → c < length xs → seen x ≡ element bytes → Leads file from (past r k) (put []) (put (firsts seen z (c + 1) (set xs c x)))
+  list-grows x y p room q =
+      leads-trans file from r (past r k) (put []) (put list) (put (firsts seen z (c + 1) (set xs c x))) h
+      (leads-on k pos file r n e e′ g (put list) (form bytes) (said bytes) (ks c list bytes) (same bytes) judging (put (firsts seen z (c + 1) (set xs c x))) p (sym y ∙ w)
+      (λ l. added (r .group) list bytes l
+      ∙ ap (λ (us : List B). withGroup k (put us l)) (ap (λ (d : B). list ++ (d ∷ [])) (sym q) ∙ sym (firsts-push seen z c xs x room))))
 
 -- the next record is of another group
 pub gone-by : (k : ℕ) (file : List ℕ) (r : Reach) (n : ℕ) → n ≡ groupNext file r → (n ≡ k → ⊥) → Going file k r → Going file (suc k) r

@@ -4,12 +4,11 @@ use mathlib.Core.List.{List, [], _∷_, _++_, append-nil}
 use native.Mathlib.Omega.{arith}
 use borrow.Author.Needs.{needs}
 use Rattle.values.proofs.Firsts.{length-firsts, firsts-push}
-use Rattle.nets.specs.Steps.{check}
-use Rattle.codec.specs.Decoding.{wholeRecords, aliasRecord, aliasIn, aliasForm}
-use Rattle.records.specs.declared.Reach.{Reach}
+use Rattle.nets.specs.Steps.{Check, check}
+use Rattle.codec.specs.Decoding.{Record, wholeRecords, aliasRecord, aliasIn, aliasForm}
 use Rattle.files.specs.Loading.{Progress, loadChecks, failing, put, advance}
-use Rattle.records.specs.Walking.{Leads, groupNext, Going, formThen, putAliases}
-use Rattle.records.proofs.WalkLaws.{recordAt, withGroup, past, stop, leads-trans, leads-refl, leads-on, leads-off, near, sized, place-few, gone-on, gone-off, gone-by}
+use Rattle.records.specs.Walking.{Leads, Going, formThen, putAliases}
+use Rattle.records.proofs.WalkLaws.{withGroup, leads-refl, list-stops, list-grows, near, sized, place-few, gone-on, gone-off, gone-by}
 use mathlib.Core.Path.{_≡_, refl, sym, ap, subst, _∙_}
 use mathlib.Core.Bool.{Bool, true, false, not, _&&_}
 use lib.Dec.{T}
@@ -32,14 +31,19 @@ pos = omega arith
 
 -- ── the record ──
 
-module _ (g : ℕ) (ls : List Alias) (a : Alias) (l : Progress) where
-  same-checks : g ≤ 1 → failing (loadChecks (withGroup g (putAliases ls l)) (aliasRecord a)) ≡ failing (check 6 (not (any (λ b. sameAlias b a) ls)) ∷ [])
-  unfolding loadChecks
-  same-checks h = rw (le-leb g 1 h)
+abbrev checks : ℕ → List Alias → List ℕ → List Check
+checks c xs bs = check 6 (not (any (λ b. sameAlias b (aliasIn bs)) xs)) ∷ []
 
-  added : advance (withGroup g (putAliases ls l)) (aliasRecord a) ≡ withGroup 1 (putAliases (ls ++ (a ∷ [])) l)
-  unfolding advance put
-  added = rw (append-nil (l .picks))
+abbrev said : List ℕ → Record
+said bs = aliasRecord (aliasIn bs)
+
+same-checks : (g c : ℕ) (xs : List Alias) (bs : List ℕ) (l : Progress) → g ≤ 1 → length xs ≡ c → failing (loadChecks (withGroup g (putAliases xs l)) (said bs)) ≡ failing (checks c xs bs)
+unfolding loadChecks
+same-checks g c xs bs l h e = rw (le-leb g 1 h)
+
+added : (g : ℕ) (xs : List Alias) (bs : List ℕ) (l : Progress) → advance (withGroup g (putAliases xs l)) (said bs) ≡ withGroup 1 (putAliases (xs ++ (aliasIn bs ∷ [])) l)
+unfolding advance put
+added g xs bs l = rw (append-nil (l .picks))
 
 -- ── room: no two aliases are alike ──
 
@@ -76,23 +80,6 @@ module _ (ls : List Alias) (c : ℕ) (bs : List ℕ) (f : ℕ) (y : f ≡ 0) (z 
   one-more long room a q =
       subst Different (ap (λ (x : Alias). aliasesOf c ls ++ (x ∷ [])) (sym q) ∙ sym (firsts-push (λ (x : Alias). x) noAlias c ls a (omega (arith, long, room)))) wider
 
--- ── a turn ──
-
-module _ (file : List ℕ) (from r : Reach) (n : ℕ) (e : n ≡ groupNext file r) (e′ : n ≡ 1) (g : Going file 1 r) (c : ℕ) (xs : List Alias) (f : ℕ)
-    (z : f ≡ formThen (aliasForm (recordAt file (r .place))) (check 6 (not (any (λ b. sameAlias b (aliasIn (recordAt file (r .place)))) (aliasesOf c xs))) ∷ []))
-    (h : Leads file from r (putAliases []) (putAliases (aliasesOf c xs))) where
-  off : (f ≡ 0 → ⊥) → Leads file from (stop r 1 f) (putAliases []) (putAliases (aliasesOf c xs))
-  off k =
-      leads-trans file from r (stop r 1 f) _ _ _ h
-      (leads-off 1 pos file r n e e′ g (putAliases (aliasesOf c xs)) _ _ _ refl (λ l. same-checks (r .group) (aliasesOf c xs) _ l (g .group)) _ f z k)
-
-  on : (x : Alias) → f ≡ 0 → length xs ≡ 56 → c < 56 → x ≡ aliasIn (recordAt file (r .place)) → Leads file from (past r 1) (putAliases []) (putAliases (aliasesOf (c + 1) (set xs c x)))
-  on x y long room q =
-      leads-trans file from r (past r 1) _ _ _ h
-      (leads-on 1 pos file r n e e′ g (putAliases (aliasesOf c xs)) _ _ _ refl (λ l. same-checks (r .group) (aliasesOf c xs) _ l (g .group)) _ tt (sym y ∙ z)
-      (λ l. added (r .group) (aliasesOf c xs) _ l
-      ∙ ap (λ (us : List Alias). withGroup 1 (putAliases us l)) (ap (λ (d : Alias). aliasesOf c xs ++ (d ∷ [])) (sym q) ∙ sym (firsts-push (λ (a : Alias). a) noAlias c xs x (omega (arith, long, room))))))
-
 abbrev Inv-loop : tie.InvT-loop
 Inv-loop file aliases₀ count₀ at₀ aliases count at = (length aliases ≡ 56) × Different (aliasesOf count aliases) × Leads file at₀ at (putAliases []) (putAliases (aliasesOf count aliases)) × Going file 1 at
 
@@ -124,7 +111,7 @@ alias-fault-requires : tie.Need-alias-fault-requires Inv-loop μ-loop
 alias-fault-requires c κs = (search (sized 1 pos), few-in _ _ (c .before .before .before .before .loop .inv .1))
 
 returns : tie.Need-returns Inv-loop μ-loop
-returns c = (search off, search (gone-off 1 pos))
+returns c = (search (list-stops 1 pos (λ (a : Alias). a) noAlias putAliases aliasForm said aliasIn checks (λ bs. refl) same-checks added), search (gone-off 1 pos))
 
 add-alias-in : tie.Need-add-alias-in Inv-loop μ-loop
 add-alias-in c = let t = c .before .before .before .before in let h = near 1 pos _ _ _ (t .before .next-group .ensures) (t .if1 .taken) (t .before .before .loop .inv .3) in omega (arith, h .0, h .1, h .2)
@@ -164,7 +151,7 @@ loop-again c =
     let room : l .count < 56 = room-left _ (c .before .before .before .before .before .before .before .before .before .loop .count) _ _ (c .before .before .before .if2 .left) (c .before .before .before .before .alias-fault .ensures) (c .before .before .before .before .before .before .before .before .before .loop .inv .1) in (
       search length-set,
       one-more (l .aliases) (l .count) _ _ (c .before .before .before .if2 .left) (f .ensures) (l .inv .1) (l .inv .0) room _ (c .before .alias-in .ensures),
-      on _ _ _ _ (t .before .next-group .ensures) (t .if1 .taken) (l .inv .3) _ _ _ (f .ensures) (l .inv .2) _ (c .before .before .before .if2 .left) (l .inv .0) room (c .before .alias-in .ensures),
+      list-grows 1 pos (λ (a : Alias). a) noAlias putAliases aliasForm said aliasIn checks (λ bs. refl) same-checks added _ _ _ _ (t .before .next-group .ensures) (t .if1 .taken) (l .inv .3) (l .count) (l .aliases) _ (f .ensures) (l .inv .2) _ (c .before .before .before .if2 .left) tt (omega (arith, l .inv .0, room)) (c .before .alias-in .ensures),
       search (gone-on 1 pos),
     )
 

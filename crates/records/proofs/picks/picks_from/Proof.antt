@@ -1,17 +1,16 @@
 -- `records::picks::picks_from` meets its contract: record by record, while they are picks. There is room for as many picks as records.
 use Prim.Native.Nat.{ℕ, _+_, _-_, _≤_, _<_}
-use mathlib.Core.Path.{_≡_, refl, sym, ap, _∙_}
+use mathlib.Core.Path.{_≡_, refl}
 use mathlib.Core.List.{List, [], _∷_, _++_}
 use native.Mathlib.Omega.{arith}
-use lib.ListN.{length, set, length-set}
+use lib.ListN.{length, length-set}
 use borrow.Author.Needs.{needs}
-use Rattle.codec.specs.Decoding.{wholeRecords, pickRecord, pickIn, pickForm}
-use Rattle.records.specs.declared.Reach.{Reach}
+use Rattle.nets.specs.Steps.{Check}
+use Rattle.codec.specs.Decoding.{Record, wholeRecords, pickRecord, pickIn, pickForm}
 use Rattle.files.specs.Loading.{Progress, loadChecks, failing, put, advance}
-use Rattle.records.specs.Walking.{Leads, groupNext, Going, formThen, putPicks}
-use Rattle.records.proofs.WalkLaws.{recordAt, withGroup, past, stop, leads-trans, leads-refl, leads-on, leads-off, near, sized, place-few, gone-on, gone-off, gone-by}
+use Rattle.records.specs.Walking.{Leads, Going, putPicks}
+use Rattle.records.proofs.WalkLaws.{withGroup, leads-refl, list-stops, list-grows, near, sized, place-few, gone-on, gone-off, gone-by}
 use borrow.Author.Tests.{le-leb}
-use Rattle.values.proofs.Firsts.{firsts-push}
 use Rattle.nets.specs.declared.Pick.{Pick}
 use Rattle.files.specs.Engine.{noPick, picksOf}
 use Rattle.records.proofs.picks.picks_from.Statement.{statement}
@@ -22,30 +21,19 @@ pos = omega arith
 
 -- ── the record ──
 
-module _ (g : ℕ) (ps : List Pick) (p : Pick) (l : Progress) where
-  same-checks : g ≤ 6 → failing (loadChecks (withGroup g (putPicks ps l)) (pickRecord p)) ≡ failing []
-  unfolding loadChecks
-  same-checks h = rw (le-leb g 6 h)
+abbrev checks : ℕ → List Pick → List ℕ → List Check
+checks c xs bs = []
 
-  added : advance (withGroup g (putPicks ps l)) (pickRecord p) ≡ withGroup 6 (putPicks (ps ++ (p ∷ [])) l)
-  unfolding advance put
-  added = refl
+abbrev said : List ℕ → Record
+said bs = pickRecord (pickIn bs)
 
--- ── a turn ──
+same-checks : (g c : ℕ) (xs : List Pick) (bs : List ℕ) (l : Progress) → g ≤ 6 → length xs ≡ c → failing (loadChecks (withGroup g (putPicks xs l)) (said bs)) ≡ failing (checks c xs bs)
+unfolding loadChecks
+same-checks g c xs bs l h e = rw (le-leb g 6 h)
 
-module _ (file : List ℕ) (from r : Reach) (n : ℕ) (e : n ≡ groupNext file r) (e′ : n ≡ 6) (g : Going file 6 r) (c : ℕ) (xs : List Pick) (f : ℕ)
-    (z : f ≡ formThen (pickForm (recordAt file (r .place))) []) (h : Leads file from r (putPicks []) (putPicks (picksOf c xs))) where
-  off : (f ≡ 0 → ⊥) → Leads file from (stop r 6 f) (putPicks []) (putPicks (picksOf c xs))
-  off k =
-      leads-trans file from r (stop r 6 f) _ _ _ h
-      (leads-off 6 pos file r n e e′ g (putPicks (picksOf c xs)) _ _ [] refl (λ l. same-checks (r .group) (picksOf c xs) _ l (g .group)) _ f z k)
-
-  on : (x : Pick) → f ≡ 0 → length xs ≡ 256 → c < 256 → x ≡ pickIn (recordAt file (r .place)) → Leads file from (past r 6) (putPicks []) (putPicks (picksOf (c + 1) (set xs c x)))
-  on x y long room q =
-      leads-trans file from r (past r 6) _ _ _ h
-      (leads-on 6 pos file r n e e′ g (putPicks (picksOf c xs)) _ _ [] refl (λ l. same-checks (r .group) (picksOf c xs) _ l (g .group)) _ tt (sym y ∙ z)
-      (λ l. added (r .group) (picksOf c xs) _ l
-      ∙ ap (λ (us : List Pick). withGroup 6 (putPicks us l)) (ap (λ (d : Pick). picksOf c xs ++ (d ∷ [])) (sym q) ∙ sym (firsts-push (λ (p : Pick). p) noPick c xs x (omega (arith, long, room))))))
+added : (g : ℕ) (xs : List Pick) (bs : List ℕ) (l : Progress) → advance (withGroup g (putPicks xs l)) (said bs) ≡ withGroup 6 (putPicks (xs ++ (pickIn bs ∷ [])) l)
+unfolding advance put
+added g xs bs l = refl
 
 abbrev Inv-loop : tie.InvT-loop
 Inv-loop file picks₀ count₀ at₀ picks count at = (length picks ≡ 256) × (count ≤ at .place) × Leads file at₀ at (putPicks []) (putPicks (picksOf count picks)) × Going file 6 at
@@ -78,7 +66,7 @@ pick-fault-requires : tie.Need-pick-fault-requires Inv-loop μ-loop
 pick-fault-requires c κs = search (sized 6 pos)
 
 returns : tie.Need-returns Inv-loop μ-loop
-returns c = (search off, search (gone-off 6 pos))
+returns c = (search (list-stops 6 pos (λ (p : Pick). p) noPick putPicks pickForm said pickIn checks (λ bs. refl) same-checks added), search (gone-off 6 pos))
 
 add-pick-in : tie.Need-add-pick-in Inv-loop μ-loop
 add-pick-in c = let t = c .before .before .before .before in let h = near 6 pos _ _ _ (t .before .next-group .ensures) (t .if1 .taken) (t .before .before .loop .inv .3) in omega (arith, h .0, h .1, h .2)
@@ -119,7 +107,7 @@ loop-again c =
     let room : l .count < 256 = omega (arith, h .1, h .2, l .inv .1) in (
       search length-set,
       omega (arith, l .inv .1),
-      on _ _ _ _ (t .before .next-group .ensures) (t .if1 .taken) (l .inv .3) _ _ _ (f .ensures) (l .inv .2) _ (c .before .before .before .if2 .left) (l .inv .0) room (c .before .pick-in .ensures),
+      list-grows 6 pos (λ (p : Pick). p) noPick putPicks pickForm said pickIn checks (λ bs. refl) same-checks added _ _ _ _ (t .before .next-group .ensures) (t .if1 .taken) (l .inv .3) (l .count) (l .picks) _ (f .ensures) (l .inv .2) _ (c .before .before .before .if2 .left) tt (omega (arith, l .inv .0, room)) (c .before .pick-in .ensures),
       search (gone-on 6 pos),
     )
 

@@ -1,21 +1,18 @@
 -- `records::starts::starts_from` meets its contract: record by record, while they are starts.
 use Prim.Native.Nat.{ℕ, _+_, _-_, _≤_, _<_}
-use mathlib.Core.Path.{_≡_, refl, sym, ap, _∙_}
+use mathlib.Core.Path.{_≡_, refl, sym, _∙_}
 use mathlib.Core.Bool.{Bool, true, false}
 use mathlib.Core.List.{List, [], _∷_, _++_, append-nil}
 use native.Mathlib.Omega.{arith}
 use lib.Dec.{ltb}
-use lib.ListN.{length, set, length-set}
+use lib.ListN.{length, length-set}
 use borrow.Author.Needs.{needs}
 use borrow.Author.Tests.{ltb-true, le-leb}
-use Rattle.values.proofs.Firsts.{length-firsts, firsts-push}
-use Rattle.nets.specs.Steps.{check}
-use Rattle.codec.specs.Decoding.{wholeRecords, startRecord, siteAt, startForm}
-use Rattle.records.specs.declared.Reach.{Reach}
+use Rattle.nets.specs.Steps.{Check, check}
+use Rattle.codec.specs.Decoding.{Record, wholeRecords, startRecord, siteAt, startForm}
 use Rattle.files.specs.Loading.{Progress, loadChecks, failing, put, advance, fresh}
-use Rattle.records.specs.Walking.{Leads, groupNext, Going, formThen, putThreads}
-use Rattle.records.proofs.WalkLaws.{recordAt, withGroup, past, stop, leads-trans, leads-refl, leads-on, leads-off, near, sized, place-few, gone-on, gone-off, gone-by}
-use Rattle.values.specs.declared.Site.{Site}
+use Rattle.records.specs.Walking.{Leads, Going, formThen, putThreads}
+use Rattle.records.proofs.WalkLaws.{withGroup, leads-refl, list-stops, list-grows, near, sized, place-few, gone-on, gone-off, gone-by}
 use Rattle.nets.specs.declared.Thread.{Thread}
 use Rattle.nets.specs.Nets as M
 use Rattle.nets.specs.View.{noThread, threadOf, threadsOf}
@@ -28,14 +25,19 @@ pos = omega arith
 
 -- ── the record ──
 
-module _ (g : ℕ) (xs : List M.Thread) (s : Site) (i : ℕ) (l : Progress) where
-  same-checks : (c : ℕ) → g ≤ 5 → length xs ≡ c → failing (loadChecks (withGroup g (putThreads xs l)) (startRecord s i)) ≡ failing (check 8 (ltb c 8) ∷ [])
-  unfolding loadChecks
-  same-checks c h e = rw (le-leb g 5 h, e)
+abbrev checks : ℕ → List M.Thread → List ℕ → List Check
+checks c xs bs = check 8 (ltb c 8) ∷ []
 
-  added : advance (withGroup g (putThreads xs l)) (startRecord s i) ≡ withGroup 5 (putThreads (xs ++ (fresh s i ∷ [])) l)
-  unfolding advance put
-  added = rw (append-nil (l .picks))
+abbrev said : List ℕ → Record
+said bs = startRecord (siteAt 1 bs) (at bs 2)
+
+same-checks : (g c : ℕ) (xs : List M.Thread) (bs : List ℕ) (l : Progress) → g ≤ 5 → length xs ≡ c → failing (loadChecks (withGroup g (putThreads xs l)) (said bs)) ≡ failing (checks c xs bs)
+unfolding loadChecks
+same-checks g c xs bs l h e = rw (le-leb g 5 h, e)
+
+added : (g : ℕ) (xs : List M.Thread) (bs : List ℕ) (l : Progress) → advance (withGroup g (putThreads xs l)) (said bs) ≡ withGroup 5 (putThreads (xs ++ (fresh (siteAt 1 bs) (at bs 2) ∷ [])) l)
+unfolding advance put
+added g xs bs l = rw (append-nil (l .picks))
 
 -- check 8 left room for one more
 room-left : (f : ℕ) (form : Bool) (n : ℕ) → f ≡ 0 → f ≡ formThen form (check 8 (ltb n 8) ∷ []) → n < 8
@@ -46,22 +48,6 @@ room-left f form n z e = go form (ltb n 8) refl (sym z ∙ e)
     go true true k z = ltb-true n 8 k
     go true false k z = absurd (omega arith)
     go false d k z = absurd (omega arith)
-
--- ── a turn ──
-
-module _ (file : List ℕ) (from r : Reach) (n : ℕ) (e : n ≡ groupNext file r) (e′ : n ≡ 5) (g : Going file 5 r) (c : ℕ) (xs : List Thread) (f : ℕ)
-    (z : f ≡ formThen (startForm (recordAt file (r .place))) (check 8 (ltb c 8) ∷ [])) (h : Leads file from r (putThreads []) (putThreads (threadsOf c xs))) where
-  off : (f ≡ 0 → ⊥) → Leads file from (stop r 5 f) (putThreads []) (putThreads (threadsOf c xs))
-  off k =
-      leads-trans file from r (stop r 5 f) _ _ _ h
-      (leads-off 5 pos file r n e e′ g (putThreads (threadsOf c xs)) _ _ _ refl (λ l. same-checks (r .group) (threadsOf c xs) _ _ l c (g .group) (length-firsts threadOf noThread c xs)) _ f z k)
-
-  on : (x : Thread) → f ≡ 0 → length xs ≡ 8 → c < 8 → threadOf x ≡ fresh (siteAt 1 (recordAt file (r .place))) (at (recordAt file (r .place)) 2) → Leads file from (past r 5) (putThreads []) (putThreads (threadsOf (c + 1) (set xs c x)))
-  on x y long room q =
-      leads-trans file from r (past r 5) _ _ _ h
-      (leads-on 5 pos file r n e e′ g (putThreads (threadsOf c xs)) _ _ _ refl (λ l. same-checks (r .group) (threadsOf c xs) _ _ l c (g .group) (length-firsts threadOf noThread c xs)) _ tt (sym y ∙ z)
-      (λ l. added (r .group) (threadsOf c xs) _ _ l
-      ∙ ap (λ (us : List M.Thread). withGroup 5 (putThreads us l)) (ap (λ (d : M.Thread). threadsOf c xs ++ (d ∷ [])) (sym q) ∙ sym (firsts-push threadOf noThread c xs x (omega (arith, long, room))))))
 
 abbrev Inv-loop : tie.InvT-loop
 Inv-loop file threads₀ count₀ at₀ threads count at = (length threads ≡ 8) × (count ≤ 8) × Leads file at₀ at (putThreads []) (putThreads (threadsOf count threads)) × Going file 5 at
@@ -94,7 +80,7 @@ start-fault-requires : tie.Need-start-fault-requires Inv-loop μ-loop
 start-fault-requires c κs = search (sized 5 pos)
 
 returns : tie.Need-returns Inv-loop μ-loop
-returns c = (search off, search (gone-off 5 pos))
+returns c = (search (list-stops 5 pos threadOf noThread putThreads startForm said (λ bs. fresh (siteAt 1 bs) (at bs 2)) checks (λ bs. refl) same-checks added), search (gone-off 5 pos))
 
 add-start-in : tie.Need-add-start-in Inv-loop μ-loop
 add-start-in c = let t = c .before .before .before .before in let h = near 5 pos _ _ _ (t .before .next-group .ensures) (t .if1 .taken) (t .before .before .loop .inv .3) in omega (arith, h .0, h .1, h .2)
@@ -134,7 +120,7 @@ loop-again c =
     let room = room-left _ _ (l .count) (c .before .before .before .if2 .left) (f .ensures) in (
       search length-set,
       omega (arith, room),
-      on _ _ _ _ (t .before .next-group .ensures) (t .if1 .taken) (l .inv .3) _ _ _ (f .ensures) (l .inv .2) _ (c .before .before .before .if2 .left) (l .inv .0) room (c .before .start-in .ensures),
+      list-grows 5 pos threadOf noThread putThreads startForm said (λ bs. fresh (siteAt 1 bs) (at bs 2)) checks (λ bs. refl) same-checks added _ _ _ _ (t .before .next-group .ensures) (t .if1 .taken) (l .inv .3) (l .count) (l .threads) _ (f .ensures) (l .inv .2) _ (c .before .before .before .if2 .left) tt (omega (arith, l .inv .0, room)) (c .before .start-in .ensures),
       search (gone-on 5 pos),
     )
 

@@ -1,29 +1,25 @@
 -- `records::tables::tables_from` meets its contract: record by record, while they are tables.
 use Prim.Native.Nat.{ℕ, _+_, _-_, _≤_, _<_}
-use mathlib.Core.Path.{_≡_, refl, sym, ap, _∙_}
+use mathlib.Core.Path.{_≡_, refl, sym, _∙_}
 use mathlib.Core.Bool.{Bool, true, false, not}
 use mathlib.Core.List.{List, [], _∷_, _++_, append-nil}
 use native.Mathlib.Omega.{arith}
 use lib.Dec.{ltb}
-use lib.ListN.{length, set, length-set}
+use lib.ListN.{length, length-set}
 use borrow.Author.Needs.{needs}
 use borrow.Author.Tests.{ltb-true, le-leb}
-use Rattle.values.specs.declared.Site.{Site}
 use Rattle.values.specs.Lists.{isSome}
-use Rattle.values.proofs.Firsts.{length-firsts, firsts-push}
-use Rattle.rows.specs.Relations.{Columns}
 use Rattle.nets.specs.declared.Table.{Table}
 use Rattle.nets.specs.Nets as M
 use Rattle.nets.specs.Tables.{tableAt}
-use Rattle.nets.specs.Steps.{check}
 use Rattle.nets.specs.View.{noTable, tableOf, tablesOf}
 use Rattle.codec.specs.Bytes.{part, columnsIn}
-use Rattle.codec.specs.Decoding.{tableRecord, wholeRecords, siteAt, nameIn, tableForm}
-use Rattle.records.specs.declared.Reach.{Reach}
+use Rattle.nets.specs.Steps.{Check, check}
+use Rattle.codec.specs.Decoding.{Record, tableRecord, wholeRecords, siteAt, nameIn, tableForm}
 use Rattle.files.specs.Loading.{Progress, loadChecks, failing, bare, put, advance}
-use Rattle.records.specs.Walking.{putTables, AllShaped, Leads, groupNext, Going, formThen}
+use Rattle.records.specs.Walking.{putTables, AllShaped, Leads, Going, formThen}
 use Rattle.records.proofs.PlaceTies.{more-shaped}
-use Rattle.records.proofs.WalkLaws.{recordAt, withGroup, past, stop, leads-trans, leads-refl, leads-on, leads-off, near, sized, place-few, gone-on, gone-off, gone-by}
+use Rattle.records.proofs.WalkLaws.{withGroup, leads-refl, list-stops, list-grows, near, sized, place-few, gone-on, gone-off, gone-by}
 use Rattle.records.proofs.tables.tables_from.Statement.{statement}
 use Rattle.records.proofs.tables.tables_from.Tie as tie
 
@@ -32,15 +28,19 @@ pos = omega arith
 
 -- ── the record ──
 
-module _ (g : ℕ) (ts : List M.Table) (s : Site) (n : ℕ) (cs : Columns) (l : Progress) where
-  same-checks : (c : ℕ) → g ≤ 2 → length ts ≡ c →
-      failing (loadChecks (withGroup g (putTables ts l)) (tableRecord s n cs)) ≡ failing (check 6 (not (isSome (tableAt s n ts))) ∷ check 8 (ltb c 8) ∷ [])
-  unfolding loadChecks
-  same-checks c h e = rw (le-leb g 2 h, e)
+abbrev checks : ℕ → List M.Table → List ℕ → List Check
+checks c xs bs = check 6 (not (isSome (tableAt (siteAt 1 bs) (nameIn bs) xs))) ∷ check 8 (ltb c 8) ∷ []
 
-  added : advance (withGroup g (putTables ts l)) (tableRecord s n cs) ≡ withGroup 2 (putTables (ts ++ (bare s n cs ∷ [])) l)
-  unfolding advance put
-  added = rw (append-nil (l .picks))
+abbrev said : List ℕ → Record
+said bs = tableRecord (siteAt 1 bs) (nameIn bs) (columnsIn (part 8 12 bs))
+
+same-checks : (g c : ℕ) (xs : List M.Table) (bs : List ℕ) (l : Progress) → g ≤ 2 → length xs ≡ c → failing (loadChecks (withGroup g (putTables xs l)) (said bs)) ≡ failing (checks c xs bs)
+unfolding loadChecks
+same-checks g c xs bs l h e = rw (le-leb g 2 h, e)
+
+added : (g : ℕ) (xs : List M.Table) (bs : List ℕ) (l : Progress) → advance (withGroup g (putTables xs l)) (said bs) ≡ withGroup 2 (putTables (xs ++ (bare (siteAt 1 bs) (nameIn bs) (columnsIn (part 8 12 bs)) ∷ [])) l)
+unfolding advance put
+added g xs bs l = rw (append-nil (l .picks))
 
 -- check 8 left room for one more
 room-left : (f : ℕ) (form b : Bool) (n : ℕ) → f ≡ 0 → f ≡ formThen form (check 6 b ∷ check 8 (ltb n 8) ∷ []) → n < 8
@@ -52,25 +52,6 @@ room-left f form b n z e = go form b (ltb n 8) refl (sym z ∙ e)
     go true true false k z = absurd (omega arith)
     go true false d k z = absurd (omega arith)
     go false b d k z = absurd (omega arith)
-
--- ── a turn ──
-
-module _ (file : List ℕ) (from r : Reach) (n : ℕ) (e : n ≡ groupNext file r) (e′ : n ≡ 2) (g : Going file 2 r) (c : ℕ) (ts : List Table) (f : ℕ)
-    (z : f ≡ formThen (tableForm (recordAt file (r .place)))
-    (check 6 (not (isSome (tableAt (siteAt 1 (recordAt file (r .place))) (nameIn (recordAt file (r .place))) (tablesOf c ts)))) ∷ check 8 (ltb c 8) ∷ []))
-    (h : Leads file from r (putTables []) (putTables (tablesOf c ts))) where
-  off : (f ≡ 0 → ⊥) → Leads file from (stop r 2 f) (putTables []) (putTables (tablesOf c ts))
-  off k =
-      leads-trans file from r (stop r 2 f) _ _ _ h
-      (leads-off 2 pos file r n e e′ g (putTables (tablesOf c ts)) _ _ _ refl (λ l. same-checks (r .group) (tablesOf c ts) _ _ _ l c (g .group) (length-firsts tableOf noTable c ts)) _ f z k)
-
-  on : (t : Table) → f ≡ 0 → length ts ≡ 8 → c < 8 → tableOf t ≡ bare (siteAt 1 (recordAt file (r .place))) (nameIn (recordAt file (r .place))) (columnsIn (part 8 12 (recordAt file (r .place)))) →
-      Leads file from (past r 2) (putTables []) (putTables (tablesOf (c + 1) (set ts c t)))
-  on t y long room q =
-      leads-trans file from r (past r 2) _ _ _ h
-      (leads-on 2 pos file r n e e′ g (putTables (tablesOf c ts)) _ _ _ refl (λ l. same-checks (r .group) (tablesOf c ts) _ _ _ l c (g .group) (length-firsts tableOf noTable c ts)) _ tt (sym y ∙ z)
-      (λ l. added (r .group) (tablesOf c ts) _ _ _ l
-      ∙ ap (λ (us : List M.Table). withGroup 2 (putTables us l)) (ap (λ (x : M.Table). tablesOf c ts ++ (x ∷ [])) (sym q) ∙ sym (firsts-push tableOf noTable c ts t (omega (arith, long, room))))))
 
 abbrev Inv-loop : tie.InvT-loop
 Inv-loop file tables₀ count₀ at₀ tables count at = (length tables ≡ 8) × AllShaped count tables × Leads file at₀ at (putTables []) (putTables (tablesOf count tables)) × Going file 2 at
@@ -103,7 +84,7 @@ table-fault-requires : tie.Need-table-fault-requires Inv-loop μ-loop
 table-fault-requires c κs = (search (sized 2 pos), c .before .before .before .before .loop .inv .1 .0)
 
 returns : tie.Need-returns Inv-loop μ-loop
-returns c = (search off, search (gone-off 2 pos), c .before .before .before .before .before .before .loop .inv .1)
+returns c = (search (list-stops 2 pos tableOf noTable putTables tableForm said (λ bs. bare (siteAt 1 bs) (nameIn bs) (columnsIn (part 8 12 bs))) checks (λ bs. refl) same-checks added), search (gone-off 2 pos), c .before .before .before .before .before .before .loop .inv .1)
 
 add-table-in : tie.Need-add-table-in Inv-loop μ-loop
 add-table-in c = let t = c .before .before .before .before in let h = near 2 pos _ _ _ (t .before .next-group .ensures) (t .if1 .taken) (t .before .before .loop .inv .3) in omega (arith, h .0, h .1, h .2)
@@ -143,7 +124,7 @@ loop-again c =
     let room = room-left _ _ _ _ (c .before .before .before .if2 .left) (f .ensures) in (
       search length-set,
       more-shaped (l .tables) (l .count) _ (omega (arith, l .inv .0, room)) (c .before .table-in .ensures .1) room (l .inv .1),
-      on _ _ _ _ (t .before .next-group .ensures) (t .if1 .taken) (l .inv .3) _ _ _ (f .ensures) (l .inv .2) _ (c .before .before .before .if2 .left) (l .inv .0) room (c .before .table-in .ensures .0),
+      list-grows 2 pos tableOf noTable putTables tableForm said (λ bs. bare (siteAt 1 bs) (nameIn bs) (columnsIn (part 8 12 bs))) checks (λ bs. refl) same-checks added _ _ _ _ (t .before .next-group .ensures) (t .if1 .taken) (l .inv .3) (l .count) (l .tables) _ (f .ensures) (l .inv .2) _ (c .before .before .before .if2 .left) tt (omega (arith, l .inv .0, room)) (c .before .table-in .ensures .0),
       search (gone-on 2 pos),
     )
 
