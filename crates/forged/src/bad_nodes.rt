@@ -1,63 +1,26 @@
 // Nodes with one clause of check 4 or 9 broken, in the fields that are numbers.
-use crate::trying::try_net;
+use crate::trying::node_at;
+use crate::trying::try_counts;
+use crate::trying::try_node;
 use forging::base::CARD;
+use forging::base::base;
 use forging::full::many_nodes;
 use forging::programs::bare;
 use forging::programs::placed;
 use forging::programs::remade;
-use forging::programs::with_node;
-use nets::Net;
 use nets::Node;
 use rows::Function;
 ghost use Prim.Native.Nat.{_<_};
 
-// Kinds, bodies and names.
-pub fn fields(net: Net) {
-    let mut many = many_nodes(net);
-    many.nodecount = 129;
-    try_net(b"129 nodes", many);
-    try_net(b"a node of kind 0", with_node(net, 11, bare(0, 255)));
-    try_net(b"a node of kind 15", with_node(net, 11, bare(15, 255)));
-    try_net(b"a node of kind 27", with_node(net, 11, bare(27, 255)));
-    let drop = net.nodes[11];
-    let mut with_body = drop;
-    with_body.body = 1;
-    try_net(b"a drop with a body", with_node(net, 11, with_body));
-    let mut no_name = drop;
-    no_name.name = 0;
-    try_net(b"a drop without a name", with_node(net, 11, no_name));
-    let mut named = net.nodes[9];
-    named.name = CARD;
-    try_net(b"a loop with a name", with_node(net, 9, named));
-}
+// ---- the same node with some fields exchanged
 
-// Table variables bound and read.
-pub fn variables(net: Net) {
-    let drop = net.nodes[11];
-    let mut binding = net.nodes[2];
-    binding.bound = 2;
-    try_net(
-        b"a delete into table variable 2",
-        with_node(net, 2, binding),
-    );
-    let mut also_binding = drop;
-    also_binding.bound = 1;
-    try_net(
-        b"a drop into a table variable",
-        with_node(net, 11, also_binding),
-    );
-    let mut reading = net.nodes[1];
-    reading.read = 2;
-    try_net(
-        b"an insert-table of table variable 2",
-        with_node(net, 1, reading),
-    );
-    let mut also_reading = drop;
-    also_reading.read = 1;
-    try_net(
-        b"a drop of a table variable",
-        with_node(net, 11, also_reading),
-    );
+fn numbered(node: Node, body: u8, called: u32, bound: u8, read: u8) -> Node {
+    let mut d = node;
+    d.body = body;
+    d.name = called;
+    d.bound = bound;
+    d.read = read;
+    d
 }
 
 // The same node with another function and column.
@@ -75,62 +38,80 @@ fn making(node: Node, columns: usize, kinds: [u8; 4]) -> Node {
     d
 }
 
-pub fn columns(net: Net) {
-    let sum = net.nodes[6];
-    let create = net.nodes[7];
-    let drop = net.nodes[11];
-    let unused = computing(sum, Function::Unused, 0);
-    try_net(
-        b"an aggregate without a function",
-        with_node(net, 6, unused),
-    );
-    let counting = computing(sum, Function::Count, 1);
-    try_net(b"a count of column 1", with_node(net, 6, counting));
-    let far = computing(sum, Function::Least, 4);
-    try_net(b"a least of column 4", with_node(net, 6, far));
-    let computed = computing(drop, Function::Count, 0);
-    try_net(b"a drop with a function", with_node(net, 11, computed));
-    let pointed = computing(drop, Function::Unused, 1);
-    try_net(b"a drop with a column", with_node(net, 11, pointed));
-    try_net(
-        b"a create of no columns",
-        with_node(net, 7, making(create, 0, [1; 4])),
-    );
-    try_net(
-        b"a create of five columns",
-        with_node(net, 7, making(create, 5, [1; 4])),
-    );
-    try_net(
-        b"a create with a kind 4",
-        with_node(net, 7, making(create, 2, [1, 4, 0, 0])),
-    );
-    try_net(
-        b"a drop with columns",
-        with_node(net, 11, making(drop, 1, [1, 0, 0, 0])),
-    );
+// ---- kinds, bodies and names
+
+pub fn kinds() {
+    try_counts(b"129 nodes", many_nodes(base()), 2, 2, 129, 2);
+    try_node(b"a node of kind 0", 11, bare(0, 255));
+    try_node(b"a node of kind 15", 11, bare(15, 255));
+    try_node(b"a node of kind 27", 11, bare(27, 255));
 }
 
-// The drop with another next.
-fn going(net: Net, at: usize, next: u8) -> Net
+// Node `at` with this body and name, and these table variables bound and read.
+fn try_numbers(name: &[u8], at: usize, body: u8, called: u32, bound: u8, read: u8)
     requires { ⌜ at < 128 ⌝ }
 {
-    with_node(net, at, placed(24, next))
+    try_node(name, at, numbered(node_at(at), body, called, bound, read));
 }
 
-// A loop with another body.
-fn around(net: Net, body: u8) -> Net {
-    let mut d = net.nodes[9];
-    d.body = body;
-    with_node(net, 9, d)
+pub fn fields() {
+    try_numbers(b"a drop with a body", 11, 1, CARD, 0, 0);
+    try_numbers(b"a drop without a name", 11, 0, 0, 0, 0);
+    try_numbers(b"a loop with a name", 9, 11, CARD, 0, 0);
+    try_numbers(b"a delete into table variable 2", 2, 0, CARD, 2, 0);
+    try_numbers(b"a drop into a table variable", 11, 0, CARD, 1, 0);
+    try_numbers(b"an insert-table of table variable 2", 1, 0, CARD, 0, 2);
+    try_numbers(b"a drop of a table variable", 11, 0, CARD, 0, 1);
 }
 
-pub fn links(net: Net) {
-    try_net(b"a next of its own number", going(net, 8, 8));
-    try_net(b"a next below", going(net, 8, 7));
-    try_net(b"a next past the nodes", going(net, 8, 12));
-    try_net(b"a next 254", going(net, 11, 254));
-    try_net(b"a body of its own number", around(net, 9));
-    try_net(b"a body below", around(net, 0));
-    try_net(b"a body past the nodes", around(net, 12));
-    try_net(b"a body 255", around(net, 255));
+// ---- functions and columns
+
+fn try_function(name: &[u8], at: usize, function: Function, column: u8)
+    requires { ⌜ at < 128 ⌝ }
+{
+    try_node(name, at, computing(node_at(at), function, column));
+}
+
+pub fn functions() {
+    try_function(b"an aggregate without a function", 6, Function::Unused, 0);
+    try_function(b"a count of column 1", 6, Function::Count, 1);
+    try_function(b"a least of column 4", 6, Function::Least, 4);
+    try_function(b"a drop with a function", 11, Function::Count, 0);
+    try_function(b"a drop with a column", 11, Function::Unused, 1);
+}
+
+fn try_columns(name: &[u8], at: usize, columns: usize, kinds: [u8; 4])
+    requires { ⌜ at < 128 ⌝ }
+{
+    try_node(name, at, making(node_at(at), columns, kinds));
+}
+
+pub fn columns() {
+    try_columns(b"a create of no columns", 7, 0, [1; 4]);
+    try_columns(b"a create of five columns", 7, 5, [1; 4]);
+    try_columns(b"a create with a kind 4", 7, 2, [1, 4, 0, 0]);
+    try_columns(b"a drop with columns", 11, 1, [1, 0, 0, 0]);
+}
+
+// ---- links
+
+// A drop with another next.
+fn try_next(name: &[u8], at: usize, next: u8)
+    requires { ⌜ at < 128 ⌝ }
+{
+    try_node(name, at, placed(24, next));
+}
+
+pub fn nexts() {
+    try_next(b"a next of its own number", 8, 8);
+    try_next(b"a next below", 8, 7);
+    try_next(b"a next past the nodes", 8, 12);
+    try_next(b"a next 254", 11, 254);
+}
+
+pub fn bodies() {
+    try_numbers(b"a body of its own number", 9, 9, 0, 0, 0);
+    try_numbers(b"a body below", 9, 0, 0, 0, 0);
+    try_numbers(b"a body past the nodes", 9, 12, 0, 0, 0);
+    try_numbers(b"a body 255", 9, 255, 0, 0, 0);
 }

@@ -1,5 +1,6 @@
 // Nodes with one clause of check 4 broken, in the fields that are operands.
-use crate::trying::try_net;
+use crate::trying::node_at;
+use crate::trying::try_node;
 use forging::programs::formals;
 use forging::programs::four;
 use forging::programs::giving;
@@ -8,8 +9,6 @@ use forging::programs::none;
 use forging::programs::remade;
 use forging::programs::selecting;
 use forging::programs::two;
-use forging::programs::with_node;
-use nets::Net;
 use nets::Node;
 use rows::Operands;
 use rows::Selector;
@@ -18,87 +17,77 @@ use values::Locality;
 use values::Operand;
 ghost use Prim.Native.Nat.{_<_};
 
+// ---- L
+
 // The same node with another L and T'.
 fn told(node: Node, place: Operand, result: Operand) -> Node {
     let function = node.function;
     remade(node, function, node.column, place, result)
 }
 
-// The last drop with another L.
-fn dropping(net: Net, place: Operand) -> Net {
-    with_node(net, 11, told(net.nodes[11], place, Operand::Absent))
+// Node `at`, which has no T', with another L.
+fn try_place(name: &[u8], at: usize, place: Operand)
+    requires { ⌜ at < 128 ⌝ }
+{
+    try_node(name, at, told(node_at(at), place, Operand::Absent));
 }
 
-pub fn places(net: Net) {
-    try_net(b"a drop without L", dropping(net, Operand::Absent));
-    try_net(b"an Int as L", dropping(net, Operand::ConstInt(1)));
-    try_net(
-        b"a Text as L",
-        dropping(net, Operand::ConstText(0x20202020)),
-    );
-    try_net(
-        b"locality 8 as L",
-        dropping(net, Operand::ConstLoc(Locality(8))),
-    );
-    try_net(b"variable 16 as L", dropping(net, Operand::Var(16)));
-    try_net(b"a sum as L", dropping(net, Operand::Plus(2, 0)));
-    try_net(b"a formal as L", dropping(net, Operand::Formal(2)));
-    let placed = told(
-        net.nodes[9],
-        Operand::ConstLoc(Locality(1)),
-        Operand::Absent,
-    );
-    try_net(b"a loop with L", with_node(net, 9, placed));
+pub fn places() {
+    try_place(b"a drop without L", 11, Operand::Absent);
+    try_place(b"an Int as L", 11, Operand::ConstInt(1));
+    try_place(b"a Text as L", 11, Operand::ConstText(0x20202020));
+    try_place(b"locality 8 as L", 11, Operand::ConstLoc(Locality(8)));
 }
 
-// The delete with another template.
-fn deleting(net: Net, template: Operands) -> Net {
-    with_node(net, 2, selecting(net.nodes[2], matching(template)))
+pub fn computed_places() {
+    try_place(b"variable 16 as L", 11, Operand::Var(16));
+    try_place(b"a sum as L", 11, Operand::Plus(2, 0));
+    try_place(b"a formal as L", 11, Operand::Formal(2));
+    try_place(b"a loop with L", 9, Operand::ConstLoc(Locality(1)));
 }
 
-fn counted(operands: Operands, count: usize) -> Operands {
-    let mut next = operands;
-    next.count = count;
+// ---- T
+
+// Node `at` with another template, and no predicate.
+fn try_template(name: &[u8], at: usize, template: Operands)
+    requires { ⌜ at < 128 ⌝ }
+{
+    try_node(name, at, selecting(node_at(at), matching(template)));
+}
+
+// The delete with a template of these two operands.
+fn try_two(name: &[u8], first: Operand, second: Operand) {
+    try_template(name, 2, two(first, second));
+}
+
+// Five operands are counted.
+fn five(operand: Operand) -> Operands {
+    let mut next = four(operand);
+    next.count = 5;
     next
 }
 
-pub fn templates(net: Net) {
+pub fn templates() {
     let any = Operand::Formal(3);
-    try_net(b"T of no operands", deleting(net, none()));
-    try_net(
-        b"T of five operands",
-        deleting(net, counted(four(Operand::Var(0)), 5)),
-    );
-    try_net(
-        b"T with an operand absent",
-        deleting(net, two(Operand::Absent, any)),
-    );
-    try_net(b"T with a formal twice", deleting(net, two(any, any)));
-    try_net(
-        b"T with formal 16",
-        deleting(net, two(any, Operand::Formal(16))),
-    );
-    try_net(
-        b"T with variable 16",
-        deleting(net, two(any, Operand::Var(16))),
-    );
-    try_net(
-        b"T with a sum of variable 16",
-        deleting(net, two(any, Operand::Plus(16, 1))),
-    );
-    try_net(
-        b"T with a Text out of range",
-        deleting(net, two(Operand::ConstText(0), any)),
-    );
-    let dropping = selecting(net.nodes[11], matching(formals()));
-    try_net(b"a drop with T", with_node(net, 11, dropping));
+    try_template(b"T of no operands", 2, none());
+    try_template(b"T of five operands", 2, five(Operand::Var(0)));
+    try_two(b"T with an operand absent", Operand::Absent, any);
+    try_two(b"T with a formal twice", any, any);
 }
 
-// Node `at` with another predicate.
-fn testing(net: Net, at: usize, test: Test, left: Operand, right: Operand) -> Net
-    requires { ⌜ at < 128 ⌝ }
-{
-    let node = net.nodes[at];
+pub fn template_ranges() {
+    let any = Operand::Formal(3);
+    try_two(b"T with formal 16", any, Operand::Formal(16));
+    try_two(b"T with variable 16", any, Operand::Var(16));
+    try_two(b"T with a sum of variable 16", any, Operand::Plus(16, 1));
+    try_two(b"T with a Text out of range", Operand::ConstText(0), any);
+    try_template(b"a drop with T", 11, formals());
+}
+
+// ---- predicates
+
+// The same node with another predicate.
+fn testing(node: Node, test: Test, left: Operand, right: Operand) -> Node {
     let old = node.selector;
     let template = old.template;
     let selector = Selector {
@@ -107,87 +96,95 @@ fn testing(net: Net, at: usize, test: Test, left: Operand, right: Operand) -> Ne
         left,
         right,
     };
-    with_node(net, at, selecting(node, selector))
+    selecting(node, selector)
 }
 
-pub fn tests(net: Net) {
-    let one = Operand::ConstInt(1);
-    let absent = Operand::Absent;
-    try_net(
-        b"predicate 0 with an operand",
-        testing(net, 2, Test::Always, absent, one),
-    );
-    try_net(
-        b"predicate 1 without an operand",
-        testing(net, 2, Test::Equal, absent, one),
-    );
-    try_net(
-        b"predicate 2 on a formal",
-        testing(net, 2, Test::Unequal, one, Operand::Formal(3)),
-    );
-    try_net(
-        b"predicate 4 on variable 16",
-        testing(net, 2, Test::AtMost, one, Operand::Var(16)),
-    );
-    try_net(
-        b"a drop with a predicate",
-        testing(net, 11, Test::Equal, one, one),
-    );
-    try_net(
-        b"a drop with an operand",
-        testing(net, 11, Test::Always, one, absent),
-    );
-}
-
-// The insert with another tuple.
-fn inserting(net: Net, tuple: Operands) -> Net {
-    with_node(net, 0, giving(net.nodes[0], tuple))
-}
-
-pub fn tuples(net: Net) {
-    let one = Operand::ConstInt(1);
-    try_net(b"t of no operands", inserting(net, none()));
-    try_net(b"t of five operands", inserting(net, counted(four(one), 5)));
-    try_net(
-        b"t with an operand absent",
-        inserting(net, two(one, Operand::Absent)),
-    );
-    try_net(
-        b"t with a formal",
-        inserting(net, two(one, Operand::Formal(3))),
-    );
-    try_net(
-        b"t with locality 8",
-        inserting(net, two(Operand::ConstLoc(Locality(8)), one)),
-    );
-    try_net(
-        b"t with variable 16",
-        inserting(net, two(one, Operand::Var(16))),
-    );
-    let summing = giving(net.nodes[3], two(one, Operand::Plus(3, 1)));
-    try_net(b"a select of a sum", with_node(net, 3, summing));
-    let dropping = giving(net.nodes[11], two(one, one));
-    try_net(b"a drop with t", with_node(net, 11, dropping));
-}
-
-// Node `at` with another T'.
-fn resulting(net: Net, at: usize, result: Operand) -> Net
+fn try_test(name: &[u8], at: usize, test: Test, left: Operand, right: Operand)
     requires { ⌜ at < 128 ⌝ }
 {
-    let node = net.nodes[at];
-    let place = node.place;
-    with_node(net, at, told(node, place, result))
+    try_node(name, at, testing(node_at(at), test, left, right));
 }
 
-pub fn results(net: Net) {
-    try_net(
-        b"an aggregate without T'",
-        resulting(net, 6, Operand::Absent),
+// The delete with another predicate.
+fn try_delete(name: &[u8], test: Test, left: Operand, right: Operand) {
+    try_test(name, 2, test, left, right);
+}
+
+pub fn tests() {
+    let one = Operand::ConstInt(1);
+    let none = Operand::Absent;
+    try_delete(b"predicate 0 with an operand", Test::Always, none, one);
+    try_delete(b"predicate 1 without an operand", Test::Equal, none, one);
+    try_delete(
+        b"predicate 2 on a formal",
+        Test::Unequal,
+        one,
+        Operand::Formal(3),
     );
-    try_net(b"T' with formal 16", resulting(net, 6, Operand::Formal(16)));
-    try_net(
+    try_delete(
+        b"predicate 4 on variable 16",
+        Test::AtMost,
+        one,
+        Operand::Var(16),
+    );
+    try_test(b"a drop with a predicate", 11, Test::Equal, one, one);
+    try_test(b"a drop with an operand", 11, Test::Always, one, none);
+}
+
+// ---- t
+
+// Node `at` with another tuple.
+fn try_tuple(name: &[u8], at: usize, tuple: Operands)
+    requires { ⌜ at < 128 ⌝ }
+{
+    try_node(name, at, giving(node_at(at), tuple));
+}
+
+// Node `at` with a tuple of these two operands.
+fn try_pair(name: &[u8], at: usize, first: Operand, second: Operand)
+    requires { ⌜ at < 128 ⌝ }
+{
+    try_tuple(name, at, two(first, second));
+}
+
+pub fn tuples() {
+    let one = Operand::ConstInt(1);
+    try_tuple(b"t of no operands", 0, none());
+    try_tuple(b"t of five operands", 0, five(one));
+    try_pair(b"t with an operand absent", 0, one, Operand::Absent);
+    try_pair(b"t with a formal", 0, one, Operand::Formal(3));
+}
+
+pub fn tuple_ranges() {
+    let one = Operand::ConstInt(1);
+    let nowhere = Operand::ConstLoc(Locality(8));
+    try_pair(b"t with locality 8", 0, nowhere, one);
+    try_pair(b"t with variable 16", 0, one, Operand::Var(16));
+    try_pair(b"a select of a sum", 3, one, Operand::Plus(3, 1));
+    try_pair(b"a drop with t", 11, one, one);
+}
+
+// ---- T'
+
+// The same node with another T'.
+fn resulting(node: Node, result: Operand) -> Node {
+    let place = node.place;
+    told(node, place, result)
+}
+
+fn try_result(name: &[u8], at: usize, result: Operand)
+    requires { ⌜ at < 128 ⌝ }
+{
+    try_node(name, at, resulting(node_at(at), result));
+}
+
+pub fn results() {
+    try_result(b"an aggregate without T'", 6, Operand::Absent);
+    try_result(b"T' with formal 16", 6, Operand::Formal(16));
+    try_result(
         b"T' with a Text out of range",
-        resulting(net, 6, Operand::ConstText(0x7f202020)),
+        6,
+        Operand::ConstText(0x7f202020),
     );
-    try_net(b"a drop with T'", resulting(net, 11, Operand::Formal(5)));
+    try_result(b"a drop with T'", 11, Operand::Formal(5));
 }

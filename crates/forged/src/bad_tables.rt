@@ -1,9 +1,11 @@
 // Tables and aliases with one clause of soundness broken.
+use crate::trying::try_counts;
 use crate::trying::try_net;
 use forging::base::CARD;
 use forging::base::LOGS;
 use forging::base::RIG1;
 use forging::base::alias;
+use forging::base::base;
 use forging::base::cards;
 use forging::base::logs;
 use forging::base::row;
@@ -13,47 +15,28 @@ use forging::base::with_table;
 use forging::full::all_aliases;
 use forging::full::eight_tables;
 use forging::full::sixteen_rows;
-use nets::Net;
 use rows::Relation;
 use rows::Row;
 use values::Locality;
 use values::Value;
 
-// The net with another content of table CARD.
-fn with_content(net: Net, content: Relation) -> Net {
-    with_table(net, table(1, CARD, content))
+// ---- tables
+
+// Table CARD elsewhere, under another name, or with another content.
+fn try_table(name: &[u8], site: u8, called: u32, content: Relation) {
+    try_net(name, with_table(base(), table(site, called, content)));
 }
 
-// The same relation with another first row.
-pub fn with_row(content: Relation, row: Row) -> Relation {
-    let mut next = content;
-    next.rows[0] = row;
-    next
+pub fn tables() {
+    let content = cards();
+    try_counts(b"nine tables", eight_tables(base()), 2, 9, 12, 2);
+    try_table(b"a table at site 8", 8, CARD, content);
+    try_table(b"a name with a byte 1F", 1, 0x1f415244, content);
+    try_table(b"a name with a byte 7F", 1, 0x4341527f, content);
+    try_table(b"two tables of one site and name", 0, LOGS, content);
 }
 
-pub fn tables(net: Net) {
-    let old = net.tables[0];
-    let content = old.content;
-    let mut nine = eight_tables(net);
-    nine.tablecount = 9;
-    try_net(b"nine tables", nine);
-    try_net(
-        b"a table at site 8",
-        with_table(net, table(8, CARD, content)),
-    );
-    try_net(
-        b"a name with a byte 1F",
-        with_table(net, table(1, 0x1f415244, content)),
-    );
-    try_net(
-        b"a name with a byte 7F",
-        with_table(net, table(1, 0x4341527f, content)),
-    );
-    try_net(
-        b"two tables of one site and name",
-        with_table(net, table(0, LOGS, content)),
-    );
-}
+// ---- contents
 
 // No rows, and columns of these kinds.
 pub fn empty(columns: usize, kinds: [u8; 4]) -> Relation {
@@ -64,48 +47,61 @@ pub fn empty(columns: usize, kinds: [u8; 4]) -> Relation {
     next
 }
 
-pub fn contents(net: Net) {
-    try_net(b"no columns", with_content(net, empty(0, [1; 4])));
-    try_net(b"five columns", with_content(net, empty(5, [1; 4])));
-    try_net(
-        b"a column kind 0",
-        with_content(net, empty(2, [0, 1, 1, 1])),
-    );
-    try_net(
-        b"a column kind 4",
-        with_content(net, empty(4, [1, 2, 3, 4])),
-    );
+// One row more than there are is counted.
+pub fn seventeen_rows() -> Relation {
     let mut long = sixteen_rows();
     long.count = 17;
-    try_net(b"17 rows", with_content(net, long));
+    long
 }
 
-pub fn rows(net: Net) {
+// Table CARD with another content.
+fn try_content(name: &[u8], content: Relation) {
+    try_table(name, 1, CARD, content);
+}
+
+pub fn contents() {
+    try_content(b"no columns", empty(0, [1; 4]));
+    try_content(b"five columns", empty(5, [1; 4]));
+    try_content(b"a column kind 0", empty(2, [0, 1, 1, 1]));
+    try_content(b"a column kind 4", empty(4, [1, 2, 3, 4]));
+    try_content(b"17 rows", seventeen_rows());
+}
+
+// ---- rows
+
+// The same relation with another first row.
+pub fn with_row(content: Relation, row: Row) -> Relation {
+    let mut next = content;
+    next.rows[0] = row;
+    next
+}
+
+fn try_row(name: &[u8], content: Relation, row: Row) {
+    try_content(name, with_row(content, row));
+}
+
+pub fn rows() {
     let none = Value::Int(0);
-    let misfit = row(Value::Text(RIG1), Value::Text(RIG1), none, none);
-    let content = with_row(cards(), misfit);
-    try_net(b"a row that does not fit", with_content(net, content));
+    let rig = Value::Text(RIG1);
+    let misfit = row(rig, rig, none, none);
     let text = row(Value::Text(0x5249471f), Value::Int(1), none, none);
-    let content = with_row(cards(), text);
-    try_net(
-        b"a row with a Text out of range",
-        with_content(net, content),
-    );
-    let nowhere = row(none, Value::Text(RIG1), Value::Loc(Locality(8)), none);
-    let content = with_row(logs(), nowhere);
-    try_net(b"a row with locality 8", with_content(net, content));
+    let nowhere = row(none, rig, Value::Loc(Locality(8)), none);
+    try_row(b"a row that does not fit", cards(), misfit);
+    try_row(b"a row with a Text out of range", cards(), text);
+    try_row(b"a row with locality 8", logs(), nowhere);
 }
 
-pub fn aliases(net: Net) {
-    let mut many = all_aliases(net);
-    many.aliascount = 57;
-    try_net(b"57 aliases", many);
-    try_net(b"an alias at site 8", with_alias(net, alias(8, 1, 0)));
-    try_net(b"an alias of locality 0", with_alias(net, alias(1, 0, 0)));
-    try_net(b"an alias of locality 8", with_alias(net, alias(1, 8, 0)));
-    try_net(
-        b"an alias that means site 8",
-        with_alias(net, alias(1, 2, 8)),
-    );
-    try_net(b"an alias twice", with_alias(net, alias(0, 1, 2)));
+// ---- aliases
+
+fn try_alias(name: &[u8], site: u8, locality: u8, means: u8) {
+    try_net(name, with_alias(base(), alias(site, locality, means)));
+}
+
+pub fn aliases() {
+    try_counts(b"57 aliases", all_aliases(base()), 57, 2, 12, 2);
+    try_alias(b"an alias at site 8", 8, 1, 0);
+    try_alias(b"an alias of locality 0", 1, 0, 0);
+    try_alias(b"an alias of locality 8", 1, 8, 0);
+    try_alias(b"an alias that means site 8", 1, 2, 8);
+    try_alias(b"an alias twice", 0, 1, 2);
 }

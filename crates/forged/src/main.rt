@@ -1,6 +1,4 @@
 // Nets that no file gives: one clause of soundness broken in each, and sound ones with loop entries, bindings and whatever lies past the counts.
-use forging::base::base;
-
 mod bad_nodes;
 mod bad_operands;
 mod bad_tables;
@@ -9,25 +7,33 @@ mod sound;
 mod trying;
 
 fn main() {
-    let net = base();
-    sound::entries(net);
-    sound::limits(net);
-    sound::nothing(net);
-    bad_tables::tables(net);
-    bad_tables::contents(net);
-    bad_tables::rows(net);
-    bad_tables::aliases(net);
-    bad_nodes::fields(net);
-    bad_nodes::variables(net);
-    bad_nodes::columns(net);
-    bad_nodes::links(net);
-    bad_operands::places(net);
-    bad_operands::templates(net);
-    bad_operands::tests(net);
-    bad_operands::tuples(net);
-    bad_operands::results(net);
-    bad_threads::bindings(net);
-    bad_threads::relations(net);
-    bad_threads::stacks(net);
-    bad_threads::loops(net);
+    sound::tables();
+    sound::others();
+    sound::loops();
+    sound::lists();
+    sound::rounds();
+    sound::nothing();
+    bad_tables::tables();
+    bad_tables::contents();
+    bad_tables::rows();
+    bad_tables::aliases();
+    bad_nodes::kinds();
+    bad_nodes::fields();
+    bad_nodes::functions();
+    bad_nodes::columns();
+    bad_nodes::nexts();
+    bad_nodes::bodies();
+    bad_operands::places();
+    bad_operands::computed_places();
+    bad_operands::templates();
+    bad_operands::template_ranges();
+    bad_operands::tests();
+    bad_operands::tuples();
+    bad_operands::tuple_ranges();
+    bad_operands::results();
+    bad_threads::bindings();
+    bad_threads::relations();
+    bad_threads::rows();
+    bad_threads::stacks();
+    bad_threads::loops();
 }

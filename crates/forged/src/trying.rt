@@ -1,8 +1,17 @@
 // A net is handed to a step and to writing, and a line printed: the answers, and whether the net and the buffer stayed as they were.
 use files::Written;
+use forging::base::base;
+use forging::base::with_thread;
+use forging::full::eight_entries;
+use forging::programs::nodes;
+use forging::programs::with_node;
 use forging::whole::same_net;
+use nets::Answer;
 use nets::Net;
+use nets::Node;
 use nets::Pick;
+use nets::Stepped;
+use nets::Thread;
 use printing::lines::put_answer;
 use printing::pages::put_byte;
 use printing::pages::put_bytes;
@@ -10,7 +19,7 @@ use printing::pages::put_decimal;
 use printing::pages::write_page;
 use records::writing::write;
 use steps::stepping::step;
-ghost use Prim.Native.Nat.{_≤_};
+ghost use Prim.Native.Nat.{_<_, _≤_};
 
 fn put_same(page: &mut [u8; 4096], at: usize, same: bool) -> usize
     requires { ⌜ at ≤ 4096 ⌝ }
@@ -47,25 +56,118 @@ fn untouched(buffer: &[u8]) -> bool {
     true
 }
 
-pub fn try_pick(name: &[u8], net: Net, thread: u8, row: u8) {
-    let mut page = [0u8; 4096];
-    let mut buffer = [7u8; 1040];
-    let stepped = step(net, Pick { thread, row });
+// The answers, whether the net stayed as it was, and whether the buffer did.
+struct Outcome {
+    answer: Answer,
+    same: bool,
+    written: Written,
+    kept: bool,
+}
+
+// What a step answers, and whether it left the net as it was.
+struct Taken {
+    answer: Answer,
+    same: bool,
+}
+
+// The step alone, without what its contract says.
+fn stepping(net: Net, thread: u8, row: u8) -> Stepped {
+    step(net, Pick { thread, row })
+}
+
+fn take(net: Net, thread: u8, row: u8) -> Taken {
+    let stepped = stepping(net, thread, row);
     let answer = stepped.answer;
     let after = stepped.net;
+    let same = same_net(net, after);
+    Taken { answer, same }
+}
+
+fn run(net: Net, thread: u8, row: u8) -> Outcome {
+    let mut buffer = [7u8; 1040];
+    let taken = take(net, thread, row);
+    let answer = taken.answer;
     let written = write(net, &mut buffer);
+    let kept = untouched(&buffer);
+    Outcome {
+        answer,
+        same: taken.same,
+        written,
+        kept,
+    }
+}
+
+fn put_outcome(page: &mut [u8; 4096], at: usize, outcome: Outcome) -> usize
+    requires { ⌜ at ≤ 4096 ⌝ }
+    ensures { λ r. ⌜ r ≤ 4096 ⌝ }
+{
+    let answer = outcome.answer;
+    let written = outcome.written;
+    let mut end = put_answer(page, at, answer);
+    end = put_same(page, end, outcome.same);
+    end = put_bytes(page, end, b", written ");
+    end = put_written(page, end, written);
+    put_same(page, end, outcome.kept)
+}
+
+fn print(name: &[u8], outcome: Outcome) {
+    let mut page = [0u8; 4096];
     let mut at = put_bytes(&mut page, 0, name);
     at = put_bytes(&mut page, at, b": ");
-    at = put_answer(&mut page, at, answer);
-    at = put_same(&mut page, at, same_net(net, after));
-    at = put_bytes(&mut page, at, b", written ");
-    at = put_written(&mut page, at, written);
-    at = put_same(&mut page, at, untouched(&buffer));
+    at = put_outcome(&mut page, at, outcome);
     at = put_byte(&mut page, at, b'\n');
     write_page(&page, at);
+}
+
+pub fn try_pick(name: &[u8], net: Net, thread: u8, row: u8) {
+    print(name, run(net, thread, row));
 }
 
 // A net that is to be refused whatever the pick.
 pub fn try_net(name: &[u8], net: Net) {
     try_pick(name, net, 0, 0);
+}
+
+// The net with these counts of aliases, tables, nodes and threads.
+pub fn try_counts(
+    name: &[u8],
+    net: Net,
+    aliases: usize,
+    tables: usize,
+    nodes: usize,
+    threads: usize,
+) {
+    let mut next = net;
+    next.aliascount = aliases;
+    next.tablecount = tables;
+    next.nodecount = nodes;
+    next.threadcount = threads;
+    try_net(name, next);
+}
+
+// ---- the base net with one part exchanged
+
+pub fn try_node(name: &[u8], at: usize, node: Node)
+    requires { ⌜ at < 128 ⌝ }
+{
+    try_net(name, with_node(base(), at, node));
+}
+
+pub fn try_thread(name: &[u8], thread: Thread) {
+    try_net(name, with_thread(base(), thread));
+}
+
+// ---- the parts that are exchanged
+
+pub fn node_at(at: usize) -> Node
+    requires { ⌜ at < 128 ⌝ }
+{
+    let nodes = nodes();
+    nodes[at]
+}
+
+// The first thread with eight entries.
+pub fn eight_deep() -> Thread {
+    let full = eight_entries(base());
+    full.threads[0]
 }
