@@ -45,11 +45,11 @@ chain-after net [] (r ∷ rs) c = absurd c
 chain-after net (p ∷ ps) [] c = absurd c
 chain-after net (p ∷ ps) (r ∷ rs) c = chain-after (r .net) ps rs (c .1) ∙ ap (λ (n : M.Net). after n ps) (c .0 .after)
 
-said-added : (o : Outcome) → addedSaid (answerOf o) ≡ addedIn o
+pub said-added : (o : Outcome) → addedSaid (answerOf o) ≡ addedIn o
 said-added (refused n vs) = refl
 said-added (done a t net) = refl
 
-said-taken : (o : Outcome) → takenSaid (answerOf o) ≡ takenIn o
+pub said-taken : (o : Outcome) → takenSaid (answerOf o) ≡ takenIn o
 said-taken (refused n vs) = refl
 said-taken (done a t net) = refl
 

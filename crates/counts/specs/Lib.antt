@@ -1,0 +1,3 @@
+-- The state of a run.
+pub mod Totals
+pub mod States

@@ -1,0 +1,54 @@
+// Sums of counts.
+use crate::Total;
+use nets::Answer;
+ghost use mathlib.Core.Path.{_≡_};
+ghost use Prim.Native.Nat.{_+_, _<_, _≤_, _^_};
+ghost use Rattle.nets.specs.Answers.{saidOf};
+ghost use Rattle.files.specs.EngineDemand3.{addedSaid, takenSaid};
+ghost use Rattle.counts.specs.Totals.{totalOf};
+
+pub fn zero() -> Total
+    ensures { λ r. ⌜ r ≡ record { high = 0; low = 0 } ⌝ }
+{
+    Total { high: 0, low: 0 }
+}
+
+// The low half passes what it has no room for on to the high one.
+pub fn plus(t: Total, n: usize) -> Total
+    requires { ⌜ t .high < 2 ^ 63 ⌝ }
+    ensures { λ r. ⌜ (totalOf r ≡ totalOf t + n) × (r .high ≤ t .high + 1) ⌝ }
+{
+    let more = n as u64;
+    let high = t.high;
+    let low = t.low;
+    let room = 18446744073709551615 - low;
+    if more <= room {
+        return Total {
+            high,
+            low: low + more,
+        };
+    }
+    Total {
+        high: high + 1,
+        low: more - room - 1,
+    }
+}
+
+// A refused pick reports none.
+pub fn added_in(a: Answer) -> usize
+    ensures { λ r. ⌜ r ≡ addedSaid (saidOf a) ⌝ }
+{
+    match a {
+        Answer::Refused(_) => 0,
+        Answer::Done(n, _) => n,
+    }
+}
+
+pub fn taken_in(a: Answer) -> usize
+    ensures { λ r. ⌜ r ≡ takenSaid (saidOf a) ⌝ }
+{
+    match a {
+        Answer::Refused(_) => 0,
+        Answer::Done(_, n) => n,
+    }
+}

@@ -1,0 +1,4 @@
+-- Laws that belong to no one function.
+pub mod ListLaws
+pub mod TurnLaws
+pub mod Lent

@@ -1,0 +1,166 @@
+-- Turns of a run, one after another, are a run. Assumes nothing.
+use Prim.Native.Nat.{ℕ, _+_, _*_, _<_, _≤_, _^_}
+use mathlib.Core.Path.{_≡_, refl, ap, sym, _∙_, subst}
+use mathlib.Core.Bool.{Bool, true, false, not, _&&_}
+use mathlib.Core.List.{List, [], _∷_, _++_}
+use native.Mathlib.Omega.{arith}
+use native.Mathlib.Numerals.{add-one}
+use lib.Dec.{T}
+use lib.ListN.{length, take, getD, length-append}
+use lib.Seq.{take-suc, take-all, length-take-le}
+use Rattle.nets.specs.declared.Pick.{Pick}
+use Rattle.nets.specs.declared.Net.{Net}
+use Rattle.nets.specs.declared.Answer.{Answer}
+use Rattle.nets.specs.declared.Answer.the-variants.{Done, Refused}
+use Rattle.nets.specs.declared.Stepped.{Stepped}
+use Rattle.nets.specs.Nets as M
+use Rattle.nets.specs.Nets.{Outcome, refused, done}
+use Rattle.nets.specs.Sound.{sound}
+use Rattle.nets.specs.Steps.{step}
+use Rattle.nets.specs.Accounts.{netLeft, nextNet, after, answers, addedIn, takenIn, isDone, reportedAdded, reportedTaken}
+use Rattle.nets.specs.View.{view}
+use Rattle.nets.specs.Answers.{answerOf, saidOf, isRefused, StepIs}
+use Rattle.values.proofs.Bools.{is-true}
+use Rattle.nets.proofs.AnswerLaws.{refuses-10}
+use Rattle.files.specs.EngineDemand3.{addedSaid, takenSaid}
+use Rattle.files.proofs.EngineLaws.{said-added, said-taken, demand3-of, verdict-accepts}
+use Rattle.counts.specs.declared.Total.{Total}
+use Rattle.counts.specs.declared.Ran.{Ran}
+use Rattle.counts.specs.Totals.{totalOf}
+use Rattle.runs.specs.Runs.{allRefused, RunIs}
+use Rattle.counts.specs.States.{Begun, Tallied}
+use Rattle.runs.specs.Turns.{Ready, Turned}
+use Rattle.runs.proofs.ListLaws.{after-both, added-both, taken-both, refused-both}
+
+-- ── any number of picks ──
+
+-- no pick leaves all as it is
+pub turned-none : (s : Ran) → s .sound ≡ sound (view (s .net)) → Turned s [] s
+unfolding after answers
+turned-none s e = record {
+  after = refl;
+  added = omega arith;
+  taken = omega arith;
+  kept = λ h. refl;
+  flag = e;
+  addedRoom = omega arith;
+  takenRoom = omega arith;
+}
+
+-- first these, then those
+pub turned-both : (s m r : Ran) (ps qs : List Pick) → Turned s ps m → Turned m qs r → Turned s (ps ++ qs) r
+turned-both s m r ps qs a b = record {
+  after = b .after ∙ ap (λ (n : M.Net). after n qs) (a .after) ∙ sym (after-both (view (s .net)) ps qs);
+  added =
+      let here = added-both (view (s .net)) ps qs in
+      let there = ap (λ (n : M.Net). reportedAdded n qs) (a .after) in
+      omega (arith, a .added, b .added, here, there);
+  taken =
+      let here = taken-both (view (s .net)) ps qs in
+      let there = ap (λ (n : M.Net). reportedTaken n qs) (a .after) in
+      omega (arith, a .taken, b .taken, here, there);
+  kept = λ h.
+      let both = refused-both (view (s .net)) ps qs h in
+      b .kept (subst (λ (n : M.Net). T (allRefused n qs)) (sym (a .after)) (both .1)) ∙ a .kept (both .0);
+  flag = b .flag;
+  addedRoom = let l = length-append ps qs in omega (arith, a .addedRoom, b .addedRoom, l);
+  takenRoom = let l = length-append ps qs in omega (arith, a .takenRoom, b .takenRoom, l);
+}
+
+-- ── the loop over the slice ──
+
+-- i picks are behind
+pub record Going (net : Net) (ys : List Pick) (i : ℕ) (s : Ran) : Type 0 where
+  pub first : Ran
+  pub begun : Begun net first
+  pub upto : i ≤ length ys
+  pub behind : Turned first (take i ys) s
+
+pub going-start : (net : Net) (ys : List Pick) (s : Ran) → Begun net s → Going net ys 0 s
+going-start net ys s b = record {
+  first = s;
+  begun = b;
+  upto = omega arith;
+  behind = turned-none s (b .flag ∙ ap (λ (n : Net). sound (view n)) (sym (b .same)));
+}
+
+pub going-next : (net : Net) (ys : List Pick) (i : ℕ) (s r : Ran) (d : Pick) → i < length ys → Going net ys i s → Turned s (getD ys i d ∷ []) r → Going net ys (i + 1) r
+going-next net ys i s r d l g t = record {
+  first = g .first;
+  begun = g .begun;
+  upto = omega arith;
+  behind = rw (add-one, take-suc ys i d) (turned-both (g .first) s r (take i ys) (getD ys i d ∷ []) (g .behind) t);
+}
+
+-- a list in memory is so short that the sums have room
+pub going-ready : (net : Net) (ys : List Pick) (i : ℕ) (s : Ran) → length ys * 2 < 2 ^ 63 → i < length ys → Going net ys i s → Ready s
+going-ready net ys i s room l g =
+    let n = length-take-le i ys (omega arith) in
+    record {
+      flag = g .behind .flag;
+      added = let z = ap (λ (t : Total). t .high) (g .begun .added) in omega (arith, g .behind .addedRoom, z, n, room, l);
+      taken = let z = ap (λ (t : Total). t .high) (g .begun .taken) in omega (arith, g .behind .takenRoom, z, n, room, l);
+    }
+
+-- from the first state on, all picks of a list
+run-is : (net : Net) (ys : List Pick) (f s : Ran) → Begun net f → Turned f ys s → RunIs net ys s
+run-is net ys f s b t = record {
+  after = after-is;
+  added = added-is;
+  taken = taken-is;
+  kept = λ h. t .kept (subst (λ (n : Net). T (allRefused (view n) ys)) (sym (b .same)) h) ∙ b .same;
+  flag = t .flag;
+  demand3 = λ file l is e same.
+      demand3-of file (verdict-accepts file l is e) (view net) (ap view (sym same) ∙ is .net) ys (view (s .net)) (totalOf (s .added)) (totalOf (s .taken))
+      after-is added-is taken-is;
+}
+  where
+    after-is : view (s .net) ≡ after (view net) ys
+    after-is = t .after ∙ ap (λ (n : Net). after (view n) ys) (b .same)
+
+    added-is : totalOf (s .added) ≡ reportedAdded (view net) ys
+    added-is = let n = ap (λ (n : Net). reportedAdded (view n) ys) (b .same) in let z = ap totalOf (b .added) in omega (arith, t .added, z, n)
+
+    taken-is : totalOf (s .taken) ≡ reportedTaken (view net) ys
+    taken-is = let n = ap (λ (n : Net). reportedTaken (view n) ys) (b .same) in let z = ap totalOf (b .taken) in omega (arith, t .taken, z, n)
+
+pub going-over : (net : Net) (ys : List Pick) (i : ℕ) (s : Ran) → length ys ≤ i → Going net ys i s → RunIs net ys s
+going-over net ys i s l g = run-is net ys (g .first) s (g .begun) (rw (← take-all i ys l) (g .behind))
+
+-- ── one pick ──
+
+-- an unsound net refuses every pick
+pub turned-unsound : (s : Ran) (p : Pick) → Ready s → s .sound ≡ false → Turned s (p ∷ []) s
+unfolding after nextNet answers
+turned-unsound s p h e = record {
+  after = ap (netLeft (view (s .net))) (sym no);
+  added = let n = ap addedIn no in omega (arith, n);
+  taken = let n = ap takenIn no in omega (arith, n);
+  kept = λ k. refl;
+  flag = h .flag;
+  addedRoom = omega arith;
+  takenRoom = omega arith;
+}
+  where
+    no : step (view (s .net)) p ≡ refused 10 []
+    no = refuses-10 (view (s .net)) p (sym (h .flag) ∙ e)
+
+-- an answer that says no more than a refusal is one
+refused-said : (a : Answer) (o : Outcome) → saidOf a ≡ answerOf o → T (not (isDone o) && true) → T (isRefused a)
+refused-said (Refused r) o e h = tt
+refused-said (Done a t) (refused n vs) e h = let z : _≡_ {A = ℕ} 0 1 = cc in absurd (omega arith)
+refused-said (Done a t) (done b u net) e h = absurd h
+
+-- a sound one is stepped, and the counts of the answer are added
+pub turned-sound :
+    (s r : Ran) (p : Pick) (o : Stepped) → s .sound ≡ true → StepIs (s .net) p o → T (sound (view (o .net))) → Tallied s o r → Turned s (p ∷ []) r
+unfolding after nextNet answers
+turned-sound s r p o ready is fine t = record {
+  after = ap view (t .net) ∙ is .after;
+  added = let e = ap addedSaid (is .answer) ∙ said-added (step (view (s .net)) p) in omega (arith, t .added, e);
+  taken = let e = ap takenSaid (is .answer) ∙ said-taken (step (view (s .net)) p) in omega (arith, t .taken, e);
+  kept = λ h. t .net ∙ is .kept (refused-said (o .answer) (step (view (s .net)) p) (is .answer) h);
+  flag = t .flag ∙ ready ∙ sym (is-true (sound (view (o .net))) fine) ∙ ap (λ (m : Net). sound (view m)) (sym (t .net));
+  addedRoom = t .addedRoom;
+  takenRoom = t .takenRoom;
+}

@@ -1,0 +1,3 @@
+-- What a run gives back.
+pub mod Runs
+pub mod Turns

@@ -1,0 +1,3 @@
+// Runs over a list of picks.
+pub mod lending;
+pub mod running;
