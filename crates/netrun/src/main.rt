@@ -5,6 +5,9 @@ use libc::STDIN_FILENO;
 use nets::Net;
 use nets::Pick;
 use nets::Stepped;
+use printing::faults::print_fault;
+use printing::faults::print_long;
+use printing::input::count_rest;
 use printing::lines::put_answer;
 use printing::lines::put_tables;
 use printing::pages::at_most;
@@ -19,48 +22,6 @@ ghost use Prim.Native.Nat.{_≤_};
 ghost use lib.ListN.{take};
 ghost use Rattle.nets.specs.Accounts.{after};
 ghost use Rattle.nets.specs.View.{view};
-
-// ---- reading
-
-// How many bytes are left on standard input. A proved loop has to end, so it counts its turns down from a number that no run uses up.
-fn count_rest(space: &mut [u8; 65536]) -> usize
-    ensures { λ r. ⌜ r ≤ 72057594037927936 ⌝ }
-{
-    let mut total: usize = 0;
-    let mut turns: usize = 1099511627776;
-    while turns > 0 {
-        let n = io::read_full(STDIN_FILENO, space);
-        if n == 0 {
-            return total;
-        }
-        total += n;
-        turns -= 1;
-    }
-    total
-}
-
-// ---- refused files
-
-fn print_fault(number: u8, place: usize) {
-    let mut page = [0u8; 4096];
-    let mut at = put_bytes(&mut page, 0, b"load ");
-    at = put_decimal(&mut page, at, number as u64);
-    at = put_bytes(&mut page, at, b" at ");
-    at = put_decimal(&mut page, at, place as u64);
-    at = put_byte(&mut page, at, b'\n');
-    write_page(&page, at);
-}
-
-// A file with more bytes than loading is handed: checks 1 and 2 on its length alone, as they stand in the definition of loading.
-fn print_long(length: usize) {
-    if length % 104 != 0 {
-        print_fault(1, length / 104);
-    } else {
-        print_fault(2, 256);
-    }
-}
-
-// ---- accepted files
 
 // The line of pick `i`.
 fn put_pick(page: &mut [u8; 4096], at: usize, i: usize, stepped: Stepped) -> usize

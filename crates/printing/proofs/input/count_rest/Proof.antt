@@ -1,8 +1,8 @@
--- `netrun::count_rest` is safe and ends: each turn adds at most a buffer.
+-- `printing::input::count_rest` is safe and ends: each turn adds at most a buffer.
 use Prim.Native.Nat.{_+_, _*_, _≤_}
 use borrow.Author.Needs.{needs}
-use Rattle.netrun.proofs.count_rest.Statement.{statement}
-use Rattle.netrun.proofs.count_rest.Tie as tie
+use Rattle.printing.proofs.input.count_rest.Statement.{statement}
+use Rattle.printing.proofs.input.count_rest.Tie as tie
 
 abbrev Inv-loop : tie.InvT-loop
 Inv-loop space₀ total₀ turns₀ space total turns = (total + turns * 65536 ≤ 72057594037927936)

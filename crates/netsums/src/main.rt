@@ -1,0 +1,76 @@
+// Reads a file of records on standard input, runs its picks as one run, and prints the sums of the counts and then the tables left.
+use counts::Ran;
+use counts::Total;
+use files::Loaded;
+use files::Verdict;
+use libc::STDIN_FILENO;
+use printing::faults::print_fault;
+use printing::faults::print_long;
+use printing::input::count_rest;
+use printing::lines::put_tables;
+use printing::pages::put_byte;
+use printing::pages::put_bytes;
+use printing::pages::put_decimal;
+use printing::pages::write_page;
+use records::loading::load;
+use runs::lending::run_first;
+ghost use Prim.Native.Nat.{_≤_};
+
+// The high half of a sum, where it counts.
+fn put_high(page: &mut [u8; 4096], at: usize, high: u64) -> usize
+    requires { ⌜ at ≤ 4096 ⌝ }
+    ensures { λ r. ⌜ r ≤ 4096 ⌝ }
+{
+    if high == 0 {
+        return at;
+    }
+    let place = put_decimal(page, at, high);
+    put_bytes(page, place, b" * 2^64 + ")
+}
+
+fn put_total(page: &mut [u8; 4096], at: usize, t: Total) -> usize
+    requires { ⌜ at ≤ 4096 ⌝ }
+    ensures { λ r. ⌜ r ≤ 4096 ⌝ }
+{
+    let place = put_high(page, at, t.high);
+    put_decimal(page, place, t.low)
+}
+
+fn print_ran(ran: Ran) {
+    let mut page = [0u8; 4096];
+    let mut at = put_bytes(&mut page, 0, b"run ");
+    let added = ran.added;
+    at = put_total(&mut page, at, added);
+    at = put_byte(&mut page, at, b' ');
+    let taken = ran.taken;
+    at = put_total(&mut page, at, taken);
+    at = put_byte(&mut page, at, b'\n');
+    let net = ran.net;
+    let tables = net.tables;
+    at = put_tables(&mut page, at, tables, net.tablecount);
+    write_page(&page, at);
+}
+
+fn print_loaded(loaded: Loaded) {
+    let verdict = loaded.verdict;
+    match verdict {
+        Verdict::Accepted => {
+            let net = loaded.net;
+            let picks = loaded.picks;
+            print_ran(run_first(net, picks, loaded.pickcount));
+        }
+        Verdict::Fault(number, place) => {
+            print_fault(number, place);
+        }
+    }
+}
+
+fn main() {
+    let mut file = io::large_buffer();
+    let n = io::read_full(STDIN_FILENO, &mut file);
+    if n == 65536 {
+        print_long(n + count_rest(&mut file));
+        return;
+    }
+    print_loaded(load(&file[..n]));
+}

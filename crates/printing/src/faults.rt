@@ -1,0 +1,24 @@
+// The line for a refused file.
+use crate::pages::put_byte;
+use crate::pages::put_bytes;
+use crate::pages::put_decimal;
+use crate::pages::write_page;
+
+pub fn print_fault(number: u8, place: usize) {
+    let mut page = [0u8; 4096];
+    let mut at = put_bytes(&mut page, 0, b"load ");
+    at = put_decimal(&mut page, at, number as u64);
+    at = put_bytes(&mut page, at, b" at ");
+    at = put_decimal(&mut page, at, place as u64);
+    at = put_byte(&mut page, at, b'\n');
+    write_page(&page, at);
+}
+
+// A file with more bytes than loading is handed: checks 1 and 2 on its length alone, as they stand in the definition of loading.
+pub fn print_long(length: usize) {
+    if length % 104 != 0 {
+        print_fault(1, length / 104);
+    } else {
+        print_fault(2, 256);
+    }
+}
