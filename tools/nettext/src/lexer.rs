@@ -86,7 +86,6 @@ impl<'a> Reader<'a> {
         };
         let token = match first {
             '#' => return Ok(None),
-            '-' if self.rest.starts_with("--") => return Ok(None),
             '"' => Token::Text(self.text()?),
             '0'..='9' => Token::Number(self.take_while(|c| c.is_ascii_digit()).to_owned()),
             _ if begins_word(first) => Token::Word(self.take_while(in_word).to_owned()),

@@ -19,7 +19,7 @@ pub const STATEMENTS: [&str; 14] = [
 ];
 
 /// Those of them that begin a step of a process.
-const STEPS: [&str; 8] =
+pub const STEPS: [&str; 8] =
     ["insert", "delete", "select", "update", "aggregate", "create", "drop", "foreach"];
 
 /// Words that go on with a statement; a line that begins with one belongs to the line before.

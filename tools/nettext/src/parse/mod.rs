@@ -11,7 +11,7 @@ use crate::item::{Item, Statement};
 use crate::labels::Labels;
 use crate::lexer::tokens;
 use crate::token::Token;
-use crate::words::{begins_step, STATEMENTS};
+use crate::words::{begins_step, STATEMENTS, STEPS};
 use cursor::Cursor;
 use engine::{Locality, Pick};
 
@@ -65,7 +65,7 @@ impl Parser {
         if self.cursor.at_step() || self.cursor.at_label() {
             return Ok(());
         }
-        Err(self.cursor.unexpected("a step after the label"))
+        Err(self.cursor.unexpected(&format!("a step after the label: {}", STEPS.join(", "))))
     }
 
     fn line_end(&mut self) -> Result<(), Error> {
@@ -86,15 +86,14 @@ impl Parser {
             Some("row") => Cursor::row_of_table,
             Some("start") => Cursor::start,
             Some("pick") => Cursor::pick,
-            _ => return Err(self.cursor.unexpected(&one_of_statements())),
+            _ => {
+                let expected = format!("a statement: {}", STATEMENTS.join(", "));
+                return Err(self.cursor.unexpected(&expected));
+            }
         };
         self.cursor.advance();
         read(&mut self.cursor)
     }
-}
-
-fn one_of_statements() -> String {
-    format!("a statement: {}", STATEMENTS.join(", "))
 }
 
 impl Cursor {
