@@ -3,7 +3,7 @@
 use crate::token::Place;
 use std::iter;
 
-/// More of a line than this is not shown.
+/// Of a line so much is shown at most, up to the place if that is farther right.
 const SHOWN: usize = 120;
 
 #[derive(Clone, PartialEq, Eq, Debug)]
@@ -22,14 +22,11 @@ impl Error {
     pub fn shown(&self, name: &str, text: &str) -> String {
         let Place { line, column } = self.place;
         let source = text.lines().nth(line - 1).unwrap_or_default();
-        let mut shown = format!("{name}:{line}:{column}: {}\n", self.message);
-        if column <= SHOWN {
-            let visible: String = source.chars().take(SHOWN).map(visible).collect();
-            let below: String =
-                source.chars().chain(iter::repeat(' ')).take(column - 1).map(blank).collect();
-            shown += &format!("    {visible}\n    {below}^\n");
-        }
-        shown
+        let left_out = column.saturating_sub(SHOWN);
+        let part: String = source.chars().skip(left_out).take(SHOWN).map(visible).collect();
+        let before = part.chars().chain(iter::repeat(' ')).take(column - 1 - left_out);
+        let below: String = before.map(blank).collect();
+        format!("{name}:{line}:{column}: {}\n    {part}\n    {below}^\n", self.message)
     }
 }
 

@@ -50,6 +50,17 @@ fn characters_that_would_upset_a_terminal_are_not_shown() {
 }
 
 #[test]
+fn of_a_long_line_the_part_before_the_caret_is_shown() {
+    let text = format!("{}pick thread x", " ".repeat(300));
+    let error = assemble(&text).err().expect("no thread place");
+    let shown = error.shown("net", &text);
+    let lines: Vec<&str> = shown.lines().collect();
+    assert!(lines[0].starts_with("net:1:313: found \"x\""), "{shown}");
+    assert!(lines[1].len() == 124 && lines[1].ends_with("pick thread x"), "{shown}");
+    assert!(lines[2].len() == 124 && lines[2].ends_with(" ^"), "{shown}");
+}
+
+#[test]
 fn statements() {
     fails("tabel CARD at site 1 (Int)", &format!("1:1: found \"tabel\", expected {STATEMENTS}"));
     fails("\n  7", &format!("2:3: found \"7\", expected {STATEMENTS}"));
