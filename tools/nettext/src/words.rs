@@ -68,3 +68,30 @@ pub fn is_word(word: &str) -> bool {
 pub fn in_word(character: char) -> bool {
     character.is_ascii_alphanumeric() || character == '_'
 }
+
+#[cfg(test)]
+mod tests {
+    use super::*;
+    use std::collections::BTreeSet;
+
+    /// The words in quotes of the grammar on the page.
+    fn words_of_grammar() -> BTreeSet<&'static str> {
+        let page = include_str!("../../../docs/TEXT.md");
+        let grammar = page.split("```ebnf").nth(1).and_then(|rest| rest.split("```").next());
+        let quoted = grammar.expect("the grammar").split('"').skip(1).step_by(2);
+        quoted.filter(|word| is_word(word) && word.len() > 1).collect()
+    }
+
+    #[test]
+    fn the_grammar_on_the_page_has_these_words() {
+        let known = STATEMENTS.into_iter().chain(GOING_ON).chain(OTHERS).collect();
+        assert_eq!(words_of_grammar(), known);
+        assert!(STEPS.iter().all(|step| STATEMENTS.contains(step)));
+    }
+
+    #[test]
+    fn the_page_lists_the_words_that_go_on() {
+        let page = include_str!("../../../docs/TEXT.md");
+        assert!(page.contains(&format!("`{}`", GOING_ON.join(" "))));
+    }
+}

@@ -93,17 +93,13 @@ process n0:          # a comment
         from CARD @1
 
         matching (!x0, !x1)
-        where x0
-            = 3
+        where x0 = 3
         into T0
+        then end     # a last one
 ";
-    let expected = "0: found the end of the line, expected a sign";
-    let error = assemble(text).err().expect("a sign begins no line").message;
-    assert_eq!(error, format!("{}{}", &expected[3..], " =, !=, <, <=, > or >="));
     let step = "select (x0, x1) from CARD @1 matching (!x0, !x1) where x0 = 3 into T0";
-    let joined = text.replace("x0\n            =", "x0 =");
-    assert_eq!(plain(&joined), format!("process n0:\n    {step}\n"));
-    assert_eq!(plain(&joined.replace('\n', "\r\n")), format!("process n0:\n    {step}\n"));
+    assert_eq!(plain(text), format!("process n0:\n    {step}\n"));
+    assert_eq!(plain(&text.replace('\n', "\r\n")), plain(text));
 }
 
 #[test]
