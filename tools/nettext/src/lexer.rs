@@ -1,7 +1,7 @@
 //! From characters to tokens.
 
 use crate::error::Error;
-use crate::token::{Place, Placed, Token};
+use crate::token::{quoted_character, Place, Placed, Token};
 use crate::words::{begins_word, goes_on, in_word};
 use engine::Text;
 
@@ -12,22 +12,24 @@ const SIGNS: [&str; 18] =
 const TEXT_LENGTH: usize = 4;
 
 /// The tokens of a text. A `LineEnd` is left only where a statement ends.
-pub fn tokens(text: &str) -> Result<Vec<Placed>, Error> {
+pub fn tokens(text: &str) -> Vec<Placed> {
     let mut all = Vec::new();
+    // Where the last token ended, before any comment.
+    let mut end = Place { line: 1, column: 1 };
     for (number, line) in text.lines().enumerate() {
         let mut reader = Reader { line: number + 1, column: 1, rest: line };
-        // A line ends after its last token, before any comment.
-        let mut end = reader.place();
-        while let Some(placed) = reader.token()? {
+        let before = all.len();
+        while let Some(placed) = reader.token() {
             all.push(placed);
             end = reader.place();
         }
-        all.push(Placed { token: Token::LineEnd, place: end });
+        if all.len() > before {
+            all.push(Placed { token: Token::LineEnd, place: end });
+        }
     }
     let mut joined = joined(all);
-    let place = joined.last().map_or(Place { line: 1, column: 1 }, |last| last.place);
-    joined.push(Placed { token: Token::TextEnd, place });
-    Ok(joined)
+    joined.push(Placed { token: Token::TextEnd, place: end });
+    joined
 }
 
 /// Takes out the line ends inside parentheses and before a word that goes on.
@@ -38,20 +40,15 @@ fn joined(all: Vec<Placed>) -> Vec<Placed> {
         match &placed.token {
             Token::Sign("(") => open += 1,
             Token::Sign(")") => open = open.saturating_sub(1),
-            Token::LineEnd if open > 0 || ends_with_line(&kept) => continue,
-            Token::Word(word) if goes_on(word) && ends_with_line(&kept) => {
-                kept.pop();
+            Token::LineEnd if open > 0 => continue,
+            Token::Word(word) if goes_on(word) => {
+                kept.pop_if(|last| last.token == Token::LineEnd);
             }
             _ => {}
         }
         kept.push(placed);
     }
     kept
-}
-
-/// Nothing counts as a line that has ended: blank lines give no `LineEnd`.
-fn ends_with_line(kept: &[Placed]) -> bool {
-    kept.last().is_none_or(|last| last.token == Token::LineEnd)
 }
 
 /// The part of a line that is still to read.
@@ -78,20 +75,19 @@ impl<'a> Reader<'a> {
         self.take(length.unwrap_or(self.rest.len()))
     }
 
-    fn token(&mut self) -> Result<Option<Placed>, Error> {
+    /// None at the end of the line or at a comment.
+    fn token(&mut self) -> Option<Placed> {
         self.take_while(char::is_whitespace);
         let place = self.place();
-        let Some(first) = self.rest.chars().next() else {
-            return Ok(None);
-        };
+        let first = self.rest.chars().next()?;
         let token = match first {
-            '#' => return Ok(None),
-            '"' => Token::Text(self.text()?),
+            '#' => return None,
+            '"' => self.text().map_or_else(Token::Broken, Token::Text),
             '0'..='9' => Token::Number(self.take_while(|c| c.is_ascii_digit()).to_owned()),
             _ if begins_word(first) => Token::Word(self.take_while(in_word).to_owned()),
             _ => self.sign(first),
         };
-        Ok(Some(Placed { token, place }))
+        Some(Placed { token, place })
     }
 
     fn sign(&mut self, first: char) -> Token {
@@ -136,7 +132,7 @@ impl<'a> Reader<'a> {
                 Ok(Some(character as u8))
             }
             (Some(character), _) => {
-                let found = format!("\"{}\" in a text", character.escape_debug());
+                let found = format!("{} in a text", quoted_character(character));
                 Err(Error::unexpected(place, &found, "a character from blank to ~"))
             }
         }

@@ -1,5 +1,6 @@
 //! What a text consists of: words, numbers, texts in quotes and signs, each with its place.
 
+use crate::error::Error;
 use engine::Text;
 
 /// Line and column of a character, both from 1.
@@ -18,6 +19,8 @@ pub enum Token {
     Sign(&'static str),
     /// A character that begins no token.
     Stranger(char),
+    /// A text in quotes that is none, and why.
+    Broken(Error),
     LineEnd,
     TextEnd,
 }
@@ -36,10 +39,19 @@ impl Token {
             Token::Number(digits) => format!("\"{digits}\""),
             Token::Text(text) => format!("the text {}", quoted(*text)),
             Token::Sign(sign) => format!("\"{sign}\""),
-            Token::Stranger(stranger) => format!("\"{}\"", stranger.escape_debug()),
+            Token::Stranger(stranger) => quoted_character(*stranger),
+            Token::Broken(_) => "a broken text".to_owned(),
             Token::LineEnd => "the end of the line".to_owned(),
             Token::TextEnd => "the end of the text".to_owned(),
         }
+    }
+}
+
+/// A character as an error names it; one that can't be seen by its number.
+pub fn quoted_character(character: char) -> String {
+    match character {
+        '\'' => "\"'\"".to_owned(),
+        _ => format!("\"{}\"", character.escape_debug()),
     }
 }
 

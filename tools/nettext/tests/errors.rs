@@ -118,11 +118,12 @@ fn tables_and_columns() {
 #[test]
 fn rows() {
     fails("row 1 in CARD at site 0", &format!("1:5: found \"1\", expected {TUPLE}"));
-    let value = "a value: an Int, a text or a locality";
+    let value = "a value such as 40, \"RIG1\" or @1";
     fails("row (x0) in CARD at site 0", &format!("1:6: found \"x0\", expected {value}"));
     fails("row (!x0) in CARD at site 0", &format!("1:6: found \"!\", expected {value}"));
     fails("row (1,) in CARD at site 0", &format!("1:8: found \")\", expected {value}"));
     fails("row () in CARD at site 0", &format!("1:6: found \")\", expected {value}"));
+    fails("row (1  # and on", "1:7: found the end of the text, expected \",\" or \")\"");
     fails("row (1) at site 0", "1:9: found \"at\", expected \"in\"");
     fails("row (@8) in CARD at site 0", "1:7: found \"8\", expected a locality 0..7 or self");
     fails("row (1, 2, 3, 4, 5) in CARD at site 0", "1:16: found \",\", expected \")\" after four");
@@ -159,7 +160,18 @@ fn texts() {
     fails("row (\"a\\n\")", "1:8: found \"\\\", expected \\\" or \\\\");
     fails("row (\"é\")", "1:7: found \"é\" in a text, expected a character from blank to ~");
     fails("row (\"\t\")", "1:7: found \"\\t\" in a text, expected a character from blank to ~");
-    fails("row (“RIG1”)", "1:6: found \"“\", expected a value: an Int, a text or a locality");
+    fails("row ('RIG1')", "1:6: found \"'\", expected a value such as 40, \"RIG1\" or @1");
+    fails("row (“RIG1”)", "1:6: found \"“\", expected a value such as 40, \"RIG1\" or @1");
+}
+
+/// A broken text further down waits its turn.
+#[test]
+fn the_first_error_is_told() {
+    fails(
+        "row ()\nrow (\"RIG10\")",
+        "1:6: found \")\", expected a value such as 40, \"RIG1\" or @1",
+    );
+    fails("pick thread 0 \"RIG10\"", "1:15: found a text of 5 characters, expected at most four");
 }
 
 #[test]

@@ -27,9 +27,12 @@ impl Cursor {
         self.at = (self.at + 1).min(self.tokens.len() - 1);
     }
 
-    /// The error that the next token is not what could stand here.
+    /// The error that the next token is not what could stand here. A broken text has its own.
     pub fn unexpected(&self, expected: &str) -> Error {
-        Error::unexpected(self.place(), &self.peek().described(), expected)
+        match self.peek() {
+            Token::Broken(error) => error.clone(),
+            token => Error::unexpected(self.place(), &token.described(), expected),
+        }
     }
 
     /// The next token if it is a word.

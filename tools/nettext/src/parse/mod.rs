@@ -4,6 +4,7 @@ mod cursor;
 mod names;
 mod numbers;
 mod operands;
+mod predicate;
 mod steps;
 
 use crate::error::Error;
@@ -18,7 +19,7 @@ use engine::{Locality, Pick};
 /// The statements of a text, and what its labels name.
 pub fn parse(text: &str) -> Result<(Vec<Statement>, Labels), Error> {
     let mut parser = Parser {
-        cursor: Cursor::new(tokens(text)?),
+        cursor: Cursor::new(tokens(text)),
         labels: Labels::default(),
         statements: Vec::new(),
         in_process: false,

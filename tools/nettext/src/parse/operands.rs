@@ -1,10 +1,10 @@
-//! Operands, and the tuples, templates, rows and predicates made of them.
+//! Operands, and the tuples, templates and rows made of them.
 
 use super::cursor::Cursor;
 use crate::error::Error;
 use crate::token::{Place, Token};
 use crate::words::numbered;
-use engine::{Filter, Operand, Operands, Predicate, Row, Test, Value};
+use engine::{Operand, Operands, Row, Value};
 
 const LENGTH: usize = 4;
 
@@ -21,7 +21,7 @@ const VALUES: Allowed = Allowed {
     variables: false,
     sums: false,
     formals: false,
-    expected: "a value: an Int, a text or a locality",
+    expected: "a value such as 40, \"RIG1\" or @1",
 };
 const SELECTED: Allowed =
     Allowed { variables: true, expected: "a value or a variable, no sum and no formal", ..VALUES };
@@ -123,42 +123,6 @@ impl Cursor {
         }
         self.advance();
         Ok(Operand::Plus(variable, self.int(negated)?))
-    }
-
-    /// The rest of a filter, whose template was read before.
-    pub fn filter(&mut self, template: Operands) -> Result<Filter, Error> {
-        let predicate = match self.passes_word("where") {
-            true => self.predicate()?,
-            false => None,
-        };
-        Ok(Filter { template, predicate })
-    }
-
-    /// `true` is the predicate that holds of every row.
-    fn predicate(&mut self) -> Result<Option<Predicate>, Error> {
-        if self.passes_word("true") {
-            return Ok(None);
-        }
-        let left = self.operand(TUPLE)?;
-        let (test, turned) = self.test()?;
-        let right = self.operand(TUPLE)?;
-        let (left, right) = if turned { (right, left) } else { (left, right) };
-        Ok(Some(Predicate { test, left, right }))
-    }
-
-    /// A sign, and whether its sides are turned round: a > b is stored as b < a.
-    fn test(&mut self) -> Result<(Test, bool), Error> {
-        let test = match self.peek() {
-            Token::Sign("=" | "==") => (Test::Equal, false),
-            Token::Sign("!=" | "≠") => (Test::Unequal, false),
-            Token::Sign("<") => (Test::Less, false),
-            Token::Sign("<=" | "≤") => (Test::AtMost, false),
-            Token::Sign(">") => (Test::Less, true),
-            Token::Sign(">=" | "≥") => (Test::AtMost, true),
-            _ => return Err(self.unexpected("a sign =, !=, <, <=, > or >=")),
-        };
-        self.advance();
-        Ok(test)
     }
 }
 

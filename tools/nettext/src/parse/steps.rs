@@ -7,7 +7,6 @@ use crate::item::{Next, Step, Target};
 use engine::{Act, Columns, Filter, Function, Kind, Loop};
 
 impl Cursor {
-    /// A step whose first word is one of those that begin steps.
     pub fn step(&mut self) -> Result<Step, Error> {
         let (act, body) = match self.passes_word("foreach") {
             true => self.foreach()?,
@@ -24,7 +23,8 @@ impl Cursor {
             Some("update") => Cursor::update,
             Some("aggregate") => Cursor::aggregate,
             Some("create") => Cursor::create,
-            _ => Cursor::drop_table,
+            Some("drop") => Cursor::drop_table,
+            _ => return Err(self.unexpected("a step")),
         };
         self.advance();
         read(self)
