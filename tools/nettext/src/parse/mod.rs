@@ -77,7 +77,7 @@ impl Parser {
     }
 
     fn item(&mut self) -> Result<Item, Error> {
-        if self.cursor.at_step() && !self.in_process {
+        if !self.in_process && (self.cursor.at_step() || self.cursor.at_label()) {
             return Err(self.cursor.unexpected("\"process\" and a label before the first step"));
         }
         let read = match self.cursor.peek_word() {

@@ -1,64 +1,12 @@
-//! Errors in the text: where they are, what was found and what was expected.
+//! Statements of each kind, their numbers, texts and labels.
 
+use crate::{fails, step_fails, TUPLE};
 use nettext::assemble;
-
-/// The text's error is this line.
-fn fails(text: &str, line: &str) {
-    let error = assemble(text).err().unwrap_or_else(|| panic!("no error in {text}"));
-    let shown = error.shown("net", text);
-    assert_eq!(shown.lines().next(), Some(format!("net:{line}").as_str()), "{text}");
-}
-
-/// The step's error is this line; the step is in line 2, from column 1.
-fn step_fails(step: &str, line: &str) {
-    fails(&format!("process p:\n{step}\nstart p at site 0\n"), &format!("2:{line}"));
-}
 
 const STATEMENTS: &str = "a statement: alias, table, row, process, insert, delete, select, \
                           update, aggregate, create, drop, foreach, start, pick";
 const STEP: &str = "a step after the label: \
                     insert, delete, select, update, aggregate, create, drop, foreach";
-const TUPLE: &str = "a tuple \"(..)\"";
-const TEMPLATE: &str = "a template \"(..)\"";
-
-#[test]
-fn the_line_is_shown_with_a_caret() {
-    let text = "process p:\n\tinsert into CARD @1\n";
-    let error = assemble(text).err().expect("no tuple");
-    let shown = "card.nettext:2:9: found \"into\", expected a tuple \"(..)\"
-    \tinsert into CARD @1
-    \t       ^
-";
-    assert_eq!(error.shown("card.nettext", text), shown);
-}
-
-#[test]
-fn columns_count_characters() {
-    step_fails(
-        "delete (!x0) from CARD @1 where x0 ≠ ≠ into T0",
-        "38: found \"≠\", expected a value, a variable or a sum, no formal",
-    );
-}
-
-#[test]
-fn characters_that_would_upset_a_terminal_are_not_shown() {
-    let text = "\u{1b}[2J";
-    let error = assemble(text).err().expect("no statement");
-    let shown = error.shown("net", text);
-    assert!(shown.starts_with("net:1:1: found \"\\u{1b}\", expected a statement"), "{shown}");
-    assert!(!shown.contains('\u{1b}'), "{shown}");
-}
-
-#[test]
-fn of_a_long_line_the_part_before_the_caret_is_shown() {
-    let text = format!("{}pick thread x", " ".repeat(300));
-    let error = assemble(&text).err().expect("no thread place");
-    let shown = error.shown("net", &text);
-    let lines: Vec<&str> = shown.lines().collect();
-    assert!(lines[0].starts_with("net:1:313: found \"x\""), "{shown}");
-    assert!(lines[1].len() == 124 && lines[1].ends_with("pick thread x"), "{shown}");
-    assert!(lines[2].len() == 124 && lines[2].ends_with(" ^"), "{shown}");
-}
 
 #[test]
 fn statements() {
@@ -164,16 +112,6 @@ fn texts() {
     fails("row (“RIG1”)", "1:6: found \"“\", expected a value such as 40, \"RIG1\" or @1");
 }
 
-/// A broken text further down waits its turn.
-#[test]
-fn the_first_error_is_told() {
-    fails(
-        "row ()\nrow (\"RIG10\")",
-        "1:6: found \")\", expected a value such as 40, \"RIG1\" or @1",
-    );
-    fails("pick thread 0 \"RIG10\"", "1:15: found a text of 5 characters, expected at most four");
-}
-
 #[test]
 fn processes_and_labels() {
     fails(
@@ -183,6 +121,10 @@ fn processes_and_labels() {
     fails(
         "process p:\ndrop CARD @1\nstart p at site 0\ndrop CARD @1",
         "4:1: found \"drop\", expected \"process\" and a label before the first step",
+    );
+    fails(
+        "p: drop CARD @1",
+        "1:1: found \"p\", expected \"process\" and a label before the first step",
     );
     fails("process:\ndrop CARD @1", "1:8: found \":\", expected a label");
     fails("process end:\ndrop CARD @1", "1:9: found \"end\", expected a label");
@@ -214,146 +156,6 @@ fn targets() {
     fails("start q at site 0", "1:7: found \"q\", expected a label of this text");
     fails("start end at site 0", "1:7: found \"end\", expected a label or \"node\"");
     fails("start site 0", "1:7: found \"site\", expected a label or \"node\"");
-}
-
-#[test]
-fn inserts() {
-    step_fails("insert into CARD @1", &format!("8: found \"into\", expected {TUPLE}"));
-    step_fails("insert (1) CARD @1", "12: found \"CARD\", expected \"into\"");
-    step_fails(
-        "insert (1) into CARD",
-        "21: found the end of the line, expected a locality such as @1",
-    );
-    step_fails("insert (1) into CARD 1", "22: found \"1\", expected a locality such as @1");
-    step_fails(
-        "insert (1) into CARD @8",
-        "23: found \"8\", expected a locality 0..7, self or a variable",
-    );
-    step_fails("insert (1) into CARD @x16", "23: found \"x16\", expected a variable x0..x15");
-    step_fails(
-        "insert (!x0) into CARD @1",
-        "9: found \"!\", expected a value, a variable or a sum, no formal",
-    );
-    step_fails("insert (x16) into CARD @1", "9: found \"x16\", expected a variable x0..x15");
-    step_fails("insert (@x1) into CARD @1", "10: found \"x1\", expected a locality 0..7 or self");
-    step_fails(
-        "insert table T2 into CARD @1",
-        "14: found \"T2\", expected a table variable T0 or T1",
-    );
-    step_fails(
-        "insert table CARD into CARD @1",
-        "14: found \"CARD\", expected a table variable T0 or T1",
-    );
-    step_fails(
-        "insert (1) into T1 @1",
-        "17: found \"T1\", expected a table's name; \"T1\" must stand in quotes",
-    );
-}
-
-#[test]
-fn deletes_and_updates() {
-    step_fails("delete from CARD @1 into T0", &format!("8: found \"from\", expected {TEMPLATE}"));
-    step_fails("delete (!x0) in CARD @1 into T0", "14: found \"in\", expected \"from\"");
-    step_fails("delete (!x0) from CARD @1", "26: found the end of the line, expected \"into\"");
-    step_fails(
-        "delete (!x0, 1, !x0) from CARD @1 into T0",
-        "17: found \"!x0\" again, expected another formal",
-    );
-    step_fails("delete (!3) from CARD @1 into T0", "10: found \"3\", expected a variable x0..x15");
-    step_fails(
-        "delete (y) from CARD @1 into T0",
-        "9: found \"y\", expected a value, a variable, a sum or a formal",
-    );
-    step_fails("update (!x0) in CARD @1 (x0)", "25: found \"(\", expected \"to\"");
-    step_fails(
-        "update (!x0) in CARD @1 to (!x0)",
-        "29: found \"!\", expected a value, a variable or a sum, no formal",
-    );
-}
-
-#[test]
-fn selects() {
-    step_fails("select (x0) matching (!x0) into T0", "13: found \"matching\", expected \"from\"");
-    step_fails(
-        "select (x0 + 1) from CARD @1 matching (!x0) into T0",
-        "12: found \"+\", expected \",\" or \")\": a select stores no sums",
-    );
-    step_fails(
-        "select (!x0) from CARD @1 matching (!x0) into T0",
-        "9: found \"!\", expected a value or a variable, no sum and no formal",
-    );
-    step_fails("select (x0) from CARD @1 into T0", "26: found \"into\", expected \"matching\"");
-    step_fails(
-        "select (x0) from T0 @1 matching (!x0) into T0",
-        "21: found \"@\", expected \"matching\"",
-    );
-    step_fails(
-        "select (x0) from T2 matching (!x0) into T0",
-        "18: found \"T2\", expected a table variable T0 or T1",
-    );
-    step_fails(
-        "select (x0) from T0 matching (!x0) into CARD",
-        "41: found \"CARD\", expected a table variable T0 or T1",
-    );
-}
-
-#[test]
-fn predicates() {
-    let delete = |predicate: &str| format!("delete (!x0) from CARD @1 where {predicate} into T0");
-    step_fails(&delete(""), "34: found \"into\", expected a value, a variable or a sum, no formal");
-    step_fails(&delete("x0"), "36: found \"into\", expected a sign =, !=, <, <=, > or >=");
-    step_fails(
-        &delete("x0 <"),
-        "38: found \"into\", expected a value, a variable or a sum, no formal",
-    );
-    step_fails(
-        &delete("!x0 < 3"),
-        "33: found \"!\", expected a value, a variable or a sum, no formal",
-    );
-    step_fails(&delete("x0 < 3 < 4"), "40: found \"<\", expected \"into\"");
-}
-
-#[test]
-fn aggregates_creates_and_drops() {
-    step_fails(
-        "aggregate (!x0) in CARD @1 giving !x1",
-        "11: found \"(\", expected count, sum, least or largest",
-    );
-    step_fails(
-        "aggregate sum over (!x0) in CARD @1 giving !x1",
-        "15: found \"over\", expected \"of\"",
-    );
-    step_fails(
-        "aggregate sum of column 4 over (!x0) in CARD @1 giving !x1",
-        "25: found \"4\", expected a column 0..3",
-    );
-    step_fails(
-        "aggregate count of column 0 over (!x0) in CARD @1 giving !x1",
-        "17: found \"of\", expected \"over\"",
-    );
-    step_fails(
-        "aggregate count over (!x0) in CARD @1",
-        "38: found the end of the line, expected \"giving\"",
-    );
-    step_fails(
-        "aggregate count over (!x0) in CARD @1 giving (!x1)",
-        "46: found \"(\", expected a value, a variable, a sum or a formal",
-    );
-    step_fails("create CARD (Int) @1", "13: found \"(\", expected a locality such as @1");
-    step_fails("create CARD @1", "15: found the end of the line, expected column kinds \"(..)\"");
-    step_fails("drop", "5: found the end of the line, expected a table's name");
-}
-
-#[test]
-fn loops() {
-    step_fails("foreach T0 do p", &format!("9: found \"T0\", expected {TEMPLATE}"));
-    step_fails("foreach parallel T0 do p", &format!("18: found \"T0\", expected {TEMPLATE}"));
-    step_fails(
-        "foreach (!x0) in CARD do p",
-        "18: found \"CARD\", expected a table variable T0 or T1",
-    );
-    step_fails("foreach (!x0) in T0", "20: found the end of the line, expected \"do\"");
-    step_fails("foreach (!x0) in T0 where x0 < 1 do p", "21: found \"where\", expected \"do\"");
 }
 
 #[test]
