@@ -13,7 +13,7 @@ use step::step;
 pub fn dump(file: &[u8]) -> Result<String, Fault> {
     load(file)?;
     let records: Vec<Record> = file.as_chunks().0.iter().filter_map(decode).collect();
-    let mut printer = Printer { targets: targets(&records), below: None, node: 0 };
+    let mut printer = Printer { targets: targets(&records), next: None, node: 0 };
     let mut text = String::new();
     for (place, record) in records.iter().enumerate() {
         let before = place.checked_sub(1).map(|place| &records[place]);
@@ -54,8 +54,8 @@ fn body(node: &Node) -> Option<usize> {
 
 struct Printer {
     targets: BTreeSet<usize>,
-    /// Where the node before goes on; a process begins where that is not the next node.
-    below: Option<usize>,
+    /// The next of the node before; a process begins where that is another node than this.
+    next: Option<usize>,
     node: usize,
 }
 
@@ -83,8 +83,8 @@ impl Printer {
         let mut text = self.heading(number);
         text += &format!("    {}", step(&node.act));
         self.node += 1;
-        self.below = node.next.map(usize::from);
-        match self.below {
+        self.next = node.next.map(usize::from);
+        match self.next {
             Some(next) if next != self.node => text += &format!(" then n{next}"),
             _ => {}
         }
@@ -93,7 +93,7 @@ impl Printer {
     }
 
     fn heading(&self, number: usize) -> String {
-        if self.below == Some(number) {
+        if self.next == Some(number) {
             let is_target = self.targets.contains(&number);
             return if is_target { format!("n{number}:\n") } else { String::new() };
         }
