@@ -28,7 +28,7 @@ pub use net::{
 };
 pub use operand::{Operand, Operands};
 pub use print::netrun;
-pub use record::SIZE as RECORD_SIZE;
+pub use record::{decode, Record, SIZE as RECORD_SIZE};
 pub use relation::{Columns, Relation, Row};
 pub use sound::sound;
 pub use step::{run, step, step_sound, Answer, Done};

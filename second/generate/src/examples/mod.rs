@@ -14,12 +14,13 @@ pub struct Example {
 }
 
 /// The few that stand in the repository's `examples`: the name there, and the example's own.
-const SHOWN: [(&str, &str); 13] = [
+const SHOWN: [(&str, &str); 14] = [
     ("printed-run", "k-printed-run"),
     ("insert", "16-insert"),
     ("insert-table", "17-insert-table"),
     ("delete", "18-delete"),
     ("select", "19-select-constants"),
+    ("select-variable", "20-select-variable"),
     ("update", "21-update-of-what-fits"),
     ("aggregates", "22-aggregates"),
     ("create", "23-create"),

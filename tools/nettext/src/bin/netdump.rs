@@ -1,0 +1,33 @@
+//! netdump: writes the text of a file of records.
+
+use nettext::cli::{self, Input, Program};
+use nettext::{dump, refusal};
+use std::process::ExitCode;
+
+const HELP: &str = "\
+netdump writes the records of a Klaim-DB net as text, which netasm assembles to the same bytes.
+
+usage: netdump [FILE] [-o FILE]
+
+Reads the records from FILE, or from standard input, and writes the text to standard output.
+Where loading refuses the file, it says the number and the record's place, and writes nothing.
+
+  -o FILE      write to FILE
+  --help       show this
+
+Example: netdump examples/update.net
+
+Exit status: 0 when written, 1 when loading refuses the file, 2 when an option is wrong or a
+file can't be read or written. The grammar is in docs/TEXT.md.
+";
+
+fn main() -> ExitCode {
+    cli::run(&Program { name: "netdump", help: HELP, flags: &[], work })
+}
+
+fn work(input: &Input) -> Result<Vec<u8>, String> {
+    match dump(&input.bytes) {
+        Ok(text) => Ok(text.into_bytes()),
+        Err(fault) => Err(format!("{}: {}\n", input.name, refusal(fault))),
+    }
+}
