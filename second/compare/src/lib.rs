@@ -4,3 +4,4 @@
 pub mod cases;
 pub mod program;
 pub mod report;
+pub mod summed;

@@ -3,6 +3,7 @@
 use compare::cases::{generated, stored, Case};
 use compare::program::text_of;
 use compare::report::{compare, Report};
+use compare::summed::summed;
 use generate::{sweep, Class};
 use std::ffi::OsString;
 use std::path::PathBuf;
@@ -11,7 +12,7 @@ use std::{env, io};
 
 const HELP: &str = "\
 usage: compare [PROGRAM] [--from SEED] [--count N] [--class CLASS] [--sweep TURNS]
-               [--examples DIR] [--jobs N] [--show N]
+               [--examples DIR] [--jobs N] [--show N] [--sums]
 
 Runs PROGRAM once for each file, with the file on standard input, and compares what it
 prints with the second engine's text. Ends with status 1 where anything differs.
@@ -23,6 +24,7 @@ prints with the second engine's text. Ends with status 1 where anything differs.
   --examples DIR   also hold the second engine, and PROGRAM if given, to DIR's NAME.net and NAME.out
   --jobs N         how many processes at a time (2)
   --show N         how many differences to print (5)
+  --sums           PROGRAM runs all picks as one run: hold it to the sums of the counts and the tables
 ";
 
 struct Options {
@@ -34,6 +36,7 @@ struct Options {
     examples: Option<PathBuf>,
     jobs: usize,
     show: usize,
+    sums: bool,
 }
 
 fn main() -> ExitCode {
@@ -65,6 +68,7 @@ fn options(mut arguments: impl Iterator<Item = OsString>) -> Option<Options> {
         examples: None,
         jobs: 2,
         show: 5,
+        sums: false,
     };
     while let Some(argument) = arguments.next() {
         let mut number = || arguments.next()?.to_str()?.parse::<u64>().ok();
@@ -74,6 +78,7 @@ fn options(mut arguments: impl Iterator<Item = OsString>) -> Option<Options> {
             Some("--sweep") => options.sweep = number()?,
             Some("--jobs") => options.jobs = number()?.max(1) as usize,
             Some("--show") => options.show = number()? as usize,
+            Some("--sums") => options.sums = true,
             Some("--class") => options.class = arguments.next()?.into_string().ok()?,
             Some("--examples") => options.examples = Some(arguments.next()?.into()),
             Some(unknown) if unknown.starts_with("--") => return None,
@@ -88,21 +93,33 @@ fn options(mut arguments: impl Iterator<Item = OsString>) -> Option<Options> {
 fn reports(options: &Options) -> io::Result<Vec<Report>> {
     let mut reports = Vec::new();
     if let Some(directory) = &options.examples {
-        let examples = stored(directory)?;
+        let mut examples = stored(directory)?;
         reports.push(compare_stored(&examples, options, |file| Ok(engine::netrun(file))));
         if let Some(program) = &options.program {
+            examples.iter_mut().for_each(|example| expect(example, options));
             reports.push(compare_stored(&examples, options, |file| text_of(program, file)));
         }
     }
     if let Some(program) = &options.program {
         let run = |class: &str, from: u64, count: u64| {
-            let case = |place| generated(class, from + place).expect("a class that was looked up");
+            let case = |place| {
+                let mut case = generated(class, from + place).expect("a class that was looked up");
+                expect(&mut case, options);
+                case
+            };
             compare(count, options.jobs, case, |file| text_of(program, file))
         };
         reports.push(run("sweep", 0, options.sweep * sweep::round() as u64));
         reports.push(run(&options.class, options.from, options.count));
     }
     Ok(reports)
+}
+
+/// The text expected of PROGRAM, where that is not netrun's.
+fn expect(case: &mut Case, options: &Options) {
+    if options.sums {
+        case.text = summed(&case.text);
+    }
 }
 
 fn compare_stored(
