@@ -258,6 +258,19 @@ pub fn loop_or_body(kind: u8, i: u8, name: u32) -> Node
     loop_node(kind, i + 2, i + 1)
 }
 
+// Nodes 1 to 4 loop, each in the one before it; the innermost body is twelve updates.
+pub fn nested(i: u8, next: u8, name: u32) -> Node
+    requires { ⌜ i < 128 ⌝ }
+{
+    if i < 5 {
+        return loop_node(25, 255, i + 1);
+    }
+    if i == 16 {
+        return update(255, name);
+    }
+    update(next, name)
+}
+
 pub fn next_after(i: u8) -> u8
     requires { ⌜ i < 128 ⌝ }
 {
@@ -276,6 +289,7 @@ pub fn node_of(kind: u8, i: u8) -> Node
         return select(next, name, 0);
     }
     match kind {
+        0 => nested(i, next, name),
         16 => insert(next, name, i),
         17 => bare(17, next, name),
         18 => delete(next, name, i % 16),

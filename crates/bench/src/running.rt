@@ -1,5 +1,5 @@
 // Chains of picks.
-use crate::Ran;
+use crate::Chained;
 use crate::picking::chain_length;
 use crate::picking::pick_at;
 use crate::summing::with_answer;
@@ -24,7 +24,7 @@ pub fn prepared(start: Net) -> Net {
 }
 
 // A chain, soundness tested at each step.
-pub fn chain(from: Ran, kind: u8) -> Ran {
+pub fn chain(from: Chained, kind: u8) -> Chained {
     let count = chain_length(kind);
     let mut net = from.net;
     let mut sum = from.sum;
@@ -36,11 +36,11 @@ pub fn chain(from: Ran, kind: u8) -> Ran {
         net = s.net;
         n += 1;
     }
-    Ran { net, sum }
+    Chained { net, sum }
 }
 
 // The same on a net known to be sound.
-pub fn chain_sound(from: Ran, kind: u8) -> Ran
+pub fn chain_sound(from: Chained, kind: u8) -> Chained
     requires { ⌜ T (sound (view (from .net))) ⌝ }
 {
     let count = chain_length(kind);
@@ -54,5 +54,5 @@ pub fn chain_sound(from: Ran, kind: u8) -> Ran
         net = s.net;
         n += 1;
     }
-    Ran { net, sum }
+    Chained { net, sum }
 }

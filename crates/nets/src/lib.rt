@@ -78,7 +78,8 @@ pub struct Net {
     pub threadcount: usize,
 }
 
-// A pick names a thread place and a row place.
+// A pick names a thread place and a row place. Lists of picks come from outside, so the layout is C's.
+#[repr(C)]
 pub struct Pick {
     pub thread: u8,
     pub row: u8,

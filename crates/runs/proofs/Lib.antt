@@ -2,3 +2,4 @@
 pub mod ListLaws
 pub mod TurnLaws
 pub mod Lent
+pub mod LendWalk

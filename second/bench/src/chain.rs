@@ -24,7 +24,7 @@ fn loop_pick(kind: Kind, place: u8) -> Pick {
 }
 
 /// The sum with one number more.
-fn with(sum: u64, number: u64) -> u64 {
+pub fn with(sum: u64, number: u64) -> u64 {
     sum % (1 << 32) * 31 + number
 }
 

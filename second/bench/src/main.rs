@@ -1,16 +1,19 @@
 //! Steps nets at the limits, one for each kind of step, through the second engine and, with the
-//! feature `proved`, through the proved code, and prints the times and their ratios.
+//! feature `proved`, through the proved code, then whole runs, and prints the times and their ratios.
 
 mod chain;
+mod long;
 mod nets;
 mod proved;
 mod second;
 #[cfg(test)]
 mod tests;
+mod timing;
 
 use nets::KINDS;
 use second::Second;
-use std::time::{Duration, Instant};
+use std::time::Duration;
+use timing::timed;
 
 /// Chains in one measurement, and measurements of which the best counts.
 const TURNS: u64 = 4;
@@ -35,6 +38,10 @@ fn main() {
         let picks = second.picks() as f64 * TURNS as f64;
         println!("| {} | {} | {} |", kind.name, columns(steps, picks), columns(sound, picks));
     }
+    println!();
+    println!("Nanoseconds a pick in whole runs, soundness tested once.");
+    println!();
+    long::report();
     if !proved::LINKED {
         println!();
         println!("Without the proved code; second/README.md says how to link it.");
@@ -57,11 +64,6 @@ fn compared(
     }
     let [theirs, building, ours] = best;
     (theirs, proved::LINKED.then(|| ours - building))
-}
-
-fn timed<T>(call: impl Fn() -> T) -> (T, Duration) {
-    let begin = Instant::now();
-    (call(), begin.elapsed())
 }
 
 fn columns((second, proved): (Duration, Option<Duration>), picks: f64) -> String {

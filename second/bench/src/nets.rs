@@ -23,6 +23,9 @@ pub const KINDS: [Kind; 10] = [
     Kind { number: PARALLEL, name: "26 parallel loop" },
 ];
 
+/// For long runs: four loops, each in the one before it, around twelve updates.
+pub const NESTED: Kind = Kind { number: 0, name: "loops around updates" };
+
 pub const NODES: u8 = 128;
 
 const COLUMNS: [u8; 4] = [INT, TEXT, INT, LOC];
@@ -91,10 +94,21 @@ fn node_of(kind: Kind, i: u8) -> Record {
     let on = |record: Record| record.name(&name(i / 16)).at(loc(7));
     let select =
         |bound: u8| on(plain(SELECT)).bound(bound).template(&formals()).tuple(&variables());
+    let update = |record: Record| {
+        on(record).template(&formals()).predicate(LESS, var(0), int(1_000_000)).tuple(&[
+            plus(0, 1),
+            var(1),
+            var(2),
+            var(3),
+        ])
+    };
     if i == 0 {
         return select(0);
     }
     match kind.number {
+        0 if i < 5 => node(SEQUENTIAL, END).body(i + 1).template(&formals()),
+        0 if i == 16 => update(node(UPDATE, END)),
+        0 => update(plain(UPDATE)),
         INSERT => {
             let row = [int(i32::from(i)), text(b"RIGa"), int(7), loc(3)];
             on(plain(INSERT)).tuple(&row)
@@ -106,10 +120,7 @@ fn node_of(kind: Kind, i: u8) -> Record {
         }
         SELECT => select(1),
         SELECT_VARIABLE => plain(SELECT_VARIABLE).bound(1).template(&formals()).tuple(&variables()),
-        UPDATE => on(plain(UPDATE))
-            .template(&formals())
-            .predicate(LESS, var(0), int(1_000_000))
-            .tuple(&[plus(0, 1), var(1), var(2), var(3)]),
+        UPDATE => update(plain(UPDATE)),
         AGGREGATE => on(plain(AGGREGATE)).function(SUM, 0).template(&formals()).tuple(&[formal(5)]),
         CREATE if i % 2 == 1 => plain(CREATE).name(b"NEWT").at(loc(7)).columns(&COLUMNS),
         CREATE => plain(DROP).name(b"NEWT").at(loc(7)),

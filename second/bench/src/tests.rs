@@ -1,7 +1,8 @@
 //! The chains are what they are said to be.
 
 use crate::chain::{picks, preparing};
-use crate::nets::{net, KINDS, NODES};
+use crate::long;
+use crate::nets::{net, KINDS, NESTED, NODES};
 use engine::{run, sound, Done};
 use generate::record::{CREATE, DELETE, INSERT, INSERT_TABLE, PARALLEL, UPDATE};
 
@@ -32,4 +33,16 @@ fn every_pick_is_done() {
             assert_eq!(answer, Ok(done), "{}, pick {place}", kind.name);
         }
     }
+}
+
+#[test]
+fn every_pick_of_a_long_run_is_done() {
+    let start = long::start(NESTED).expect("files that load");
+    assert!(sound(&start));
+    assert_eq!((start.nodes.len(), start.tables.len(), start.threads.len()), (128, 8, 8));
+    let picks = long::picks(&start, 2_000);
+    let answers = run(&mut start.clone(), &picks);
+    let updates = answers.iter().filter(|answer| **answer == Ok(Done { added: 16, taken: 16 }));
+    assert!(updates.count() > 1_800);
+    assert!(answers.iter().all(|answer| answer.is_ok()));
 }

@@ -60,7 +60,7 @@ use Rattle.runs.proofs.running.run as run′
 use Rattle.runs.proofs.running.run.Symbol as run-def
 use Rattle.runs.proofs.running.run.Symbol.{name as #run}
 use Rattle.runs.proofs.running.run.Met as run-thm
-use Rattle.runs.proofs.Lent.{Front, Rest, lends, backs}
+use Rattle.runs.proofs.LendWalk.{Run, fits, typedA, lends-all}
 use Rattle.runs.proofs.lending.lend.Key.{name as #lend}
 use Rattle.runs.proofs.lending.lend as lend′
 use Rattle.runs.proofs.lending.lend.Statement as stated
@@ -69,23 +69,6 @@ use Rattle.runs.proofs.lending.lend.Code.Mir as mir
 
 abbrev stayed : Stays (lend′.ended .signature .params) (lend′.ended .kept)
 stayed = (stay-dropped (plain (λ _. N.the-row)) yes, (stay-dropped (arrayOf (plain (λ _. P.the-row)) 256) yes, (stay-dropped (plain (λ _. usize)) yes, tt)))
-
--- the slice's MIR type in a local of a body
-abbrev slice : Ty
-slice = sliceTy (tyRef erased imm (pointee (P.the-row .written)))
-
-abbrev array : Ty
-array = tyArray P′.mir 256
-
-abbrev borrowed : Ty
-borrowed = tyRef erased imm (tyArray (pointee (P.the-row .written)) 256)
-
-module _ {M : Type 1} (𝓤 : URA M) (H : Heap 𝓤) (A : Atoms 𝓤) (mem : Memory → SProp 𝓤) (run : Routine → Fun 𝓤) where
-  abbrev Run : Contract 𝓤
-  Run = tripleOf 𝓤 H A run′.signature (run′.spec 𝓤 H A mem run)
-
-  run-said : (κ : Lft) (n : Net) (s : RefT (List Pick)) (r : Ran) → ent 𝓤 (ensured 𝓤 H A run′.ended (run′.clauses 𝓤 H A mem run) (κ, tt) (n, (s, tt)) tt r) (fact 𝓤 (RunIs n (s .now) r))
-  run-said κ n s r = exE 𝓤 _ (λ ws. snd∗ 𝓤 (sem 𝓤 H A (lasts run′.ended (κ, tt) (n, (s, tt)) ws)) (fact 𝓤 (RunIs n (s .now) r)))
 
 module _ {M : Type 1} (𝓤 : URA M) (H : Heap 𝓤) (A : Atoms 𝓤) (W : Given 𝓤 H A) (mem : Memory → SProp 𝓤) (run : Routine → Fun 𝓤)
     (net : Net) (nv : Val) (xs : List Pick) (av : Val) (count : ℕ) (isN : Is N.the-row net (nv ∷ [])) (isA : Is (Array P.the-row 256) xs (av ∷ [])) (few : count ≤ 256) where
@@ -98,85 +81,21 @@ module _ {M : Type 1} (𝓤 : URA M) (H : Heap 𝓤) (A : Atoms 𝓤) (W : Given
   abbrev Post : Val → SProp 𝓤
   Post = walkOf 𝓤 H A lend′.ended stayed (lend′.clauses 𝓤 H A mem run) .post bound
 
-  abbrev ys : List Pick
-  ys = take count xs
+  small : 256 < 2 ^ 62
+  small = omega arith
 
-  many : length xs ≡ 256
-  many = isA .1 .0 .1
-
-  long : length ys ≡ count
-  long = length-take-le count xs (omega (arith, few, many))
-
-  rm : Room P.the-row (length ys)
-  rm = (omega (arith, long, few), omega (arith, long, few))
-
-  fits : count < 2 ^ 64
-  fits = omega (arith, few)
-
-  typedA : T (hasTy (tyArray P′.mir 256) av) × WT av
-  typedA = array-lawful 𝓤 H A W P.the-row (LL.lawful P.the-type P′.the-laws 𝓤 H A W) 256 .typed xs (av ∷ []) isA .0
-
-  exits : (r : Ran) (u : Val) → Is R.the-row r (u ∷ []) → RunIs net ys r → ent 𝓤 (⋆ 𝓤 H A []) (Post u)
+  exits : (r : Ran) (u : Val) → Is R.the-row r (u ∷ []) → RunIs net (take count xs) r → ent 𝓤 (⋆ 𝓤 H A []) (Post u)
   exits r u is e =
       qed W [] ∵ suffices ! _ (ends-at 𝓤 H A lend′.ended stayed (lend′.clauses 𝓤 H A mem run) W bound u r (tt, (tt, (tt, tt))) (tt, (tt, (tt, tt)))) $ says ! e $
       nothing ! $ frame ! $ nothing ! $ nothing ! $ fjoin ! $ nothing ! $ fjoin ! $ nothing ! $ fjoin ! $ frame ! $ owned ! R.the-row (Is R.the-row) (LL.makes R.the-type R′.the-plain 𝓤 H A) r (u ∷ []) is $ done !
-
-  -- the call: what it is passed, for a lifetime κ that is made for it, and what it asks
-  abbrev ref : ℕ → GName → RefT (List Pick)
-  ref l γ = record { ptr = (l, 0); name = γ; now = ys }
-
-  abbrev to-run : Lft → ℕ → GName → Run 𝓤 H A mem run .Ghost
-  to-run κ l γ = (((κ, tt), (fullShare, tt), tt, (net, (ref l γ, tt)), (nv ∷ [], (sliceVal (l, 0) (length ys) ∷ [], tt))), tt)
-
-  goes-run : (κ : Lft) (l : ℕ) (γ : GName)
-      → ent 𝓤 (⋆ 𝓤 H A (‵ (N.the-row .own net (nv ∷ [])) ∷ ‵ (ShrSlice (named 0) κ P.the-row .own (ref l γ) (sliceVal (l, 0) (length ys) ∷ [])) ∷ ‵ (flft κ fullShare) ∷ [])) (Run 𝓤 H A mem run .pre (to-run κ l γ))
-  goes-run κ l γ =
-      qed W (‵ (N.the-row .own net (nv ∷ [])) ∷ ‵ (ShrSlice (named 0) κ P.the-row .own (ref l γ) (sliceVal (l, 0) (length ys) ∷ [])) ∷ ‵ (flft κ fullShare) ∷ []) ∵
-      nothing ! $ move ! (2 ∷ 0 ∷ []) $ fjoin ! $ move ! (1 ∷ 0 ∷ []) $ fjoin ! $ nothing ! $ move ! (2 ∷ 0 ∷ []) $ join ! $ join ! $ nothing ! $ move ! (1 ∷ 0 ∷ []) $ done !
-
-  module _ (𝓣 : Tables 𝓤 H) (known-run : Triple 𝓤 (𝓣 .C #run) (Run 𝓤 H A mem run)) (l₀ l₁ l₂ l₃ l₄ l₅ l₆ : ℕ) where
-    abbrev En : Env 𝓤 H
-    En = (R′.mir, l₀) ∷ (N′.mir, l₁) ∷ (array, l₂) ∷ (tyInt w64, l₃) ∷ (array, l₄) ∷ (borrowed, l₅) ∷ (slice, l₆) ∷ []
-
-    -- what the body begins with: every local, and that it dies
-    abbrev Entry : List (Item 𝓤)
-    Entry = ‵ (froom slice l₆ 0) ∷ ‵ (fdies slice l₆) ∷ ‵ (froom borrowed l₅ 0) ∷ ‵ (fdies borrowed l₅) ∷ ‵ (froom array l₄ 0) ∷ ‵ (fdies array l₄)
-        ∷ ‵ (fat fullShare (tyInt w64) l₃ 0 (vint w64 count)) ∷ ‵ (fdies (tyInt w64) l₃) ∷ ‵ (fat fullShare array l₂ 0 av) ∷ ‵ (fdies array l₂)
-        ∷ ‵ (fat fullShare N′.mir l₁ 0 nv) ∷ ‵ (fdies N′.mir l₁) ∷ ‵ (froom R′.mir l₀ 0) ∷ ‵ (fdies R′.mir l₀) ∷ []
-
-    lends-all : Sq W Entry (runs (𝓣 .C) (𝓣 .Λ) En mir.t-1 (atRet En Post))
-    lends-all =
-        assigns ! (of-opd ! (load ! (from ! (stop !)) (look ! 8 refl))) (from ! (stop !)) (init ! 4 refl typedA) $
-        assigns ! (addr ! (from ! (stop !))) (from ! (stop !)) (init ! 2 refl (tt, tt)) $
-        assigns ! (agg ! (and-then ! (load ! (from ! (stop !)) (look ! 2 refl)) (and-then ! (load ! (from ! (stop !)) (look ! 6 refl)) (no-more !)))) (from ! (stop !)) (init ! 0 refl (tt, (tt, (record { fits = fits }, tt)))) $
-        rewrite ! 0 (λ (m : ℕ). ‵ (fat fullShare slice l₆ 0 (sliceVal (l₄, 0) m))) (sym long) refl $
-        -- the array's local is lent
-        owned ! (Array P.the-row 256) (Is (Array P.the-row 256)) (array-makes 𝓤 H A W P.the-row (LL.makes P.the-type P′.the-plain 𝓤 H A) 256) xs (av ∷ []) isA $ move ! (5 ∷ 0 ∷ []) $
-        use2 W (‵ (Front P.the-row xs count l₄) ⊛ ‵ (Rest P.the-row xs count l₄)) (lends P.the-row xs count l₄ 𝓤 H A W 256 tt av) $ split ! $ lft-new ! tt (λ α. move ! (1 ∷ []) $
-        use1 W (later (some (λ (γ : GName). ‵ (ShrSlice (named 0) (α ∷ []) P.the-row .own (ref l₄ γ) (sliceVal (l₄, 0) (length ys) ∷ [])) ⊛ ‵ (flent (α ∷ []) (Front P.the-row xs count l₄)))))
-        (lends-shr-slice 𝓤 H A W P.the-row (named 0) (α ∷ []) fullShare ys l₄ 0 rm) $ await ! tt $ pick ! (λ γ. split ! $
-        -- [the slice; the lender's part; the token; the rest; _6; …]
-        owned ! N.the-row (Is N.the-row) (LL.makes N.the-type N′.the-plain 𝓤 H A) net (nv ∷ []) isN $ move ! (0 ∷ 1 ∷ 3 ∷ []) $ use3 W (raw (Run 𝓤 H A mem run .pre (to-run (α ∷ []) l₄ γ))) (goes-run (α ∷ []) l₄ γ) $
-        calls-at ! (fmOf 𝓤 H (W .laws) 𝓣) (Run 𝓤 H A mem run) known-run (to-run (α ∷ []) l₄ γ) (and-then ! (load ! (from ! (stop !)) (look ! 12 refl)) (and-then ! (load ! (from ! (stop !)) (look ! 3 refl)) (no-more !))) (λ u.
-        use1 W (later (some (λ (r : Ran). ((‵ (flft (α ∷ []) fullShare) ⊛ ‵ ftrue) ⊛ ‵ (R.the-row .own r (u ∷ []))) ⊛ raw (ensured 𝓤 H A run′.ended (run′.clauses 𝓤 H A mem run) ((α ∷ []), tt) (net, (ref l₄ γ, tt)) tt r)))) (id⊢ 𝓤 _) $ await ! tt $ pick ! (λ r.
-        split ! $ move ! (1 ∷ []) $ use1 W (raw (fact 𝓤 (RunIs net ys r))) (run-said 𝓤 H A mem run (α ∷ []) net (ref l₄ γ) r) $ heard ! (RunIs net ys r) (λ e. split ! $ move ! (1 ∷ []) $
-        facts ! R.the-row (Is R.the-row) (shows 𝓤 H A R.the-row) r (u ∷ []) (λ is.
-        -- [the token; the lender's part; the rest; _6; …; _0; …]
-        land ! (from ! (stop !)) (init ! 14 refl (LL.lawful R.the-type R′.the-laws 𝓤 H A W .typed r _ is .0)) $
-        split ! $ lft-end ! tt $ move ! (0 ∷ 2 ∷ []) $ lent-back ! tt $ move ! (0 ∷ 2 ∷ []) $
-        use2 W (‵ (froom (tyArray P′.mir 256) l₄ 0)) (backs P.the-row xs count l₄ 𝓤 H A W 256 (LL.vals P.the-type P′.the-laws) (LL.tells P.the-type P′.the-laws) many) $
-        -- [room for _4; true; _6; …; _5; …; that _4 dies; _3; …; _2; …; _1; …; _0; …]
-        returns ! (look ! 13 refl) $ forget ! 2 refl $ forget ! 4 refl $ forget ! 7 refl $ forget ! 9 refl $ forget ! 11 refl $ forget ! 13 refl $
-        move ! (13 ∷ 14 ∷ []) $ free1 ! $ move ! (11 ∷ 12 ∷ []) $ free1 ! $ move ! (9 ∷ 10 ∷ []) $ free1 ! $ move ! (7 ∷ 8 ∷ []) $ free1 ! $ move ! (0 ∷ 6 ∷ []) $ free1 ! $ move ! (3 ∷ 4 ∷ []) $ free1 ! $ move ! (1 ∷ 2 ∷ []) $ free1 ! $ free0 ! $
-        keep ! [] $ by ! (exits r u is e)))))))
 
   walk : (𝓣 : Tables 𝓤 H) → Triple 𝓤 (𝓣 .C #run) (Run 𝓤 H A mem run)
       → ent 𝓤 (onEntry 𝓤 H A lend′.signature tt tt (net, (xs, (count, tt))) at) (WpFn 𝓤 H (𝓣 .C) (𝓣 .Λ) code.function (nv ∷ av ∷ vint w64 count ∷ []) Post)
   walk 𝓣 known-run =
       qed W (‵ ftrue ∷ ‵ (owns (N.the-row ∷ Array P.the-row 256 ∷ usize ∷ []) (net, (xs, (count, tt))) at) ∷ []) ∵ keep ! [] $ enter ! (𝓣 .C) (𝓣 .Λ) code.function (nv ∷ av ∷ vint w64 count ∷ []) _ $
       alloc1 ! (λ l₀. alloc1 ! (λ l₁. alloc1 ! (λ l₂. alloc1 ! (λ l₃. alloc1 ! (λ l₄. alloc1 ! (λ l₅. alloc1 ! (λ l₆. alloc0 ! $ params1 ! $
-      pass1 ! (init ! 10 refl (LL.lawful N.the-type N′.the-laws 𝓤 H A W .typed net _ isN .0)) $ pass1 ! (init ! 8 refl typedA) $ pass1 ! (init ! 6 refl (tt, record { fits = fits })) $ pass0 ! $
-      lends-all 𝓣 known-run l₀ l₁ l₂ l₃ l₄ l₅ l₆)))))))
+      pass1 ! (init ! 10 refl (LL.lawful N.the-type N′.the-laws 𝓤 H A W .typed net _ isN .0)) $ pass1 ! (init ! 8 refl (typedA 𝓤 H A W mem run 256 small net nv xs av count isN isA few)) $ pass1 ! (init ! 6 refl (tt, record { fits = fits 𝓤 H A W mem run 256 small net nv xs av count isN isA few })) $ pass0 ! $
+      lends-all 𝓤 H A W mem run 256 small net nv xs av count isN isA few 𝓣 known-run l₀ l₁ l₂ l₃ l₄ l₅ l₆ Post exits)))))))
 
 module _ {M : Type 1} (𝓤 : URA M) (H : Heap 𝓤) (A : Atoms 𝓤) (W : Given 𝓤 H A) (mem : Memory → SProp 𝓤) (run : Routine → Fun 𝓤) (𝓣 : Tables 𝓤 H) (known-run : Triple 𝓤 (𝓣 .C #run) (Run 𝓤 H A mem run)) where
   lend-walks : Walks 𝓤 H A lend′.ended stayed (WpFn 𝓤 H (𝓣 .C) (𝓣 .Λ) code.function) (lend′.clauses 𝓤 H A mem run)

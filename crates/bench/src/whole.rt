@@ -1,0 +1,84 @@
+// Whole runs over lists of picks.
+use crate::filling::start;
+use crate::running::prepared;
+use crate::summing::with;
+use crate::summing::with_net;
+use counts::Ran;
+use nets::Net;
+use nets::Pick;
+use runs::running::run;
+use soundness::whole::sound_net;
+ghost use Prim.Native.Nat.{_≤_};
+ghost use lib.ListN.{take};
+ghost use Rattle.runs.specs.Runs.{RunIs};
+
+pub fn lend(net: Net, picks: [Pick; 100000], count: usize) -> Ran
+    requires { ⌜ count ≤ 100000 ⌝ }
+    ensures { λ r. ⌜ RunIs net (take count picks) r ⌝ }
+{
+    run(net, &picks[..count])
+}
+
+// As many picks as the bytes have, 100,000 at most.
+pub fn count_of(bytes: &[u8]) -> usize
+    ensures { λ r. ⌜ r ≤ 100000 ⌝ }
+{
+    let count = bytes.len() / 2;
+    if count < 100000 {
+        return count;
+    }
+    100000
+}
+
+pub fn picks_of(bytes: &[u8]) -> [Pick; 100000] {
+    let none = Pick { thread: 0, row: 0 };
+    let mut picks = [none; 100000];
+    let mut i: usize = 0;
+    while i < 100000 {
+        let at = i * 2;
+        if at + 1 < bytes.len() {
+            picks[i] = Pick {
+                thread: bytes[at],
+                row: bytes[at + 1],
+            };
+        }
+        i += 1;
+    }
+    picks
+}
+
+// The sum over what a run gave back.
+pub fn total(sum: u64, r: Ran) -> u64 {
+    let added = r.added;
+    let taken = r.taken;
+    let left = r.net;
+    with_net(with(with(sum, added.low), taken.low), left)
+}
+
+// A number of runs, each over all picks from the start.
+#[no_mangle]
+pub extern "C" fn bench_runs(kind: u8, bytes: &[u8], turns: u64) -> u64 {
+    let net = prepared(start(kind));
+    let picks = picks_of(bytes);
+    let count = count_of(bytes);
+    let mut sum: u64 = 0;
+    let mut i: u64 = 0;
+    while i < turns {
+        sum = total(sum, lend(net, picks, count));
+        i += 1;
+    }
+    sum
+}
+
+// A number of tests of soundness, of which a run has one.
+#[no_mangle]
+pub extern "C" fn bench_tests(kind: u8, turns: u64) -> u64 {
+    let net = prepared(start(kind));
+    let mut sum: u64 = 0;
+    let mut i: u64 = 0;
+    while i < turns {
+        sum = with(sum, sound_net(net) as u64);
+        i += 1;
+    }
+    sum
+}
