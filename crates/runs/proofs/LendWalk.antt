@@ -1,8 +1,8 @@
 -- The walk of a function that lends the first picks of an array, of any size, to `run`: `f(net, picks: [Pick; size], count)` with the body `run(net, &picks[..count])`.
 -- The array's first elements are lent as a `&[Pick]` for a lifetime that is made for the call, and are back after it. All that is known of `run` is that it meets its contract.
 -- What a function that is walked so says at its end is handed in: `Post`, and that it follows. Assumes nothing.
-use mathlib.Core.Path.{_≡_, refl, sym, ap, subst}
-use Prim.Native.Nat.{ℕ, _*_, _<_, _≤_, _^_}
+use mathlib.Core.Path.{_≡_, refl, sym}
+use Prim.Native.Nat.{ℕ, _<_, _≤_, _^_}
 use native.Mathlib.Omega.{arith}
 use mathlib.Core.List.{List, [], _∷_}
 use lib.ListN.{length, take}
@@ -16,36 +16,27 @@ use base.Logic.{SProp, ent, id⊢, exE, snd∗}
 use base.Fml.{Lft, GName, ftrue, fat, froom, fdies, flft, flent}
 use prog.Memory.{Memory}
 use prog.Routine.{Routine}
-use prog.Wp.{Heap, Env, WpFn, Tables}
+use prog.Wp.{Heap, Env, Tables}
 use ghost.Atoms.{Atoms, sem}
 use contract.Monad.{Fun, fact}
-use contract.Running.{givenOf, tables, tablesOf}
-use types.Kit.{Given, Item, Sq, runs, atRet, ‵, raw, _⊛_, ⋆, some, later, _$_, _∵_, !, qed, by, move, keep, use1, use2, use3, split, join, pick, rewrite, fjoin, suffices, frame, await, done}
+use types.Kit.{Given, Item, Sq, runs, atRet, ‵, raw, _⊛_, ⋆, some, later, _$_, _∵_, !, qed, by, move, keep, use1, use2, use3, split, join, pick, rewrite, fjoin, await, done}
 use types.Tokens.{lft-new, lft-end, lent-back}
 use types.Part.{agg}
-use types.Run.{look, init, forget, stop, from, load, of-opd, addr, assigns, and-then, no-more, land, returns, enter, alloc1, alloc0, params1, pass1, pass0, free1, free0}
-use sound.WpLaws.{fmOf, WpFn-mono}
-use denote.RattleType.{owns}
+use types.Run.{look, init, forget, stop, from, load, of-opd, addr, assigns, and-then, no-more, land, returns, free1, free0}
+use sound.WpLaws.{fmOf}
 use denote.Laws.{Is, shows}
 use denote.Memory.{pointee}
-use denote.Plain.{uint-vals, uint-tells}
-use denote.Builtin.{usize}
-use denote.Array.{Array, array-vals, array-tells, array-lawful, array-makes}
+use denote.Array.{Array, array-lawful, array-makes}
 use denote.Ref.{RefT}
 use denote.Lend.{lends-shr-slice}
-use denote.Signature.{plain}
-use denote.Signature.Array.{arrayOf}
 use denote.Slice.{sliceTy, sliceVal, ShrSlice, Room}
 use denote.Steps.{owned, facts, heard, nothing}
 use denote.Struct.Laws as LL
 use denote.Triple.Statement.{Contract, Triple}
 use denote.Triple.Call.{calls-at}
 use denote.Triple.Clauses.{ensured, lasts}
-use denote.Triple.Entry.{Vals, onEntry}
-use denote.Triple.Spec.{Meets, tripleOf}
-use denote.Triple.Table.{entered, cited}
-use denote.Triple.Walked.{says, needs, Stays, stay-dropped, walkOf, goes-dropped, Walks, ends-at, walked, walk-meets}
-use denote.Exit.{yes}
+use denote.Triple.Spec.{tripleOf}
+use denote.Triple.Walked.{says, walked}
 use Rattle.runs.specs.Runs.{RunIs}
 use Rattle.nets.specs.declared.Pick.{Pick}
 use Rattle.nets.specs.declared.Net.{Net}
@@ -57,9 +48,7 @@ use Rattle.nets.proofs.Net.Laws as N′
 use Rattle.counts.proofs.Ran as R
 use Rattle.counts.proofs.Ran.Laws as R′
 use Rattle.runs.proofs.running.run as run′
-use Rattle.runs.proofs.running.run.Symbol as run-def
 use Rattle.runs.proofs.running.run.Symbol.{name as #run}
-use Rattle.runs.proofs.running.run.Met as run-thm
 use Rattle.runs.proofs.Lent.{Front, Rest, lends, backs}
 
 -- the slice's MIR type in a local of a body

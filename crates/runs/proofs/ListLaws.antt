@@ -1,14 +1,13 @@
 -- What the rules leave and report after two lists of picks, one after the other. Assumes nothing.
 use Prim.Native.Nat.{ℕ, _+_}
 use mathlib.Core.Path.{_≡_, refl, ap, sym, _∙_}
-use mathlib.Core.Bool.{Bool, true, false, not, _&&_}
-use mathlib.Core.List.{List, [], _∷_, _++_, map}
+use mathlib.Core.Bool.{not}
+use mathlib.Core.List.{List, [], _∷_, _++_}
 use native.Mathlib.Nat.{add-assoc, zero-add}
 use lib.Dec.{T}
-use Rattle.values.specs.Lists.{all}
 use Rattle.values.proofs.Bools.{and-l, and-r, and-in}
 use Rattle.nets.specs.declared.Pick.{Pick}
-use Rattle.nets.specs.Nets.{Net, Outcome}
+use Rattle.nets.specs.Nets.{Net}
 use Rattle.nets.specs.Steps.{step}
 use Rattle.nets.specs.Accounts.{nextNet, after, answers, addedIn, takenIn, isDone, reportedAdded, reportedTaken}
 use Rattle.runs.specs.Runs.{allRefused}

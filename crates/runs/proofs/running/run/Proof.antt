@@ -4,7 +4,7 @@
 -- Assumes nothing.
 use mathlib.Core.Path.{_≡_, refl, sym}
 use mathlib.Core.Bool.{Bool, true, false}
-use Prim.Native.Nat.{ℕ, _+_, _-_, _*_, _<_, _≤_, _^_}
+use Prim.Native.Nat.{ℕ, _+_, _-_, _*_, _<_, _^_}
 use native.Mathlib.Omega.{arith}
 use mathlib.Core.List.{List, [], _∷_}
 use mathlib.Core.WellFounded.{WellFounded, InvImage·wf}
@@ -20,7 +20,7 @@ use base.Logic.{SProp, ent, emp, via, id⊢, exE, fst∗, snd∗}
 use base.Fml.{Lft, GName, Share, Fml, ftrue, fat, froom, fdies, flft, fshr-bor}
 use prog.Memory.{Memory}
 use prog.Routine.{Routine}
-use prog.Wp.{Heap, Env, Out, Calls, Loops, Wp, WpFn, Tables, afterSeq, afterBlock, afterTurn, atReturn}
+use prog.Wp.{Heap, Env, Out, Wp, WpFn, Tables, afterSeq, afterBlock, afterTurn, atReturn}
 use ghost.Atoms.{Atoms, sem}
 use contract.Monad.{Fun, fact}
 use contract.Running.{givenOf, tables, tablesOf}
@@ -28,7 +28,7 @@ use types.Kit.{Given, Item, Sq, runs, anyQ, atRet, ‵, raw, _⊛_, ⋆, some, l
 use types.Part.{whole, sub, look-in}
 use types.Share.{arr-parts}
 use types.Run.{look, look-raw, init, store, forget, stop, hop, fld, from, load, lit, of-opd, bin, assigns, assigns-last, first, blocks, stays, leaves-loop, loops, again, Below, exec, and-then, no-more, land, returns, enter, alloc1, alloc0, params1, pass1, pass0, free1, free0}
-use sound.WpLaws.{FmC, fmOf, WpFn-mono}
+use sound.WpLaws.{fmOf, WpFn-mono}
 use denote.RattleType.{owns}
 use denote.Laws.{Is, shows}
 use denote.Memory.{pointee, shares}
