@@ -11,7 +11,7 @@ use Rattle.values.specs.Operands.{Vars}
 use Rattle.rows.specs.declared.Relation as Code
 use Rattle.rows.specs.Relations.{Relation}
 use Rattle.rows.specs.View.{relationOf}
-use Rattle.rows.specs.Contracts.{Holds}
+use Rattle.changes.specs.Contracts.{Holds}
 use Rattle.nets.specs.declared.Refusal.{Refusal}
 use Rattle.nets.specs.declared.Answer.{Answer}
 use Rattle.nets.specs.declared.Answer.the-variants.{Done, Refused}

@@ -18,7 +18,7 @@ use Rattle.rows.specs.declared.Operands.{Operands}
 use Rattle.rows.specs.declared.Relation as Code
 use Rattle.rows.specs.Relations.{Relation}
 use Rattle.rows.specs.View.{noRow, noField, valuesOf, relationOf, operandsOf, Shaped, Short}
-use Rattle.rows.specs.Contracts.{Complete}
+use Rattle.changes.specs.Contracts.{Complete}
 use Rattle.nets.specs.declared.TableVariable.{TableVariable}
 use Rattle.turns.specs.declared.Situation.{Situation}
 use Rattle.nets.specs.Nets as M

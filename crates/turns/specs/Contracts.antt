@@ -14,7 +14,7 @@ use Rattle.rows.specs.declared.Relation as Code
 use Rattle.rows.specs.Relations.{Relation}
 use Rattle.rows.specs.Matching.{matches, rowVars}
 use Rattle.rows.specs.View.{relationOf, Shaped}
-use Rattle.rows.specs.Contracts.{Holds}
+use Rattle.changes.specs.Contracts.{Holds}
 use Rattle.turns.specs.declared.Located.{Located}
 use Rattle.turns.specs.declared.Located.the-variants.{Nowhere, At}
 use Rattle.nets.specs.declared.Frame.{Frame}
