@@ -1,7 +1,7 @@
 // The single step: the one place that reads the net's lists by a place and stores to them.
-use crate::lists::tables_after;
-use crate::lists::threads_after;
-use crate::places::site_of;
+use lists::lists::tables_after;
+use lists::lists::threads_after;
+use lists::places::site_of;
 use nets::Answer;
 use nets::Entry;
 use nets::Net;

@@ -1,9 +1,9 @@
--- `steps::places::site_meant` meets its contract: by the test of the locality. Assumes nothing.
+-- `lists::places::site_meant` meets its contract: by the test of the locality. Assumes nothing.
 use mathlib.Core.Path.{_∙_}
 use borrow.Author.Needs.{needs}
 use borrow.Author.Tests.{eq-eqb, ne-eqb}
-use Rattle.steps.proofs.places.site_meant.Statement.{statement}
-use Rattle.steps.proofs.places.site_meant.Tie as tie
+use Rattle.lists.proofs.places.site_meant.Statement.{statement}
+use Rattle.lists.proofs.places.site_meant.Tie as tie
 
 returns : tie.Need-returns
 returns c = rw (eq-eqb (c .before .before .args .l .0) 0 (c .if1 .taken))

@@ -1,4 +1,4 @@
--- `steps::lists::without_table` meets its contract: the places behind the one removed have moved, up to `i`.
+-- `lists::lists::without_table` meets its contract: the places behind the one removed have moved, up to `i`.
 use Prim.Native.Nat.{_≤_, _-_}
 use mathlib.Core.Path.{_≡_}
 use native.Mathlib.Omega.{arith}
@@ -7,8 +7,8 @@ use lib.ListN.{length}
 use Rattle.values.proofs.Arrays.{long}
 use Rattle.values.proofs.RemoveLaws.{Closing, closing-starts, closing-more, closing-ends}
 use Rattle.nets.specs.View.{noTable, tableOf}
-use Rattle.steps.proofs.lists.without_table.Statement.{statement}
-use Rattle.steps.proofs.lists.without_table.Tie as tie
+use Rattle.lists.proofs.lists.without_table.Statement.{statement}
+use Rattle.lists.proofs.lists.without_table.Tie as tie
 
 abbrev Inv-loop : tie.InvT-loop
 Inv-loop count at tables last next₀ i₀ next i = Closing noTable tables at i next × (i ≤ last)

@@ -1,4 +1,4 @@
--- `steps::places::meant_by` meets its contract. The invariant: the aliases that are left decide. Assumes nothing.
+-- `lists::places::meant_by` meets its contract. The invariant: the aliases that are left decide. Assumes nothing.
 use Prim.Native.Nat.{_≤_, _-_}
 use mathlib.Core.Path.{_≡_, ap}
 use borrow.Author.Needs.{needs}
@@ -9,8 +9,8 @@ use Rattle.values.proofs.PlaceLaws.{find-here, find-more, find-ends}
 use Rattle.nets.specs.declared.Alias.{Alias}
 use Rattle.nets.specs.Scenes.{aliasFor, meant}
 use Rattle.nets.specs.View.{noAlias, aliasesOf}
-use Rattle.steps.proofs.places.meant_by.Statement.{statement}
-use Rattle.steps.proofs.places.meant_by.Tie as tie
+use Rattle.lists.proofs.places.meant_by.Statement.{statement}
+use Rattle.lists.proofs.places.meant_by.Tie as tie
 
 abbrev Inv-loop : tie.InvT-loop
 Inv-loop count s l aliases i₀ i =

@@ -1,4 +1,4 @@
--- `steps::lists::threads_after` meets its contract: with an empty stack the thread is gone, else it stands in its place, and a fork goes last.
+-- `lists::lists::threads_after` meets its contract: with an empty stack the thread is gone, else it stands in its place, and a fork goes last.
 use Prim.Native.Nat.{ℕ, _≤_}
 use mathlib.Core.Path.{_≡_, sym, ap, ap₂, _∙_}
 use mathlib.Core.Bool.{Bool, true, false}
@@ -15,8 +15,8 @@ use Rattle.nets.specs.View.{threadOf, threadsOf}
 use Rattle.turns.specs.Contracts.{standing, forksOf}
 use Rattle.turns.proofs.ThreadLaws.{standing-gone, standing-there, settle-none, settle-one}
 use borrow.Author.Needs.{needs}
-use Rattle.steps.proofs.lists.threads_after.Statement.{statement}
-use Rattle.steps.proofs.lists.threads_after.Tie as tie
+use Rattle.lists.proofs.lists.threads_after.Statement.{statement}
+use Rattle.lists.proofs.lists.threads_after.Tie as tie
 
 module _ (at : ℕ) (t : Thread) (ts : List M.Thread) (fork : Thread) {rs : List M.Thread} where
   gone : t .depth ≡ 0 → (f : Bool) → (T f → 1 ≤ t .depth) → rs ≡ removeAt at ts → rs ≡ settle at (standing (threadOf t)) ts ++ forksOf f fork

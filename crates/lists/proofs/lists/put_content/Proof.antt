@@ -1,4 +1,4 @@
--- `steps::lists::put_content` meets its contract: one of the tables in use has another content.
+-- `lists::lists::put_content` meets its contract: one of the tables in use has another content.
 use mathlib.Core.Path.{_≡_, sym, ap, _∙_}
 use native.Mathlib.Omega.{arith}
 use lib.ListN.{length, set}
@@ -7,10 +7,10 @@ use Rattle.values.proofs.Firsts.{firsts-at, firsts-set}
 use Rattle.rows.specs.View.{relationOf}
 use Rattle.nets.specs.Nets as M
 use Rattle.nets.specs.View.{noTable, tableOf, tablesOf}
-use Rattle.steps.specs.Contracts.{withContent}
+use Rattle.lists.specs.Contracts.{withContent}
 use borrow.Author.Needs.{needs}
-use Rattle.steps.proofs.lists.put_content.Statement.{statement}
-use Rattle.steps.proofs.lists.put_content.Tie as tie
+use Rattle.lists.proofs.lists.put_content.Statement.{statement}
+use Rattle.lists.proofs.lists.put_content.Tie as tie
 
 returns : tie.Need-returns
 returns c =

@@ -1,4 +1,4 @@
--- `steps::lists::put_thread` meets its contract: one of those in use is another.
+-- `lists::lists::put_thread` meets its contract: one of those in use is another.
 use mathlib.Core.Path.{_≡_, refl}
 use native.Mathlib.Omega.{arith}
 use lib.ListN.{length}
@@ -6,8 +6,8 @@ use Rattle.values.proofs.Arrays.{long}
 use Rattle.values.proofs.Firsts.{firsts-set}
 use Rattle.nets.specs.View.{noThread, threadOf}
 use borrow.Author.Needs.{needs}
-use Rattle.steps.proofs.lists.put_thread.Statement.{statement}
-use Rattle.steps.proofs.lists.put_thread.Tie as tie
+use Rattle.lists.proofs.lists.put_thread.Statement.{statement}
+use Rattle.lists.proofs.lists.put_thread.Tie as tie
 
 returns : tie.Need-returns
 returns c =

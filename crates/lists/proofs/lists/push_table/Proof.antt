@@ -1,4 +1,4 @@
--- `steps::lists::push_table` meets its contract: one more is in use, stored behind the others.
+-- `lists::lists::push_table` meets its contract: one more is in use, stored behind the others.
 use mathlib.Core.Path.{_≡_}
 use native.Mathlib.Omega.{arith}
 use lib.ListN.{length}
@@ -6,8 +6,8 @@ use Rattle.values.proofs.Arrays.{long}
 use Rattle.values.proofs.Firsts.{firsts-push}
 use Rattle.nets.specs.View.{noTable, tableOf}
 use borrow.Author.Needs.{needs}
-use Rattle.steps.proofs.lists.push_table.Statement.{statement}
-use Rattle.steps.proofs.lists.push_table.Tie as tie
+use Rattle.lists.proofs.lists.push_table.Statement.{statement}
+use Rattle.lists.proofs.lists.push_table.Tie as tie
 
 returns : tie.Need-returns
 returns c =

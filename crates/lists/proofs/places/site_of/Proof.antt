@@ -1,11 +1,11 @@
--- `steps::places::site_of` meets its contract, arm by arm. Assumes nothing.
+-- `lists::places::site_of` meets its contract, arm by arm. Assumes nothing.
 use mathlib.Core.Path.{ap, sym, _∙_}
 use borrow.Author.Needs.{needs}
 use Rattle.values.specs.declared.Got.the-variants.{One}
 use Rattle.nets.specs.Scenes.{siteOfGot}
 use Rattle.nets.specs.View.{aliasesOf}
-use Rattle.steps.proofs.places.site_of.Statement.{statement}
-use Rattle.steps.proofs.places.site_of.Tie as tie
+use Rattle.lists.proofs.places.site_of.Statement.{statement}
+use Rattle.lists.proofs.places.site_of.Tie as tie
 
 returns-4 : tie.Need-returns-4
 returns-4 c =

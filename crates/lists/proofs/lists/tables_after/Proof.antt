@@ -1,4 +1,4 @@
--- `steps::lists::tables_after` meets its contract: what becomes of the tables goes by the node's kind.
+-- `lists::lists::tables_after` meets its contract: what becomes of the tables goes by the node's kind.
 use Prim.Native.Nat.{ℕ, _≤_, _<_}
 use mathlib.Core.Path.{_≡_, refl, sym, ap, subst, _∙_}
 use mathlib.Core.Bool.{Bool, true, false, not, _||_}
@@ -14,10 +14,10 @@ use Rattle.rows.specs.Relations.{Relation}
 use Rattle.nets.specs.Nets as M
 use Rattle.nets.specs.Nets.{Kind, acting, other, badKind, code, acts, needsTable, isCreate}
 use Rattle.nets.specs.View.{kinds, kindAt}
-use Rattle.steps.specs.Contracts.{putContent, tablesWith}
+use Rattle.lists.specs.Contracts.{putContent, tablesWith}
 use borrow.Author.Needs.{needs}
-use Rattle.steps.proofs.lists.tables_after.Statement.{statement}
-use Rattle.steps.proofs.lists.tables_after.Tie as tie
+use Rattle.lists.proofs.lists.tables_after.Statement.{statement}
+use Rattle.lists.proofs.lists.tables_after.Tie as tie
 
 -- a byte of a kind that puts rows
 abbrev Puts : ℕ → Type 0
