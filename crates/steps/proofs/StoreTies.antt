@@ -36,7 +36,8 @@ use Rattle.nets.specs.Accounts.{netLeft}
 use Rattle.nets.specs.View.{noTable, noThread, kindAt, tableOf, nodeOf, threadOf, tablesOf, threadsOf, view}
 use Rattle.nets.specs.Answers.{Said, refusing, numberOf, answerOf, saidOf, StepIs}
 use Rattle.acts.specs.Contracts.{isDoing}
-use Rattle.turns.specs.Contracts.{putsRows, laterChecks, outcomeAt, standing, forksOf, ChangeIs}
+use Rattle.threads.specs.Contracts.{standing, forksOf}
+use Rattle.turns.specs.Contracts.{putsRows, laterChecks, outcomeAt, ChangeIs}
 use Rattle.lists.specs.Contracts.{putContent, tablesWith}
 use Rattle.nets.proofs.StepLaws.{Passed}
 use Rattle.nets.proofs.AnswerLaws.{refuses-11}

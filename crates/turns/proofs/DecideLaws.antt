@@ -28,7 +28,8 @@ use Rattle.nets.specs.Answers.{Said, refusing, answerOf, numberOf, saidOf}
 use Rattle.acts.specs.Effects.{Parts, saidBy}
 use Rattle.nets.specs.View.{kindAt, threadOf}
 use Rattle.acts.specs.Contracts.{isDoing, isStep, partsOf, EffectIs}
-use Rattle.turns.specs.Contracts.{locatedOf, outcomeAt, Meets, boundWith, standing, putsRows, ChangeIs}
+use Rattle.threads.specs.Contracts.{standing}
+use Rattle.turns.specs.Contracts.{locatedOf, outcomeAt, Meets, boundWith, putsRows, ChangeIs}
 use Rattle.nets.proofs.KindLaws.{at-one}
 use Rattle.turns.proofs.EffectTies.{PartsIn, effect-answer, puts-there, content-columns, content-rows, boundIn, effect-bindings, effect-threads}
 use Rattle.turns.proofs.MeetTies.{met-kind, met-parts}

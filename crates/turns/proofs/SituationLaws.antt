@@ -28,7 +28,8 @@ use Rattle.nets.specs.Scenes.{Scene, source}
 use Rattle.nets.specs.Steps.{isBound, isHeld, readsOk, check12}
 use Rattle.nets.specs.View.{kindAt, nodeOf, variableOf, threadOf}
 use Rattle.acts.specs.Contracts.{flagAt, isStep, ActReady}
-use Rattle.turns.specs.Contracts.{visitOf, Meets, relationRead, Fine, Known, SourceIs}
+use Rattle.threads.specs.Contracts.{visitOf}
+use Rattle.turns.specs.Contracts.{Meets, relationRead, Fine, Known, SourceIs}
 use Rattle.turns.proofs.EffectTies.{read-source, own-source}
 use Rattle.nets.proofs.RoundLaws.{given, loop-reads}
 use Rattle.turns.proofs.CompleteLaws.{select-complete}
