@@ -17,17 +17,17 @@ use Rattle.rows.specs.declared.Row as CodeRow
 use Rattle.rows.specs.declared.Field.{Field}
 use Rattle.rows.specs.declared.Operands.{Operands}
 use Rattle.rows.specs.declared.Draft.{Draft}
-use Rattle.rows.specs.declared.Split.{Split}
-use Rattle.rows.specs.declared.Updated.{Updated}
 use Rattle.rows.specs.declared.Relation as Code
 use Rattle.rows.specs.Matching.{matches1, hits, selected}
 use Rattle.rows.specs.Fit.{draft, fits, sameColumns}
-use Rattle.rows.specs.Changes.{selection}
-use Rattle.rows.specs.Aggregates.{aggregated, columnFits}
 use Rattle.rows.specs.View.{noField, noRow, noSlot, valuesOf, columnsOf, relationOf, operandsOf, selectorOf, draftOf, Shaped}
-use Rattle.rows.specs.Contracts.{Holds, SplitIs, UpdatedIs}
 use Rattle.rows.proofs.FitLaws.{same-columns}
-use Rattle.rows.proofs.Prepared.{fits-long, fits-got, row-given}
+use Rattle.changes.specs.declared.Split.{Split}
+use Rattle.changes.specs.declared.Updated.{Updated}
+use Rattle.changes.specs.Changes.{selection}
+use Rattle.changes.specs.Aggregates.{aggregated, columnFits}
+use Rattle.changes.specs.Contracts.{Holds, SplitIs, UpdatedIs}
+use Rattle.changes.proofs.Prepared.{fits-long, fits-got, row-given}
 use Rattle.nets.specs.declared.Refusal.{Refusal}
 use Rattle.nets.specs.declared.Refusal.the-variants.{Misfit, Held, NoResult, Full}
 use Rattle.nets.specs.declared.Answer.the-variants.{Done, Refused}

@@ -7,7 +7,7 @@ use native.Mathlib.Omega.{arith}
 use borrow.Author.Tests.{eqb-true, eqb-false, ltb-true, ltb-false}
 use lib.Dec.{T, eqb, ltb}
 use Rattle.rows.specs.Relations.{Relation}
-use Rattle.rows.specs.Contracts.{Holds}
+use Rattle.changes.specs.Contracts.{Holds}
 use Rattle.acts.specs.declared.Effect.{Effect}
 use Rattle.nets.specs.Nets.{Kind, isSelect}
 use Rattle.nets.specs.View.{kindAt}

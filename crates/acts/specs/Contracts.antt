@@ -9,7 +9,7 @@ use Rattle.values.specs.declared.Slot.{Slot}
 use Rattle.values.specs.Operands.{varsOf}
 use Rattle.rows.specs.declared.Relation as Code
 use Rattle.rows.specs.View.{relationOf, operandsOf, Shaped, Short}
-use Rattle.rows.specs.Contracts.{Holds, Complete}
+use Rattle.changes.specs.Contracts.{Holds, Complete}
 use Rattle.nets.specs.declared.Node.{Node}
 use Rattle.acts.specs.declared.Effect.{Effect}
 use Rattle.nets.specs.Nets.{Kind, code, isSelect, isLoop}

@@ -11,8 +11,8 @@ use Rattle.values.specs.Operands.{Vars, isGot, valuesIn, bind}
 use Rattle.rows.specs.Relations.{Row, Relation}
 use Rattle.rows.specs.Matching.{matches1, hits, selected, unselected}
 use Rattle.rows.specs.Fit.{draft, fits, sameColumns}
-use Rattle.rows.specs.Changes.{changes, updated, selection}
-use Rattle.rows.specs.Aggregates.{aggregated, columnFits}
+use Rattle.changes.specs.Changes.{changes, updated, selection}
+use Rattle.changes.specs.Aggregates.{aggregated, columnFits}
 use Rattle.nets.specs.Nets.{Kind, acting, other, insert, insertTable, delete, update, create, drop, select, selectRelation, aggregate, sequential, parallel, badKind, Node}
 use Rattle.nets.specs.Answers.{Said, refusing, doing}
 

@@ -4,6 +4,7 @@ use nets::Net;
 use soundness::whole::sound_net;
 
 pub mod filling;
+pub mod loads;
 pub mod picking;
 pub mod programs;
 pub mod running;

@@ -16,9 +16,9 @@ use Rattle.rows.specs.declared.Selector.{Selector}
 use Rattle.rows.specs.declared.Operands.{Operands}
 use Rattle.rows.specs.Relations as M
 use Rattle.rows.specs.Fit.{draft}
-use Rattle.rows.specs.Changes.{draftFor}
 use Rattle.rows.specs.View.{relationOf, operandsOf, Ready}
-use Rattle.rows.specs.Contracts.{Holds, Complete}
+use Rattle.changes.specs.Changes.{draftFor}
+use Rattle.changes.specs.Contracts.{Holds, Complete}
 use Rattle.cases.specs.Kld.{Kld}
 
 pub width : (r : Relation) → Kld r → r .columns ≡ 4

@@ -1,5 +1,10 @@
 // The row layer on the worked cases of the Klaim-DB paper (its Figure 3 and Examples 2 to 6): the table KLD of one branch, in texts of four bytes.
 // Columns: shoe, colour, size, sales.
+use changes::aggregates::aggregate;
+use changes::changes::project;
+use changes::changes::push;
+use changes::changes::split;
+use changes::changes::update;
 use libc::STDOUT_FILENO;
 use printing::cells::put_rows;
 use printing::cells::put_value;
@@ -13,11 +18,6 @@ use rows::Relation;
 use rows::Row;
 use rows::Selector;
 use rows::Test;
-use rows::aggregates::aggregate;
-use rows::changes::project;
-use rows::changes::push;
-use rows::changes::split;
-use rows::changes::update;
 use values::Got;
 use values::Operand;
 use values::Slot;

@@ -2,4 +2,3 @@
 pub mod ByteLaws
 pub mod GroupLaws
 pub mod Stores
-pub mod WriteLaws

@@ -1,6 +1,5 @@
-// One record: what its 104 bytes say, and how a table's or a row's are written.
+// One record: what its 104 bytes say.
 pub mod bytes;
 pub mod forms;
 pub mod nodes;
 pub mod operands;
-pub mod puts;

@@ -13,8 +13,8 @@ use Rattle.values.specs.Operands.{bind}
 use Rattle.rows.specs.Relations.{Row, Columns}
 use Rattle.rows.specs.Matching.{matches, hits}
 use Rattle.rows.specs.Fit.{draft, sameColumns}
-use Rattle.rows.specs.Changes.{tupleFor, changes, selectedColumns}
-use Rattle.rows.specs.Aggregates.{aggregated}
+use Rattle.changes.specs.Changes.{tupleFor, changes, selectedColumns}
+use Rattle.changes.specs.Aggregates.{aggregated}
 use Rattle.nets.specs.Nets.{Table, code, Node, Net, Outcome}
 use Rattle.nets.specs.Tables.{distinct, change}
 use Rattle.nets.specs.Sound.{isEmpty, fieldsOkAs, linksOkAs, sound}

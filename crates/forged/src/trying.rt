@@ -17,8 +17,8 @@ use printing::pages::put_byte;
 use printing::pages::put_bytes;
 use printing::pages::put_decimal;
 use printing::pages::write_page;
-use records::writing::write;
 use steps::stepping::step;
+use writing::writing::write;
 ghost use Prim.Native.Nat.{_<_, _≤_};
 
 fn put_same(page: &mut [u8; 4096], at: usize, same: bool) -> usize

@@ -1,4 +1,4 @@
--- Laws for the code of loading and writing.
+-- Laws for the code of loading.
 pub mod AliasLaws
 pub mod FormLaws
 pub mod LeftLaws
@@ -7,4 +7,3 @@ pub mod LoadCall
 pub mod PlaceTies
 pub mod RowLaws
 pub mod WalkLaws
-pub mod WholeLaws

@@ -1,2 +1,1 @@
-pub mod WriteCall
 pub mod Walking

@@ -1,4 +1,4 @@
-// Files of 104-byte records: loading and writing.
+// Files of 104-byte records: loading.
 use nets::Alias;
 use nets::Net;
 use nets::Node;
@@ -16,7 +16,6 @@ pub mod picks;
 pub mod starts;
 pub mod tables;
 pub mod walking;
-pub mod writing;
 
 // A place in the file: of the next record, with the group of the last one looked at and the number of the fault there, 0 for none.
 pub struct Reach {

@@ -1,13 +1,6 @@
 -- Laws that belong to no one function.
-pub mod AggregateLaws
 pub mod Agreeing
-pub mod Appending
-pub mod Building
-pub mod Columns
 pub mod FitLaws
 pub mod Fours
 pub mod Lengths
 pub mod PlanLaws
-pub mod Prepared
-pub mod RangeLaws
-pub mod SelectLaws

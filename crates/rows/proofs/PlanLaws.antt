@@ -7,7 +7,7 @@ use mathlib.Core.Option.{Option, none, some}
 use native.Mathlib.Omega.{arith}
 use borrow.Author.Tests.{eqb-true, eqb-false, ltb-true, ltb-false, lt-ltb}
 use lib.Dec.{eqb, ltb, leb·suc-suc, leb·suc-zero}
-use lib.ListN.{length, drop, getD, set, length-map, List·getD-map, List·getD-eq-default}
+use lib.ListN.{length, drop, getD, set, length-map, List·getD-eq-default}
 use lib.Seq.{drop-cons, getD-set-same, getD-set-other}
 use Rattle.values.specs.declared.Value.{Value}
 use Rattle.values.specs.declared.Got.{Got}
@@ -15,7 +15,7 @@ use Rattle.values.specs.declared.Got.the-variants.{Nothing, One}
 use Rattle.values.specs.declared.Operand.{Operand}
 use Rattle.values.specs.declared.Operand.the-variants.{Absent, ConstInt, ConstText, ConstLoc, Var, Plus, Formal}
 use Rattle.values.specs.Lists.{firsts}
-use Rattle.values.specs.Operands.{Vars, eval, add, formalOf, bind, bindTo, kindIn}
+use Rattle.values.specs.Operands.{Vars, eval, add, formalOf, bind, bindTo}
 use Rattle.values.proofs.BindLaws.{length-to, length-bind}
 use Rattle.values.proofs.Firsts.{length-firsts, firsts-at, map-firsts}
 use Rattle.rows.specs.declared.Cell.{Cell}
@@ -26,9 +26,8 @@ use Rattle.rows.specs.declared.Source.the-variants.{Fixed, Column}
 use Rattle.rows.specs.declared.Want.the-variants.{Anything}
 use Rattle.rows.specs.declared.Wanted.{Wanted}
 use Rattle.rows.specs.Matching.{matches, matches1, rowVars}
-use Rattle.rows.specs.Changes.{kindsOf}
-use Rattle.rows.specs.View.{noCell, noField, valuesOf, columnsOf}
-use Rattle.rows.specs.Plans.{isFormalOf, formalPlace, sourceOf, termOf, gotAt, sourceGot, termGot, sourceKind, wantOf, meets, wantsMet}
+use Rattle.rows.specs.View.{noCell, noField, valuesOf}
+use Rattle.rows.specs.Plans.{isFormalOf, formalPlace, sourceOf, termOf, gotAt, sourceGot, termGot, wantOf, meets, wantsMet}
 
 -- ── what formals bind ──
 
@@ -105,15 +104,6 @@ module _ (e : Vars) (t : List Operand) (n : ℕ) (long : length e ≡ 16) (short
   term-got row (Var i) = source-got row i
   term-got row (Plus i k) = ap (add k) (source-got row i)
   term-got row (Formal i) = refl
-
-  -- the kind of a variable's source, in columns of kinds `ks`
-  pub source-kind : (ks : List ℕ) (i : ℕ) → sourceKind (sourceOf e t i) ks ≡ getD (bind t (columnsOf n ks) (kindsOf e)) i 0
-  source-kind ks i =
-      source-read (λ s. sourceKind s ks) e t (columnsOf n ks) (kindsOf e) 0 short-t (count ∙ sym is-n) (λ j h. firsts-at (λ (k : ℕ). k) 0 n ks j 0 (subst (λ (m : ℕ). j < m) is-n h))
-      (length-map e kindIn ∙ long) (λ j. sym (List·getD-map kindIn e j Nothing)) refl i
-    where
-      is-n : length (columnsOf n ks) ≡ n
-      is-n = length-firsts (λ (k : ℕ). k) 0 n ks
 
 -- ── wants ──
 

@@ -1,12 +1,10 @@
-// Rows and relations: what templates match, what steps select, change and sum up. All by value.
+// Rows and relations: what templates match and bind, and which rows fit. All by value.
 use values::Got;
 use values::Operand;
 use values::Slot;
 use values::Value;
 
-pub mod aggregates;
 pub mod binding;
-pub mod changes;
 pub mod fit;
 pub mod plans;
 
@@ -107,22 +105,4 @@ pub struct Plan {
 pub struct Draft {
     pub slots: [Slot; 4],
     pub count: usize,
-}
-
-// A relation in two parts.
-pub struct Split {
-    pub kept: Relation,
-    pub taken: Relation,
-}
-
-// A relation with some rows replaced, and how many.
-pub struct Updated {
-    pub relation: Relation,
-    pub number: usize,
-}
-
-// A row after an update, and whether it was replaced.
-pub struct Renewed {
-    pub changed: bool,
-    pub row: Row,
 }

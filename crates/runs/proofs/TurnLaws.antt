@@ -70,22 +70,22 @@ turned-both s m r ps qs a b = record {
 -- ── the loop over the slice ──
 
 -- i picks are behind
-pub record Going (net : Net) (ys : List Pick) (i : ℕ) (s : Ran) : Type 0 where
+pub record SoFar (net : Net) (ys : List Pick) (i : ℕ) (s : Ran) : Type 0 where
   pub first : Ran
   pub begun : Begun net first
   pub upto : i ≤ length ys
   pub behind : Turned first (take i ys) s
 
-pub going-start : (net : Net) (ys : List Pick) (s : Ran) → Begun net s → Going net ys 0 s
-going-start net ys s b = record {
+pub so-far-start : (net : Net) (ys : List Pick) (s : Ran) → Begun net s → SoFar net ys 0 s
+so-far-start net ys s b = record {
   first = s;
   begun = b;
   upto = omega arith;
   behind = turned-none s (b .flag ∙ ap (λ (n : Net). sound (view n)) (sym (b .same)));
 }
 
-pub going-next : (net : Net) (ys : List Pick) (i : ℕ) (s r : Ran) (d : Pick) → i < length ys → Going net ys i s → Turned s (getD ys i d ∷ []) r → Going net ys (i + 1) r
-going-next net ys i s r d l g t = record {
+pub so-far-next : (net : Net) (ys : List Pick) (i : ℕ) (s r : Ran) (d : Pick) → i < length ys → SoFar net ys i s → Turned s (getD ys i d ∷ []) r → SoFar net ys (i + 1) r
+so-far-next net ys i s r d l g t = record {
   first = g .first;
   begun = g .begun;
   upto = omega arith;
@@ -93,8 +93,8 @@ going-next net ys i s r d l g t = record {
 }
 
 -- a list in memory is so short that the sums have room
-pub going-ready : (net : Net) (ys : List Pick) (i : ℕ) (s : Ran) → length ys * 2 < 2 ^ 63 → i < length ys → Going net ys i s → Ready s
-going-ready net ys i s room l g =
+pub so-far-ready : (net : Net) (ys : List Pick) (i : ℕ) (s : Ran) → length ys * 2 < 2 ^ 63 → i < length ys → SoFar net ys i s → Ready s
+so-far-ready net ys i s room l g =
     let n = length-take-le i ys (omega arith) in
     record {
       flag = g .behind .flag;
@@ -124,8 +124,8 @@ run-is net ys f s b t = record {
     taken-is : totalOf (s .taken) ≡ reportedTaken (view net) ys
     taken-is = let n = ap (λ (n : Net). reportedTaken (view n) ys) (b .same) in let z = ap totalOf (b .taken) in omega (arith, t .taken, z, n)
 
-pub going-over : (net : Net) (ys : List Pick) (i : ℕ) (s : Ran) → length ys ≤ i → Going net ys i s → RunIs net ys s
-going-over net ys i s l g = run-is net ys (g .first) s (g .begun) (rw (← take-all i ys l) (g .behind))
+pub so-far-all : (net : Net) (ys : List Pick) (i : ℕ) (s : Ran) → length ys ≤ i → SoFar net ys i s → RunIs net ys s
+so-far-all net ys i s l g = run-is net ys (g .first) s (g .begun) (rw (← take-all i ys l) (g .behind))
 
 -- ── one pick ──
 

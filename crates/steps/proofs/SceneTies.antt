@@ -29,11 +29,12 @@ use Rattle.nets.specs.Tables.{isAt, tableAt, contentOf}
 use Rattle.nets.specs.Scenes.{Scene, sceneOf, site, table, stillToVisit}
 use Rattle.nets.specs.Steps.{judge, checks, step}
 use Rattle.nets.specs.View.{noAlias, noTable, noFrame, noNode, noThread, nodeOf, tableOf, entryOf, stackOf, threadOf, tablesOf, view}
-use Rattle.turns.specs.Contracts.{Stacked, outcomeAt, Meets, relationRead, Fine}
+use Rattle.threads.specs.Contracts.{Stacked}
+use Rattle.turns.specs.Contracts.{outcomeAt, Meets, relationRead, Fine}
 use Rattle.nets.proofs.SoundLaws.{clauses}
 use Rattle.nets.proofs.SureLaws.{StackFacts, stack-facts, entry-node, node-at}
 use Rattle.nets.proofs.RoundLaws.{visits-ok}
-use Rattle.turns.proofs.ThreadLaws.{length-stack}
+use Rattle.threads.proofs.ThreadLaws.{length-stack}
 use Rattle.turns.proofs.SituationLaws.{Within, shaped}
 use Rattle.nets.proofs.TablePlaces.{placeAt, table-there, table-at}
 

@@ -22,8 +22,8 @@ use Rattle.nets.specs.declared.Answer.the-variants.{Done, Refused}
 use Rattle.nets.specs.declared.Frame.{Frame}
 use Rattle.turns.specs.declared.Located.{Located}
 use Rattle.turns.specs.declared.Change.{Change}
-use Rattle.steps.specs.declared.TableList.{TableList}
-use Rattle.steps.specs.declared.ThreadList.{ThreadList}
+use Rattle.lists.specs.declared.TableList.{TableList}
+use Rattle.lists.specs.declared.ThreadList.{ThreadList}
 use Rattle.nets.specs.declared.Net.{Net}
 use Rattle.nets.specs.declared.Stepped.{Stepped}
 use Rattle.nets.specs.Nets as M
@@ -36,8 +36,9 @@ use Rattle.nets.specs.Accounts.{netLeft}
 use Rattle.nets.specs.View.{noTable, noThread, kindAt, tableOf, nodeOf, threadOf, tablesOf, threadsOf, view}
 use Rattle.nets.specs.Answers.{Said, refusing, numberOf, answerOf, saidOf, StepIs}
 use Rattle.acts.specs.Contracts.{isDoing}
-use Rattle.turns.specs.Contracts.{putsRows, laterChecks, outcomeAt, standing, forksOf, ChangeIs}
-use Rattle.steps.specs.Contracts.{putContent, tablesWith}
+use Rattle.threads.specs.Contracts.{standing, forksOf}
+use Rattle.turns.specs.Contracts.{putsRows, laterChecks, outcomeAt, ChangeIs}
+use Rattle.lists.specs.Contracts.{putContent, tablesWith}
 use Rattle.nets.proofs.StepLaws.{Passed}
 use Rattle.nets.proofs.AnswerLaws.{refuses-11}
 use Rattle.nets.proofs.RoundLaws.{given}

@@ -1,18 +1,2 @@
 // The single step.
-use nets::Table;
-use nets::Thread;
-
-pub mod lists;
-pub mod places;
 pub mod stepping;
-
-// A list of tables, and of threads.
-pub struct TableList {
-    pub tables: [Table; 8],
-    pub count: usize,
-}
-
-pub struct ThreadList {
-    pub threads: [Thread; 8],
-    pub count: usize,
-}

@@ -1,7 +1,7 @@
 // The single step: the one place that reads the net's lists by a place and stores to them.
-use crate::lists::tables_after;
-use crate::lists::threads_after;
-use crate::places::site_of;
+use lists::lists::tables_after;
+use lists::lists::threads_after;
+use lists::places::site_of;
 use nets::Answer;
 use nets::Entry;
 use nets::Net;
@@ -17,11 +17,11 @@ use rows::Cell;
 use rows::Relation;
 use rows::Row;
 use soundness::whole::sound_net;
+use threads::threads::node_of;
+use threads::threads::top_frame;
 use turns::Located;
 use turns::Situation;
 use turns::deciding::decide;
-use turns::threads::node_of;
-use turns::threads::top_frame;
 use values::Site;
 use values::Value;
 use values::eval::eval_in;

@@ -17,8 +17,8 @@ use Rattle.values.proofs.BindLaws.{known-passes}
 use Rattle.rows.specs.Relations.{Row}
 use Rattle.rows.specs.Matching.{rowVars}
 use Rattle.rows.specs.Fit.{draft}
-use Rattle.rows.specs.Changes.{draftFor}
-use Rattle.rows.specs.Contracts.{Complete}
+use Rattle.changes.specs.Changes.{draftFor}
+use Rattle.changes.specs.Contracts.{Complete}
 use Rattle.nets.specs.Nets.{Kind, acting, other, insert, insertTable, delete, update, create, drop, select, selectRelation, aggregate, sequential, parallel, badKind, isSelect, Node, Bindings}
 use Rattle.nets.specs.Sound.{tagged, operandsOk, bindingsOk, fieldsOkAs, nodeOkAs}
 use Rattle.nets.specs.Steps.{isBound, isHeld, known, readsOk}

@@ -11,7 +11,7 @@ use Rattle.values.specs.Operands.{Vars}
 use Rattle.rows.specs.declared.Relation as Code
 use Rattle.rows.specs.Relations.{Relation}
 use Rattle.rows.specs.View.{relationOf}
-use Rattle.rows.specs.Contracts.{Holds}
+use Rattle.changes.specs.Contracts.{Holds}
 use Rattle.nets.specs.declared.Refusal.{Refusal}
 use Rattle.nets.specs.declared.Answer.{Answer}
 use Rattle.nets.specs.declared.Answer.the-variants.{Done, Refused}
@@ -28,7 +28,8 @@ use Rattle.nets.specs.Answers.{Said, refusing, answerOf, numberOf, saidOf}
 use Rattle.acts.specs.Effects.{Parts, saidBy}
 use Rattle.nets.specs.View.{kindAt, threadOf}
 use Rattle.acts.specs.Contracts.{isDoing, isStep, partsOf, EffectIs}
-use Rattle.turns.specs.Contracts.{locatedOf, outcomeAt, Meets, boundWith, standing, putsRows, ChangeIs}
+use Rattle.threads.specs.Contracts.{standing}
+use Rattle.turns.specs.Contracts.{locatedOf, outcomeAt, Meets, boundWith, putsRows, ChangeIs}
 use Rattle.nets.proofs.KindLaws.{at-one}
 use Rattle.turns.proofs.EffectTies.{PartsIn, effect-answer, puts-there, content-columns, content-rows, boundIn, effect-bindings, effect-threads}
 use Rattle.turns.proofs.MeetTies.{met-kind, met-parts}

@@ -10,7 +10,7 @@ use Rattle.values.specs.Operands.{bind}
 use Rattle.values.proofs.Bools.{and-r, is-true, T-of, not-T→false}
 use Rattle.rows.specs.Relations.{Relation}
 use Rattle.rows.specs.Matching.{selected}
-use Rattle.rows.specs.Aggregates.{aggregated}
+use Rattle.changes.specs.Aggregates.{aggregated}
 use Rattle.nets.specs.Nets.{Kind, acting, other, insert, insertTable, delete, update, create, drop, select, selectRelation, aggregate, sequential, parallel, badKind, code, needsTable, readsRelation, bindsRelation, isLoop, Bindings, Outcome}
 use Rattle.nets.specs.Tables.{tableAt, contentOf, rowsOf, columnsOf}
 use Rattle.nets.specs.Scenes.{Scene, below, vars, site, table, relation, source, hitRows, ownDraft, result, opens}

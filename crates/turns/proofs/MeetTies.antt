@@ -15,10 +15,11 @@ use Rattle.nets.specs.Scenes.{Scene, vars, template, relation, source}
 use Rattle.nets.specs.Steps.{roomForRound}
 use Rattle.nets.specs.View.{kindAt}
 use Rattle.acts.specs.Contracts.{partsOf}
-use Rattle.turns.specs.Contracts.{visitOf, Meets, relationRead}
+use Rattle.threads.specs.Contracts.{visitOf}
+use Rattle.turns.specs.Contracts.{Meets, relationRead}
 use Rattle.turns.proofs.EffectTies.{PartsIn}
 use Rattle.turns.proofs.RoundTies.{turnAt, turnIn, loop-turn}
-use Rattle.turns.proofs.ThreadLaws.{length-stack}
+use Rattle.threads.proofs.ThreadLaws.{length-stack}
 
 module _ (s : Situation) (c : Scene) (m : Meets s c) where
   pub met-kind : c .node .kind ≡ kindAt (s .node .kind)

@@ -16,7 +16,8 @@ use Rattle.nets.specs.Scenes.{Scene, below, vars, template, siteOfL, table, rel
 use Rattle.nets.specs.Steps.{check12, check13, check14, check15, check16, check17, check18, check19, check20, roomForRound, addedBy, takenBy, bindingsBy, withBindings, goOn, settle, sequentialRound, parallelRound, threadsAfter}
 use Rattle.nets.specs.Answers.{Said, refusing, doing, answerOf}
 use Rattle.acts.specs.Effects.{passing}
-use Rattle.turns.specs.Contracts.{Turned, over, opened, stopped, turnBy, readyAt, outcomeAt}
+use Rattle.threads.specs.Contracts.{Turned, over, opened, stopped, turnBy, readyAt}
+use Rattle.turns.specs.Contracts.{outcomeAt}
 use Rattle.turns.proofs.EffectTies.{laterSaid, later-said, read-source}
 use Rattle.nets.proofs.RoundLaws.{loop-reads}
 

@@ -18,7 +18,7 @@ use Rattle.rows.specs.declared.Operands.{Operands}
 use Rattle.rows.specs.declared.Relation as Code
 use Rattle.rows.specs.Relations.{Relation}
 use Rattle.rows.specs.View.{noRow, noField, valuesOf, relationOf, operandsOf, Shaped, Short}
-use Rattle.rows.specs.Contracts.{Complete}
+use Rattle.changes.specs.Contracts.{Complete}
 use Rattle.nets.specs.declared.TableVariable.{TableVariable}
 use Rattle.turns.specs.declared.Situation.{Situation}
 use Rattle.nets.specs.Nets as M
@@ -28,7 +28,8 @@ use Rattle.nets.specs.Scenes.{Scene, source}
 use Rattle.nets.specs.Steps.{isBound, isHeld, readsOk, check12}
 use Rattle.nets.specs.View.{kindAt, nodeOf, variableOf, threadOf}
 use Rattle.acts.specs.Contracts.{flagAt, isStep, ActReady}
-use Rattle.turns.specs.Contracts.{visitOf, Meets, relationRead, Fine, Known, SourceIs}
+use Rattle.threads.specs.Contracts.{visitOf}
+use Rattle.turns.specs.Contracts.{Meets, relationRead, Fine, Known, SourceIs}
 use Rattle.turns.proofs.EffectTies.{read-source, own-source}
 use Rattle.nets.proofs.RoundLaws.{given, loop-reads}
 use Rattle.turns.proofs.CompleteLaws.{select-complete}

@@ -18,9 +18,9 @@ use Rattle.nets.specs.declared.Refusal.{Refusal}
 use Rattle.nets.specs.declared.Answer.the-variants.{Done}
 use Rattle.nets.specs.declared.Thread.{Thread}
 use Rattle.nets.specs.declared.Frame.{Frame}
-use Rattle.turns.specs.declared.Round.{Round}
-use Rattle.turns.specs.declared.Turn.{Turn}
-use Rattle.turns.specs.declared.Turn.the-variants.{Over, Opened, Stopped}
+use Rattle.threads.specs.declared.Round.{Round}
+use Rattle.threads.specs.declared.Turn.{Turn}
+use Rattle.threads.specs.declared.Turn.the-variants.{Over, Opened, Stopped}
 use Rattle.turns.specs.declared.Situation.{Situation}
 use Rattle.nets.specs.Nets as M
 use Rattle.nets.specs.Nets.{Kind, acting, other, insert, insertTable, delete, update, create, drop, select, selectRelation, aggregate, sequential, parallel, badKind, isLoop, isParallel, toRun, visiting}
@@ -29,7 +29,8 @@ use Rattle.nets.specs.Scenes.{Scene, below, stillToVisit, vars, template, rowAt
 use Rattle.nets.specs.Steps.{roomForRound, check12, loopEntry, roundBindings, withBindings, withStack, withVars, goOn, settle}
 use Rattle.nets.specs.Answers.{refusing, answerOf, numberOf}
 use Rattle.nets.specs.View.{kindAt, marked, entryOf, bindingsOf, threadOf}
-use Rattle.turns.specs.Contracts.{turnOf, turnBy, opened, readyAt, visitOf, RoundIs, outcomeAt, Meets, relationRead, standing, putsRows, ChangeIs}
+use Rattle.threads.specs.Contracts.{turnOf, turnBy, opened, readyAt, visitOf, RoundIs, standing}
+use Rattle.turns.specs.Contracts.{outcomeAt, Meets, relationRead, putsRows, ChangeIs}
 use Rattle.nets.proofs.KindLaws.{at-one}
 use Rattle.turns.proofs.MeetTies.{met-kind, met-vars, met-template, met-relation, met-turn, met-room}
 use Rattle.turns.proofs.RoundTies.{turnedSaid, turnAt, turnIn, turn-answer, over-threads, sequential-threads, parallel-threads, loop-visit, loop-row}

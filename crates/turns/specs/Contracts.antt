@@ -1,92 +1,39 @@
 -- What the functions that decide on a step require and give back, part by part.
 use Prim.Native.Nat.{ℕ, _≤_, _<_}
 use mathlib.Core.Path.{_≡_}
-use mathlib.Core.Bool.{Bool, true, false, not, cond, _&&_}
+use mathlib.Core.Bool.{Bool, false, cond}
 use mathlib.Core.List.{List, [], _∷_, _++_}
 use mathlib.Core.Option.{Option, none, some}
-use lib.Dec.{T, eqb, ltb}
+use lib.Dec.{T, ltb}
 use lib.ListN.{getD, set, length}
 use Rattle.values.specs.declared.Site.{Site}
-use Rattle.values.specs.declared.Operand.{Operand}
-use Rattle.values.specs.Lists.{all, any, among, filter, isSome}
-use Rattle.values.specs.Operands.{Vars, varsOf}
+use Rattle.values.specs.Lists.{all, any, among, isSome}
+use Rattle.values.specs.Operands.{varsOf}
 use Rattle.rows.specs.declared.Relation as Code
 use Rattle.rows.specs.Relations.{Relation}
-use Rattle.rows.specs.Matching.{matches, rowVars}
 use Rattle.rows.specs.View.{relationOf, Shaped}
-use Rattle.rows.specs.Contracts.{Holds}
+use Rattle.changes.specs.Contracts.{Holds}
 use Rattle.turns.specs.declared.Located.{Located}
 use Rattle.turns.specs.declared.Located.the-variants.{Nowhere, At}
-use Rattle.nets.specs.declared.Frame.{Frame}
-use Rattle.nets.specs.declared.Thread.{Thread}
 use Rattle.acts.specs.declared.Effect.{Effect}
-use Rattle.turns.specs.declared.Turn.{Turn}
-use Rattle.turns.specs.declared.Turn.the-variants.{Over, Opened, Stopped}
-use Rattle.turns.specs.declared.Round.{Round}
 use Rattle.turns.specs.declared.Situation.{Situation}
 use Rattle.turns.specs.declared.Change.{Change}
 use Rattle.nets.specs.Nets as M
 use Rattle.nets.specs.Nets.{Kind, code, isLoop, readsRelation, bindsRelation, Outcome}
 use Rattle.nets.specs.Tables.{tableAt, contentOf, rowsOf, columnsOf}
 use Rattle.nets.specs.Sound.{nodeOkAs, bindingsOk}
-use Rattle.nets.specs.Scenes.{Scene, stillToVisit, site, siteOfL, table}
-use Rattle.nets.specs.Steps.{isBound, isHeld, readsOk, holds, keepThread, settle, tablesBy, threadsAfter, performed, Check, check, check12, check13, check14, check15, check16, check17, check18, check19, check20, judge}
-use Rattle.nets.specs.View.{kindAt, nodeOf, entryOf, threadOf, marked}
-use Rattle.nets.specs.Answers.{answerOf, numberOf, saidOf}
+use Rattle.nets.specs.Scenes.{Scene, site, siteOfL, table}
+use Rattle.nets.specs.Steps.{isBound, isHeld, readsOk, holds, settle, tablesBy, threadsAfter, performed, Check, check, check12, check13, check14, check15, check16, check17, check18, check19, check20, judge}
+use Rattle.nets.specs.View.{kindAt, nodeOf, entryOf, threadOf}
+use Rattle.nets.specs.Answers.{answerOf, saidOf}
 use Rattle.acts.specs.Contracts.{isDoing}
+use Rattle.threads.specs.Contracts.{visitOf, Stacked, standing, forksOf}
 
 -- ── places ──
 
 abbrev pub locatedOf : Located → Option Site
 locatedOf Nowhere = none
 locatedOf (At s) = some s
-
--- ── rounds of loops ──
-
--- over, a round, or refused with a number
-pub data Turned : Type 0 where
-  over opened : Turned
-  stopped : ℕ → Turned
-
-abbrev pub turnOf : Turn → Turned
-turnOf Over = over
-turnOf Opened = opened
-turnOf (Stopped r) = stopped (numberOf r)
-
--- from the tests: T is as long as the columns, a row still to visit matches, the row picked is one, there is room
-abbrev pub turnBy : Bool → Bool → Bool → Bool → Turned
-turnBy false a q r = stopped 16
-turnBy true false q r = over
-turnBy true true false r = stopped 19
-turnBy true true true false = stopped 20
-turnBy true true true true = opened
-
--- the places still to visit in a relation
-abbrev pub visitOf : Frame → Relation → List ℕ
-visitOf f r = stillToVisit (entryOf f) (length (r .rows))
-
-abbrev pub readyAt : Vars → List Operand → Relation → ℕ → Bool
-readyAt e t r i = matches e t (getD (r .rows) i [])
-
--- a round on a row: its place leaves the set, and T's formals bind to it
-pub record OpenedIs (e : Vars) (t : List Operand) (r : Relation) (v : List ℕ) (row : ℕ) (o : Round) : Type 0 where
-  pub turn : o .turn ≡ Opened
-  pub visit : marked 0 (o .visit) ≡ filter (λ i. not (eqb i row)) v
-  pub vars : varsOf (o .vars) ≡ rowVars e t (getD (r .rows) row [])
-
-pub record RoundIs (e : Vars) (t : List Operand) (r : Relation) (f : Frame) (row : ℕ) (room : Bool) (o : Round) : Type 0 where
-  pub turn :
-      turnOf (o .turn)
-      ≡ turnBy (eqb (length t) (length (r .columns))) (any (readyAt e t r) (visitOf f r)) (among row (visitOf f r) && readyAt e t r row) room
-  pub visit : turnOf (o .turn) ≡ opened → marked 0 (o .visit) ≡ filter (λ i. not (eqb i row)) (visitOf f r)
-  pub vars : turnOf (o .turn) ≡ opened → varsOf (o .vars) ≡ rowVars e t (getD (r .rows) row [])
-
--- ── threads ──
-
--- a stack with an entry, within its array
-pub record Stacked (t : Thread) : Type 0 where
-  pub some : 1 ≤ t .depth
-  pub few : t .depth ≤ 8
 
 -- ── the step from small parts ──
 
@@ -152,15 +99,6 @@ boundWith s e =
       vars = varsOf (e .vars);
       relations = cond (bindsRelation (kindAt (s .node .kind))) (set (threadOf (s .thread) .bindings .relations) (s .node .bound) (some (relationOf (e .bound)))) (threadOf (s .thread) .bindings .relations);
     }
-
--- what becomes of a thread: itself, or nothing where its stack is empty
-abbrev pub standing : M.Thread → List M.Thread
-standing t = keepThread t (t .stack)
-
--- the new thread of a parallel round, if there is one
-abbrev pub forksOf : Bool → Thread → List M.Thread
-forksOf false t = []
-forksOf true t = threadOf t ∷ []
 
 -- the step changes the rows of a table that stays
 abbrev pub putsRows : Kind → Bool

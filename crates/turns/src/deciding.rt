@@ -2,17 +2,6 @@
 use crate::Change;
 use crate::Located;
 use crate::Situation;
-use crate::Turn;
-use crate::loops::round;
-use crate::threads::forked;
-use crate::threads::go_on;
-use crate::threads::node_of;
-use crate::threads::push_frame;
-use crate::threads::run_frame;
-use crate::threads::table_variable;
-use crate::threads::with_relation;
-use crate::threads::with_top;
-use crate::threads::with_vars;
 use acts::Effect;
 use acts::acts::act;
 use acts::reading::bound_flags;
@@ -29,6 +18,17 @@ use nets::kinds::is_loop;
 use nets::kinds::needs_table;
 use nets::kinds::reads_relation;
 use rows::Relation;
+use threads::Turn;
+use threads::loops::round;
+use threads::threads::forked;
+use threads::threads::go_on;
+use threads::threads::node_of;
+use threads::threads::push_frame;
+use threads::threads::run_frame;
+use threads::threads::table_variable;
+use threads::threads::with_relation;
+use threads::threads::with_top;
+use threads::threads::with_vars;
 ghost use mathlib.Core.Path.{_≡_};
 ghost use mathlib.Core.Bool.{true, false};
 ghost use lib.Dec.{T};
@@ -38,7 +38,8 @@ ghost use Rattle.nets.specs.Scenes.{Scene, below};
 ghost use Rattle.nets.specs.Steps.{check13, check14, check15, goOn, withBindings};
 ghost use Rattle.nets.specs.View.{kindAt, threadOf};
 ghost use Rattle.acts.specs.Contracts.{isStep};
-ghost use Rattle.turns.specs.Contracts.{locatedOf, Meets, Fine, Known, SourceIs, boundWith, standing, ChangeIs};
+ghost use Rattle.threads.specs.Contracts.{standing};
+ghost use Rattle.turns.specs.Contracts.{locatedOf, Meets, Fine, Known, SourceIs, boundWith, ChangeIs};
 
 // A refusal changes nothing.
 pub fn refuses(r: Refusal, s: Situation) -> Change

@@ -2,15 +2,11 @@
 use nets::Answer;
 use nets::Frame;
 use nets::Node;
-use nets::Refusal;
 use nets::Thread;
 use rows::Relation;
 use values::Site;
-use values::Slot;
 
 pub mod deciding;
-pub mod loops;
-pub mod threads;
 
 // What a site's locality means.
 pub enum Located {
@@ -40,18 +36,4 @@ pub struct Change {
     pub thread: Thread,
     pub forks: bool,
     pub fork: Thread,
-}
-
-// What a loop's pick comes to: over, a round opened, or refused.
-pub enum Turn {
-    Over,
-    Opened,
-    Stopped(Refusal),
-}
-
-// A round's visit set without the row picked, and the variables with T's formals bound to it.
-pub struct Round {
-    pub turn: Turn,
-    pub visit: [bool; 16],
-    pub vars: [Slot; 16],
 }

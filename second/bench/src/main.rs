@@ -2,10 +2,12 @@
 //! feature `proved`, through the proved code, then whole runs, and prints the times and their ratios.
 
 mod chain;
+mod loads;
 mod long;
 mod nets;
 mod proved;
 mod second;
+mod sqlite;
 #[cfg(test)]
 mod tests;
 mod timing;
@@ -42,6 +44,17 @@ fn main() {
     println!("Nanoseconds a pick in whole runs, soundness tested once.");
     println!();
     long::report();
+    println!();
+    println!("Nanoseconds a load.");
+    println!();
+    loads::report();
+    println!();
+    match sqlite::update_time() {
+        Some(time) => {
+            println!("SQLite, the same update in memory, prepared: {} ns.", time.as_nanos())
+        }
+        None => println!("SQLite is not installed here, so it is not measured."),
+    }
     if !proved::LINKED {
         println!();
         println!("Without the proved code; second/README.md says how to link it.");

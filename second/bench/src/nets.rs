@@ -32,9 +32,14 @@ const COLUMNS: [u8; 4] = [INT, TEXT, INT, LOC];
 
 /// A file has at most 256 records, which is too few for all of such a net, so there are two.
 pub fn net(kind: Kind) -> Result<Net, Fault> {
-    let (tables, _) = load(&file(&tables(kind)))?;
-    let (program, _) = load(&file(&program(kind)))?;
+    let [(_, tables), (_, program)] = files(kind);
+    let (tables, _) = load(&tables)?;
+    let (program, _) = load(&program)?;
     Ok(Net { aliases: tables.aliases, tables: tables.tables, ..program })
+}
+
+pub fn files(kind: Kind) -> [(&'static str, Vec<u8>); 2] {
+    [("aliases, tables and rows", file(&tables(kind))), ("nodes and starts", file(&program(kind)))]
 }
 
 /// Aliases, tables and rows.

@@ -12,6 +12,8 @@ mod library {
         pub fn bench_left(kind: u8) -> u64;
         pub fn bench_runs(kind: u8, bytes: *const u8, length: usize, turns: u64) -> u64;
         pub fn bench_tests(kind: u8, turns: u64) -> u64;
+        pub fn bench_loads(file: *const u8, length: usize, turns: u64) -> u64;
+        pub fn bench_loaded(file: *const u8, length: usize, turns: u64) -> u64;
     }
 }
 
@@ -34,6 +36,14 @@ mod library {
     }
 
     pub unsafe fn bench_tests(_: u8, _: u64) -> u64 {
+        0
+    }
+
+    pub unsafe fn bench_loads(_: *const u8, _: usize, _: u64) -> u64 {
+        0
+    }
+
+    pub unsafe fn bench_loaded(_: *const u8, _: usize, _: u64) -> u64 {
         0
     }
 }
@@ -64,4 +74,14 @@ pub fn runs(kind: Kind, picks: &[Pick], turns: u64) -> Option<u64> {
 /// So many tests of soundness on the net that a run begins with.
 pub fn tests(kind: Kind, turns: u64) -> Option<u64> {
     LINKED.then(|| unsafe { library::bench_tests(kind.number, turns) })
+}
+
+/// The sum over what so many loads of a file gave.
+pub fn loads(file: &[u8], turns: u64) -> Option<u64> {
+    LINKED.then(|| unsafe { library::bench_loads(file.as_ptr(), file.len(), turns) })
+}
+
+/// The same sum over one load, taken as often.
+pub fn loaded(file: &[u8], turns: u64) -> Option<u64> {
+    LINKED.then(|| unsafe { library::bench_loaded(file.as_ptr(), file.len(), turns) })
 }

@@ -3,7 +3,7 @@ use mathlib.Core.Path.{ap, sym, _∙_}
 use borrow.Author.Needs.{needs}
 use Rattle.rows.specs.declared.Function.{Function}
 use Rattle.rows.specs.View.{relationOf}
-use Rattle.rows.specs.Aggregates.{columnFits}
+use Rattle.changes.specs.Aggregates.{columnFits}
 use Rattle.acts.proofs.acts.column_fits.Statement.{statement}
 use Rattle.acts.proofs.acts.column_fits.Tie as tie
 

@@ -17,9 +17,9 @@ use Rattle.rows.specs.declared.Draft.{Draft}
 use Rattle.rows.specs.declared.Relation.{Relation}
 use Rattle.rows.specs.declared.Row.{Row}
 use Rattle.rows.specs.Fit.{fits, fitsRow}
-use Rattle.rows.specs.Contracts.{Holds}
 use Rattle.rows.specs.View.{noRow, noSlot, valuesOf, relationOf, draftOf}
-use Rattle.rows.proofs.Prepared.{fits-long, fits-got, row-given}
+use Rattle.changes.specs.Contracts.{Holds}
+use Rattle.changes.proofs.Prepared.{fits-long, fits-got, row-given}
 use Rattle.nets.specs.Sound.{operandsOk}
 use Rattle.nets.specs.Steps.{check}
 use Rattle.codec.specs.Bytes.{operandsIn}

@@ -17,8 +17,8 @@ use Rattle.values.proofs.Firsts.{length-firsts, firsts-at, firsts-set}
 use Rattle.rows.specs.declared.Relation.{Relation}
 use Rattle.rows.specs.Relations.{Row}
 use Rattle.rows.specs.Fit.{fitsRow}
-use Rattle.rows.specs.Contracts.{Holds}
 use Rattle.rows.specs.View.{relationOf}
+use Rattle.changes.specs.Contracts.{Holds}
 use Rattle.nets.specs.declared.Table.{Table}
 use Rattle.nets.specs.Nets as M
 use Rattle.nets.specs.Tables.{isAt, tableAt, rowsOf, columnsOf, withRows, change}

@@ -1,6 +1,6 @@
 -- `runs::running::run` meets its contract: a walk of its MIR, by hand. It is a loop over a slice of structs, which reads an element and calls the covered `turn` with it.
--- Nothing is known of `start` and of `turn` but their contracts. What the loop keeps is `Going` of specs/: the picks behind gave the state, and those ahead give the answer.
--- Every struct here owns only facts, so the walk carries cells and facts, and makes what is owned where a call or the exit asks for it (`owned`, by `LL.makes`).
+-- Nothing is known of `begin` and of `turn` but their contracts. What the loop keeps is `SoFar`: the picks behind led from the first state to this one.
+-- Every struct here owns only facts, so the walk carries cells and facts, and makes what is owned where a call or the exit asks for it.
 -- Assumes nothing.
 use mathlib.Core.Path.{_≡_, refl, sym}
 use mathlib.Core.Bool.{Bool, true, false}
@@ -49,7 +49,7 @@ use denote.Exit.{yes}
 use Rattle.runs.specs.Runs.{RunIs}
 use Rattle.counts.specs.States.{Begun}
 use Rattle.runs.specs.Turns.{Ready, Turned}
-use Rattle.runs.proofs.TurnLaws.{Going, going-start, going-next, going-over, going-ready}
+use Rattle.runs.proofs.TurnLaws.{SoFar, so-far-start, so-far-next, so-far-all, so-far-ready}
 use Rattle.nets.specs.declared.Pick.{Pick}
 use Rattle.nets.specs.declared.Net.{Net}
 use Rattle.counts.specs.declared.Ran.{Ran}
@@ -147,7 +147,7 @@ module _ {M : Type 1} (𝓤 : URA M) (H : Heap 𝓤) (A : Atoms 𝓤) (W : Given
     s : Ran
     u : Val
     is : Is R.the-row s (u ∷ [])
-    going : Going net ys i s
+    so-far : SoFar net ys i s
 
   abbrev Nearer : Turns → Turns → Type 0
   Nearer x y = n - x .i < n - y .i
@@ -185,7 +185,7 @@ module _ {M : Type 1} (𝓤 : URA M) (H : Heap 𝓤) (A : Atoms 𝓤) (W : Given
         elem-back ! P.the-row q′ ys (x .i) none (pval p ∷ []) b o less $ shuts-slice ! tt P.the-row q′ ys b o $
         -- [the token; the borrow; s; i; …]
         owned ! P.the-row (Is P.the-row) (LL.makes P.the-type P′.the-plain 𝓤 H A) p (pval p ∷ []) isP $ owned ! R.the-row (Is R.the-row) (LL.makes R.the-type R′.the-plain 𝓤 H A) (x .s) (x .u ∷ []) (x .is) $
-        use2 W (raw (Turn 𝓤 H A mem run .pre (to-turn (x .s) p (x .u) (pval p)))) (goes-turn (x .s) p (x .u) (pval p) (going-ready net ys (x .i) (x .s) (rm .1) less (x .going))) $
+        use2 W (raw (Turn 𝓤 H A mem run .pre (to-turn (x .s) p (x .u) (pval p)))) (goes-turn (x .s) p (x .u) (pval p) (so-far-ready net ys (x .i) (x .s) (rm .1) less (x .so-far))) $
         calls-at ! (fmOf 𝓤 H (W .laws) 𝓣) (Turn 𝓤 H A mem run) known-turn (to-turn (x .s) p (x .u) (pval p)) (and-then ! (load ! (from ! (stop !)) (look ! 3 refl)) (and-then ! (load ! (from ! (stop !)) (look ! 8 refl)) (no-more !))) (λ u′.
         use1 W (later (some (λ (r : Ran). (‵ ftrue ⊛ ‵ (R.the-row .own r (u′ ∷ []))) ⊛ raw (ensured 𝓤 H A turn.ended (turn.clauses 𝓤 H A mem run) tt (x .s, (p, tt)) tt r)))) (id⊢ 𝓤 _) $ await ! tt $ pick ! (λ r.
         split ! $ move ! (1 ∷ []) $ use1 W (raw (fact 𝓤 (Turned (x .s) (p ∷ []) r))) (turn-said 𝓤 H A mem run (x .s) p r) $ heard ! (Turned (x .s) (p ∷ []) r) (λ e′. split ! $ drop ! $
@@ -193,7 +193,7 @@ module _ {M : Type 1} (𝓤 : URA M) (H : Heap 𝓤) (A : Atoms 𝓤) (W : Given
         land ! (from ! (stop !)) (store ! 2 refl (LL.lawful R.the-type R′.the-laws 𝓤 H A W .typed r _ is′ .0)) $
         assigns-last ! (bin ! (load ! (from ! (stop !)) (look ! 3 refl)) (lit ! tt) (record { fits = next })) (from ! (stop !)) (store ! 3 refl (tt, record { fits = next })) $
         forget ! 4 refl $ forget ! 5 refl $ forget ! 6 refl $ forget ! 7 refl $ move ! (1 ∷ 0 ∷ []) $
-        again ! Nearer At x (record { i = x .i + 1; s = r; u = u′; is = is′; going = going-next net ys (x .i) (x .s) r none less (x .going) e′ }) (omega (arith, less))))))))
+        again ! Nearer At x (record { i = x .i + 1; s = r; u = u′; is = is′; so-far = so-far-next net ys (x .i) (x .s) r none less (x .so-far) e′ }) (omega (arith, less))))))))
       where
         less : x .i < n
         less = ltb-true (x .i) n e
@@ -215,7 +215,7 @@ module _ {M : Type 1} (𝓤 : URA M) (H : Heap 𝓤) (A : Atoms 𝓤) (W : Given
         -- [the borrow; the token; _3 _4 _5 _6 _7 _8; _2; _1; _0; and that _0 .. _8 die]
         move ! (10 ∷ 11 ∷ []) $ free1 ! $ move ! (9 ∷ 10 ∷ []) $ free1 ! $ move ! (8 ∷ 9 ∷ []) $ free1 ! $ move ! (2 ∷ 8 ∷ []) $ free1 ! $ move ! (2 ∷ 7 ∷ []) $ free1 ! $
         move ! (2 ∷ 6 ∷ []) $ free1 ! $ move ! (2 ∷ 5 ∷ []) $ free1 ! $ move ! (2 ∷ 4 ∷ []) $ free1 ! $ move ! (2 ∷ 3 ∷ []) $ free1 ! $ free0 ! $
-        keep ! (1 ∷ []) $ by ! (exits (x .s) (x .u) (x .is) (going-over net ys (x .i) (x .s) (ltb-false (x .i) n e) (x .going)))
+        keep ! (1 ∷ []) $ by ! (exits (x .s) (x .u) (x .is) (so-far-all net ys (x .i) (x .s) (ltb-false (x .i) n e) (x .so-far)))
 
     -- the loop, and what follows it
     looped : (x : Turns) → Sq W (At x) (runs (𝓣 .C) (𝓣 .Λ) En mir.t-3 (atRet En Post))
@@ -240,7 +240,7 @@ module _ {M : Type 1} (𝓤 : URA M) (H : Heap 𝓤) (A : Atoms 𝓤) (W : Given
         -- [the slice and nothing; the token and nothing; _8; …; _0; that _0 .. _8 die]
         fsplit ! $ fsplit ! $ drop ! $ fsplit ! $ move ! (3 ∷ []) $ split ! $
         keep ! (3 ∷ 0 ∷ 10 ∷ 9 ∷ 8 ∷ 7 ∷ 6 ∷ 5 ∷ 11 ∷ 12 ∷ 13 ∷ 14 ∷ 15 ∷ 16 ∷ 17 ∷ 18 ∷ 19 ∷ 20 ∷ 21 ∷ 22 ∷ []) $
-        looped (record { i = 0; s = r; u = u; is = is; going = going-start net ys r e })))))
+        looped (record { i = 0; s = r; u = u; is = is; so-far = so-far-start net ys r e })))))
 
   -- the function: its locals, and what it is passed
   walk : (𝓣 : Tables 𝓤 H) → Triple 𝓤 (𝓣 .C #begin) (Begin 𝓤 H A mem run) → Triple 𝓤 (𝓣 .C #turn) (Turn 𝓤 H A mem run)

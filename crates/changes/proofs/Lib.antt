@@ -1,0 +1,9 @@
+-- Laws that belong to no one function.
+pub mod AggregateLaws
+pub mod Appending
+pub mod Building
+pub mod Columns
+pub mod FitLaws
+pub mod Prepared
+pub mod RangeLaws
+pub mod SelectLaws

@@ -1,0 +1,3 @@
+-- Laws for the code of writing.
+pub mod WholeLaws
+pub mod WriteLaws
