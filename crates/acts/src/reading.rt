@@ -14,7 +14,7 @@ ghost use Prim.Native.Nat.{ℕ};
 ghost use Rattle.values.specs.Lists.{all, among};
 ghost use Rattle.values.specs.Operands.{isGot, reads, formals, varsOf};
 ghost use Rattle.rows.specs.View.{operandsOf, Short};
-ghost use Rattle.nets.specs.Steps.{isBound, isHeld, known, readsOk};
+ghost use Rattle.nets.specs.Steps.{isBound, isBoundTable, known, readsOk};
 ghost use Rattle.nets.specs.View.{nodeOf, variableOf};
 ghost use Rattle.acts.specs.Contracts.{flagAt};
 
@@ -45,8 +45,8 @@ pub fn bound_flags(vars: [Slot; 16]) -> [bool; 16]
 }
 
 // The table variables that are bound.
-pub fn held_flags(relations: [TableVariable; 2]) -> [bool; 2]
-    ensures { λ r. ⌜ ((i : ℕ) → flagAt r i ≡ isHeld (map variableOf relations) i) ⌝ }
+pub fn bound_table_flags(relations: [TableVariable; 2]) -> [bool; 2]
+    ensures { λ r. ⌜ ((i : ℕ) → flagAt r i ≡ isBoundTable (map variableOf relations) i) ⌝ }
 {
     let a = relations[0];
     let b = relations[1];
@@ -63,7 +63,7 @@ pub fn flag_in(flags: [bool; 16], i: u8) -> bool
     flags[at]
 }
 
-pub fn held_in(flags: [bool; 2], i: u8) -> bool
+pub fn bound_table_in(flags: [bool; 2], i: u8) -> bool
     ensures { λ r. ⌜ r ≡ flagAt flags i ⌝ }
 {
     let at = i as usize;
@@ -141,9 +141,9 @@ pub fn none_of(t: Operands) -> Operands
 }
 
 // L, T and T' read bound variables; the predicate and t also formals of T.
-pub fn reads_ok(node: Node, flags: [bool; 16], held: [bool; 2]) -> bool
+pub fn reads_ok(node: Node, flags: [bool; 16], tables: [bool; 2]) -> bool
     requires { ⌜ Short (node .selector .template) × Short (node .tuple) ⌝ }
-    ensures { λ r. ⌜ r ≡ readsOk (flagAt flags) (flagAt held) (nodeOf node) ⌝ }
+    ensures { λ r. ⌜ r ≡ readsOk (flagAt flags) (flagAt tables) (nodeOf node) ⌝ }
 {
     let kind = node.kind;
     let read = node.read;
@@ -161,5 +161,5 @@ pub fn reads_ok(node: Node, flags: [bool; 16], held: [bool; 2]) -> bool
     let rest = operand_known(left, flags, template)
         & operand_known(right, flags, template)
         & operands_known(tuple, flags, template);
-    own & rest & (!reads_relation(kind) | held_in(held, read))
+    own & rest & (!reads_relation(kind) | bound_table_in(tables, read))
 }

@@ -25,8 +25,8 @@ use Rattle.nets.specs.Scenes.{Scene, below, sceneOf, vars, template, sit
 abbrev pub isBound : Vars → ℕ → Bool
 isBound e i = isGot (getD e i Nothing)
 
-abbrev pub isHeld : List (Option Relation) → ℕ → Bool
-isHeld rs i = isSome (getD rs i none)
+abbrev pub isBoundTable : List (Option Relation) → ℕ → Bool
+isBoundTable rs i = isSome (getD rs i none)
 
 -- every variable that the operands read is among the bound ones
 abbrev pub known : (ℕ → Bool) → List Operand → Bool
@@ -40,7 +40,7 @@ readsOk v r d =
     && (not (readsRelation (d .kind)) || r (d .read))
 
 unfoldable pub check12 : Scene → Bool
-check12 c = readsOk (isBound (vars c)) (isHeld (c .thread .bindings .relations)) (c .node)
+check12 c = readsOk (isBound (vars c)) (isBoundTable (c .thread .bindings .relations)) (c .node)
 
 unfoldable pub check13 : Scene → Bool
 check13 c = not (hasPlace (c .node .kind)) || isSome (siteOfL c)

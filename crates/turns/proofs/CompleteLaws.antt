@@ -21,7 +21,7 @@ use Rattle.changes.specs.Changes.{draftFor}
 use Rattle.changes.specs.Contracts.{Complete}
 use Rattle.nets.specs.Nets.{Kind, acting, other, insert, insertTable, delete, update, create, drop, select, selectRelation, aggregate, sequential, parallel, badKind, isSelect, Node, Bindings}
 use Rattle.nets.specs.Sound.{tagged, operandsOk, bindingsOk, fieldsOkAs, nodeOkAs}
-use Rattle.nets.specs.Steps.{isBound, isHeld, known, readsOk}
+use Rattle.nets.specs.Steps.{isBound, isBoundTable, known, readsOk}
 
 -- a row's values are there
 ones : (r : Row) → T (all isGot (map One r))
@@ -74,7 +74,7 @@ select-tags (other badKind) n i d h s = absurd s
 
 -- with bindings `b`, where what the node reads is bound
 pub select-complete :
-    (b : Bindings) (d : Node) (n i : ℕ) → T (nodeOkAs (d .kind) n i d) → T (bindingsOk b) → T (readsOk (isBound (b .vars)) (isHeld (b .relations)) d) → T (isSelect (d .kind)) →
+    (b : Bindings) (d : Node) (n i : ℕ) → T (nodeOkAs (d .kind) n i d) → T (bindingsOk b) → T (readsOk (isBound (b .vars)) (isBoundTable (b .relations)) d) → T (isSelect (d .kind)) →
     Complete (b .vars) (d .selector .template) (d .tuple)
 unfolding readsOk
 select-complete b d n i h k q s =

@@ -25,7 +25,7 @@ use Rattle.nets.specs.Nets as M
 use Rattle.nets.specs.Nets.{Kind, hasTemplate, hasTuple, isSelect, isLoop, readsRelation, bindsRelation, code}
 use Rattle.nets.specs.Sound.{operandsOk, isEmpty, templateOk, relationOk, fieldsOkAs, linksOkAs}
 use Rattle.nets.specs.Scenes.{Scene, source}
-use Rattle.nets.specs.Steps.{isBound, isHeld, readsOk, check12}
+use Rattle.nets.specs.Steps.{isBound, isBoundTable, readsOk, check12}
 use Rattle.nets.specs.View.{kindAt, nodeOf, variableOf, threadOf}
 use Rattle.acts.specs.Contracts.{flagAt, isStep, ActReady}
 use Rattle.threads.specs.Contracts.{visitOf}
@@ -156,17 +156,17 @@ module _ (s : Situation) (k : Known s) where
 -- ── check 12 ──
 
 module _ (s : Situation) (c : Scene) (m : Meets s c) where
-  met-12 : check12 c ≡ readsOk (isBound (threadOf (s .thread) .bindings .vars)) (isHeld (threadOf (s .thread) .bindings .relations)) (nodeOf (s .node))
+  met-12 : check12 c ≡ readsOk (isBound (threadOf (s .thread) .bindings .vars)) (isBoundTable (threadOf (s .thread) .bindings .relations)) (nodeOf (s .node))
   unfolding check12
-  met-12 = ap₂ (λ (t : M.Thread) (d : M.Node). readsOk (isBound (t .bindings .vars)) (isHeld (t .bindings .relations)) d) (m .thread) (m .node)
+  met-12 = ap₂ (λ (t : M.Thread) (d : M.Node). readsOk (isBound (t .bindings .vars)) (isBoundTable (t .bindings .relations)) d) (m .thread) (m .node)
 
   pub known-12 : Known s → check12 c ≡ true
-  known-12 k = met-12 ∙ is-true (readsOk (isBound (threadOf (s .thread) .bindings .vars)) (isHeld (threadOf (s .thread) .bindings .relations)) (nodeOf (s .node))) (k .reads)
+  known-12 k = met-12 ∙ is-true (readsOk (isBound (threadOf (s .thread) .bindings .vars)) (isBoundTable (threadOf (s .thread) .bindings .relations)) (nodeOf (s .node))) (k .reads)
 
 -- with the variables and table variables that are bound given by flags
-module _ (s : Situation) (fs hs : List Bool) (bound : (i : ℕ) → flagAt fs i ≡ isBound (varsOf (s .thread .vars)) i) (held : (i : ℕ) → flagAt hs i ≡ isHeld (map variableOf (s .thread .relations)) i)
+module _ (s : Situation) (fs hs : List Bool) (bound : (i : ℕ) → flagAt fs i ≡ isBound (varsOf (s .thread .vars)) i) (held : (i : ℕ) → flagAt hs i ≡ isBoundTable (map variableOf (s .thread .relations)) i)
     {b : Bool} (e : b ≡ readsOk (flagAt fs) (flagAt hs) (nodeOf (s .node))) where
-  reads-flagged : b ≡ readsOk (isBound (threadOf (s .thread) .bindings .vars)) (isHeld (threadOf (s .thread) .bindings .relations)) (nodeOf (s .node))
+  reads-flagged : b ≡ readsOk (isBound (threadOf (s .thread) .bindings .vars)) (isBoundTable (threadOf (s .thread) .bindings .relations)) (nodeOf (s .node))
   reads-flagged = e ∙ (λ i. readsOk (λ n. bound n i) (λ n. held n i) (nodeOf (s .node)))
 
   pub flagged-known : b ≡ true → Known s

@@ -23,7 +23,7 @@ use Rattle.nets.specs.Nets.{Kind, code, isLoop, readsRelation, bindsRelation, O
 use Rattle.nets.specs.Tables.{tableAt, contentOf, rowsOf, columnsOf}
 use Rattle.nets.specs.Sound.{nodeOkAs, bindingsOk}
 use Rattle.nets.specs.Scenes.{Scene, site, siteOfL, table}
-use Rattle.nets.specs.Steps.{isBound, isHeld, readsOk, holds, settle, tablesBy, threadsAfter, performed, Check, check, check12, check13, check14, check15, check16, check17, check18, check19, check20, judge}
+use Rattle.nets.specs.Steps.{isBound, isBoundTable, readsOk, holds, settle, tablesBy, threadsAfter, performed, Check, check, check12, check13, check14, check15, check16, check17, check18, check19, check20, judge}
 use Rattle.nets.specs.View.{kindAt, nodeOf, entryOf, threadOf}
 use Rattle.nets.specs.Answers.{answerOf, saidOf}
 use Rattle.acts.specs.Contracts.{isDoing}
@@ -84,7 +84,7 @@ pub record Fine (s : Situation) : Type 0 where
 
 -- check 12 passed, said of the parts
 pub record Known (s : Situation) : Type 0 where
-  pub reads : T (readsOk (isBound (threadOf (s .thread) .bindings .vars)) (isHeld (threadOf (s .thread) .bindings .relations)) (nodeOf (s .node)))
+  pub reads : T (readsOk (isBound (threadOf (s .thread) .bindings .vars)) (isBoundTable (threadOf (s .thread) .bindings .relations)) (nodeOf (s .node)))
 
 -- the source of rows: what the table variable read holds, or the table's content
 pub record SourceIs (s : Situation) (r : Code.Relation) : Type 0 where

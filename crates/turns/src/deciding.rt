@@ -5,7 +5,7 @@ use crate::Situation;
 use acts::Effect;
 use acts::acts::act;
 use acts::reading::bound_flags;
-use acts::reading::held_flags;
+use acts::reading::bound_table_flags;
 use acts::reading::reads_ok;
 use nets::Answer;
 use nets::Entry;
@@ -190,7 +190,7 @@ pub fn decide(s: Situation) -> Change
     let relations = thread.relations;
     let located = s.located;
     let found = s.found;
-    if !reads_ok(node, bound_flags(vars), held_flags(relations)) {
+    if !reads_ok(node, bound_flags(vars), bound_table_flags(relations)) {
         return refuses(Refusal::Unbound, s);
     }
     if has_place(kind) & !is_located(located) {

@@ -9,11 +9,11 @@ use Rattle.acts.proofs.reading.reads_ok.Tie as tie
 returns : tie.Need-returns
 returns c =
     let a = c .before .before .before .before .before .before .before .before .before .before .before .before .args in
-    reads-ok (flagAt (a .flags)) (flagAt (a .held)) (nodeOf (a .node)) (c .before .before .before .before .before .before .before .before .none-of .ensures .0)
+    reads-ok (flagAt (a .flags)) (flagAt (a .tables)) (nodeOf (a .node)) (c .before .before .before .before .before .before .before .before .none-of .ensures .0)
     (c .before .before .before .before .before .before .before .operand-known .ensures) (c .before .before .before .before .before .before .operand-known2 .ensures)
     (c .before .before .before .before .before .operands-known .ensures)
     (c .before .before .before .before .operand-known3 .ensures) (c .before .before .before .operand-known4 .ensures) (c .before .before .operands-known2 .ensures)
-    (c .before .reads-relation .ensures) (c .held-in .ensures)
+    (c .before .reads-relation .ensures) (c .bound-table-in .ensures)
 
 pub reads-ok-spec : {M : Type 1} → statement M
 reads-ok-spec =

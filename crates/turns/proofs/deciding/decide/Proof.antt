@@ -27,7 +27,7 @@ returns c n m =
     let r = c .before .before in
     refused-change n (c .refuses .result) Unbound (c .refuses .ensures .0) (c .refuses .ensures .1)
     (refuses-12 n
-    (sym (flagged-12 s (r .before .before .bound-flags .result) (r .before .held-flags .result) (r .before .before .bound-flags .ensures) (r .before .held-flags .ensures) (r .reads-ok .ensures) n m)
+    (sym (flagged-12 s (r .before .before .bound-flags .result) (r .before .bound-table-flags .result) (r .before .before .bound-flags .ensures) (r .before .bound-table-flags .ensures) (r .reads-ok .ensures) n m)
     ∙ not-true (r .reads-ok .result) (c .before .if1 .taken)))
 
 -- ── the checks that passed, where the code goes on ──
@@ -38,7 +38,7 @@ met c = c .before .before .before .before .before .before .before .before .args 
 known : (c : tie.Else1) → Known (met c)
 known c =
     let r = c .before in
-    flagged-known (met c) (r .before .before .bound-flags .result) (r .before .held-flags .result) (r .before .before .bound-flags .ensures) (r .before .held-flags .ensures) (r .reads-ok .ensures)
+    flagged-known (met c) (r .before .before .bound-flags .result) (r .before .bound-table-flags .result) (r .before .before .bound-flags .ensures) (r .before .bound-table-flags .ensures) (r .reads-ok .ensures)
     (not-false (r .reads-ok .result) (c .if1 .left))
 
 twelve : (c : tie.Else1) (n : Scene) → Meets (met c) n → check12 n ≡ true

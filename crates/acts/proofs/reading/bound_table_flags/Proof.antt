@@ -1,4 +1,4 @@
--- `acts::reading::held_flags` meets its contract: flag by flag. Assumes nothing.
+-- `acts::reading::bound_table_flags` meets its contract: flag by flag. Assumes nothing.
 use Prim.Native.Nat.{ℕ, zero, suc}
 use mathlib.Core.Path.{_≡_, refl, sym, ap}
 use mathlib.Core.Bool.{Bool, true, false, cond, _&&_}
@@ -16,8 +16,8 @@ use Rattle.nets.specs.declared.TableVariable.{TableVariable}
 use Rattle.nets.specs.View.{noVariable, variableOf}
 use Rattle.acts.specs.Contracts.{flagAt}
 use Rattle.acts.proofs.FlagLaws.{Flagged, flags-all}
-use Rattle.acts.proofs.reading.held_flags.Statement.{statement}
-use Rattle.acts.proofs.reading.held_flags.Tie as tie
+use Rattle.acts.proofs.reading.bound_table_flags.Statement.{statement}
+use Rattle.acts.proofs.reading.bound_table_flags.Tie as tie
 
 -- a table variable's flag says that it is there
 bound-some : (b : Bool) (r : Relation) → b ≡ isSome (cond b (some r) none)
@@ -35,5 +35,5 @@ two vs = record { size = refl; flags = at }
 returns : tie.Need-returns
 returns c = let vs = c .before .before .args .t1 in flags-all isSome variableOf noVariable vs refl (search (long, needs)) (two vs)
 
-pub held-flags-spec : {M : Type 1} → statement M
-held-flags-spec = tie.close (tie.spec (λ c. search needs) (λ c. search needs) returns)
+pub bound-table-flags-spec : {M : Type 1} → statement M
+bound-table-flags-spec = tie.close (tie.spec (λ c. search needs) (λ c. search needs) returns)
