@@ -1,0 +1,4 @@
+-- What the calls of other programs give back.
+pub mod Layouts
+pub mod Calls
+pub mod Openings
