@@ -1,13 +1,14 @@
 -- What a call comes to, by its first two checks. Assumes nothing.
-use Prim.Native.Nat.{ℕ, _%_}
+use Prim.Native.Nat.{ℕ, _-_, _%_, _≤_, _<_}
 use mathlib.Core.Path.{_≡_, refl, sym, ap, _∙_}
 use mathlib.Core.Bool.{Bool, true, false, cond}
-use mathlib.Core.List.{List}
+use mathlib.Core.List.{List, _++_}
 use mathlib.Core.Option.{Option, none, some}
+use native.Mathlib.Nat.{sub-zero}
 use native.Mathlib.Omega.{arith}
 use lib.Dec.{T, leb}
-use lib.ListN.{length}
-use borrow.Author.Tests.{eq-eqb, ne-eqb}
+use lib.ListN.{length, drop}
+use borrow.Author.Tests.{eq-eqb, ne-eqb, le-leb, lt-leb}
 use Rattle.nets.specs.declared.Pick.{Pick}
 use Rattle.values.proofs.Bools.{is-true}
 use Rattle.nets.specs.Nets.{Net}
@@ -88,3 +89,14 @@ module _ (bytes : Net → List Pick → List ℕ) (file picks o : List ℕ) (r :
 
   pub call-given : (out : List ℕ) (n i : ℕ) → r .verdict ≡ Accepted → Gives (ifRoom (bytes (view (r .net)) (picksIn picks)) o) o out n i → Gives (called bytes file picks o) o out n i
   call-given out n i e g = rw (is .called bytes o, e) g
+
+-- ── a buffer, by its room ──
+
+module _ (bs o : List ℕ) (n : ℕ) (l : length bs ≡ n) where
+  pub gives-short : length o < n → Gives (ifRoom bs o) o o 21 0
+  unfolding ifRoom
+  gives-short h = rw (l, lt-leb n (length o) h) (record { number = refl; place = refl; buffer = refl })
+
+  pub gives-put : (ys : List ℕ) → n ≤ length o → ys ≡ bs → Gives (ifRoom bs o) o (ys ++ drop (n - 0) o) 0 n
+  unfolding ifRoom
+  gives-put ys h e = rw (l, le-leb n (length o) h, e, sub-zero) (record { number = refl; place = sym l; buffer = rw l refl })

@@ -21,7 +21,7 @@ tablesPut net ps = written (after net ps .tables)
 -- ── answers: number, added, taken; 24 bytes each ──
 
 -- eight bytes, little endian
-abbrev pub eightBytes : ℕ → List ℕ
+unfoldable pub eightBytes : ℕ → List ℕ
 eightBytes n = littleBytes n ++ littleBytes (n / 2 ^ 32)
 
 -- 0 for done
@@ -29,7 +29,7 @@ abbrev pub numberSaid : Said → ℕ
 numberSaid (refusing n vs) = n
 numberSaid (doing a t) = 0
 
-abbrev pub threeBytes : ℕ → ℕ → ℕ → List ℕ
+unfoldable pub threeBytes : ℕ → ℕ → ℕ → List ℕ
 threeBytes a b c = eightBytes a ++ (eightBytes b ++ eightBytes c)
 
 unfoldable pub answerBytes : Said → List ℕ
@@ -54,7 +54,7 @@ toVisit (visiting i v) = v
 unfoldable pub visitBytes : List ℕ → List ℕ
 visitBytes v = map (λ (i : ℕ). bit (among i v)) (places 0 16)
 
-abbrev pub headBytes : ℕ → ℕ → Entry → List ℕ
+unfoldable pub headBytes : ℕ → ℕ → Entry → List ℕ
 headBytes s d e = s ∷ d ∷ entryKind e ∷ entryNode e ∷ 0 ∷ 0 ∷ 0 ∷ 0 ∷ []
 
 unfoldable pub threadBytes : Thread → List ℕ

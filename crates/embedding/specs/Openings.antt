@@ -1,12 +1,15 @@
 -- What the calls begin with. Only the code speaks of it: the rule is `called`.
-use Prim.Native.Nat.{ℕ}
+use Prim.Native.Nat.{ℕ, _<_}
 use mathlib.Core.Path.{_≡_}
 use mathlib.Core.List.{List}
 use lib.Dec.{T}
+use lib.ListN.{getD}
 use Rattle.nets.specs.declared.Pick.{Pick}
+use Rattle.nets.specs.declared.Thread.{Thread}
 use Rattle.nets.specs.Nets.{Net}
 use Rattle.nets.specs.Sound.{sound}
-use Rattle.nets.specs.View.{view}
+use Rattle.nets.specs.View.{noThread, view}
+use Rattle.turns.specs.Contracts.{Stacked}
 use Rattle.files.specs.declared.Verdict.{Verdict}
 use Rattle.files.specs.declared.Verdict.the-variants.{Accepted, Fault}
 use Rattle.files.specs.declared.Written.{Written}
@@ -32,3 +35,9 @@ abbrev pub replyTo : Written → Reply
 replyTo (Length n) = record { number = 0; place = n }
 replyTo Unsound = record { number = 10; place = 0 }
 replyTo Short = record { number = 21; place = 0 }
+
+-- ── threads ──
+
+-- each thread in use has one to eight entries
+abbrev pub AllStacked : ℕ → List Thread → Type 0
+AllStacked n ts = (i : ℕ) → i < n → Stacked (getD ts i noThread)

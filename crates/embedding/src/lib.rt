@@ -1,13 +1,17 @@
 // The engine for programs in C and Rust: a net file and picks in, bytes out. Every call answers every input.
 use files::Verdict;
 use nets::Net;
-ghost use Rattle.embedding.specs.Calls.{TablesIs};
+ghost use Rattle.embedding.specs.Calls.{TablesIs, AnswersIs, ThreadsIs};
 
+pub mod answers;
 pub mod opening;
 pub mod running;
 pub mod tables;
+pub mod threads;
 
+use answers::call_answers;
 use tables::call_tables;
+use threads::call_threads;
 
 // A number, and the place that goes with it.
 pub struct Reply {
@@ -32,6 +36,36 @@ pub extern "C" fn tivgeral_tables(
     ensures { λ r. ⌜ TablesIs (now (file .entry)) (now (picks .entry)) (now (out .entry)) (now (out .exit)) r (now (place .exit)) ⌝ }
 {
     let reply = call_tables(file, picks, out);
+    *place = reply.place;
+    reply.number
+}
+
+// The answer to each pick.
+#[no_mangle]
+pub extern "C" fn tivgeral_answers(
+    file: &[u8],
+    picks: &[u8],
+    out: &mut [u8],
+    place: &mut usize,
+) -> u8
+    ensures { λ r. ⌜ AnswersIs (now (file .entry)) (now (picks .entry)) (now (out .entry)) (now (out .exit)) r (now (place .exit)) ⌝ }
+{
+    let reply = call_answers(file, picks, out);
+    *place = reply.place;
+    reply.number
+}
+
+// The threads standing after all picks.
+#[no_mangle]
+pub extern "C" fn tivgeral_threads(
+    file: &[u8],
+    picks: &[u8],
+    out: &mut [u8],
+    place: &mut usize,
+) -> u8
+    ensures { λ r. ⌜ ThreadsIs (now (file .entry)) (now (picks .entry)) (now (out .entry)) (now (out .exit)) r (now (place .exit)) ⌝ }
+{
+    let reply = call_threads(file, picks, out);
     *place = reply.place;
     reply.number
 }
