@@ -1,74 +1,36 @@
+-- `embedding::threads::put_threads` meets its contract: the threads passed, then the bytes that stood there. Assumes nothing.
+use Prim.Native.Nat.{_-_, _*_, _≤_}
+use mathlib.Core.Path.{_≡_, refl}
+use mathlib.Core.List.{_++_}
+use native.Mathlib.Omega.{arith}
+use lib.ListN.{length, drop, length-take, length-drop}
+use borrow.Author.Needs.{needs}
+use Rattle.values.specs.Lists.{firsts}
+use Rattle.nets.specs.View.{noThread}
+use Rattle.codec.specs.Encoding.{endToEnd}
+use Rattle.codec.proofs.Stores.{kept-length}
+use Rattle.embedding.proofs.ThreadLaws.{bytesOf, thread-more, threads-over}
 use Rattle.embedding.proofs.threads.put_threads.Statement.{statement}
 use Rattle.embedding.proofs.threads.put_threads.Tie as tie
-use Rattle.embedding.proofs.threads.put_threads.Reads as reads
-use Rattle.embedding.proofs.threads.put_threads.Lts as lts
-use Rattle.embedding.proofs.threads.put_thread.Reads as put-thread-reads
 
 abbrev Inv-loop : tie.InvT-loop
-Inv-loop out₀ count threads i₀ out i = ?
+Inv-loop out₀ count threads i₀ out i = (i ≤ count) × (length out ≡ count * 24) × (out ≡ endToEnd (firsts bytesOf noThread i threads) ++ drop (i * 24) out₀)
 
 abbrev μ-loop : tie.MeasureT-loop
-μ-loop out₀ count threads i₀ out i = ?
+μ-loop out₀ count threads i₀ out i = count - i
 
--- src/threads.rt:98:5
 loop-holds : tie.Need-loop-holds Inv-loop μ-loop
-loop-holds c = ?
+loop-holds c = (omega arith, omega arith, refl)
 
--- src/threads.rt:99:29
-mul-put-thread : tie.Need-mul-put-thread Inv-loop μ-loop
-mul-put-thread c = ?
-
--- src/threads.rt:99:37
-mul-put-thread-2 : tie.Need-mul-put-thread-2 Inv-loop μ-loop
-mul-put-thread-2 c = ?
-
--- src/threads.rt:99:37
-add-put-thread : tie.Need-add-put-thread Inv-loop μ-loop
-add-put-thread c = ?
-
--- src/threads.rt:99:20
-sub-put-thread : tie.Need-sub-put-thread Inv-loop μ-loop
-sub-put-thread c = ?
-
--- src/threads.rt:99:20
-part-put-thread-start : tie.Need-part-put-thread-start Inv-loop μ-loop
-part-put-thread-start c = ?
-
--- src/threads.rt:99:20
-part-put-thread-end : tie.Need-part-put-thread-end Inv-loop μ-loop
-part-put-thread-end c = ?
-
--- src/threads.rt:99:51
-mul-put-thread-3 : tie.Need-mul-put-thread-3 Inv-loop μ-loop
-mul-put-thread-3 c = ?
-
--- src/threads.rt:99:51
-array-copy-out-put-thread : tie.Need-array-copy-out-put-thread Inv-loop μ-loop
-array-copy-out-put-thread c = ?
-
--- src/threads.rt:99:9
 put-thread-requires : tie.Need-put-thread-requires Inv-loop μ-loop
-put-thread-requires c κs = ?
+put-thread-requires c κs =
+    (simp (length-take, length-drop) (omega arith), c .before .before .before .before .before .pre .1 (c .before .before .before .loop .i) (omega arith))
 
--- src/threads.rt:100:9
-add-i : tie.Need-add-i Inv-loop μ-loop
-add-i c = ?
-
--- src/threads.rt:98:5
-loop-less : tie.Need-loop-less Inv-loop μ-loop
-loop-less c = ?
-
--- src/threads.rt:98:5
 loop-again : tie.Need-loop-again Inv-loop μ-loop
-loop-again c = ?
+loop-again c = (omega arith, search kept-length, search thread-more)
 
--- src/threads.rt:93:1
-same-length : tie.Need-same-length Inv-loop μ-loop
-same-length c = ?
-
--- src/threads.rt:93:1
 returns : tie.Need-returns Inv-loop μ-loop
-returns c = ?
+returns c = search threads-over
 
 pub put-threads-spec : {M : Type 1} → statement M
 put-threads-spec =
@@ -77,17 +39,17 @@ put-threads-spec =
     Inv-loop
     μ-loop
     loop-holds
-    mul-put-thread
-    mul-put-thread-2
-    add-put-thread
-    sub-put-thread
-    part-put-thread-start
-    part-put-thread-end
-    mul-put-thread-3
-    array-copy-out-put-thread
+    (λ c. search needs)
+    (λ c. search needs)
+    (λ c. search needs)
+    (λ c. search needs)
+    (λ c. search needs)
+    (λ c. search needs)
+    (λ c. search needs)
+    (λ c. search needs)
     put-thread-requires
-    add-i
-    loop-less
+    (λ c. search needs)
+    (λ c. search needs)
     loop-again
-    same-length
+    (λ c. search needs)
     returns)
