@@ -3,6 +3,8 @@
  *     rt staticlib embedding                          makes target/staticlib/libembedding.a
  *     cc -Iinclude program.c target/staticlib/libembedding.a
  *
+ * A Rust program declares the same functions with the same parameters in an `unsafe extern "C"` block.
+ *
  * The library is for x86-64 Linux. It needs memcpy and memset of the C library and nothing else: no heap, no files, no state kept between
  * calls. Calls from several threads at once do not disturb each other. A net is held by value, so a call takes stack space: have 1 MiB free.
  *

@@ -35,7 +35,7 @@ picks-length (a ∷ b ∷ l) = let h = picks-length l in (omega (arith, h .0), o
 
 -- ── what is left of a run decides ──
 
-pub run-on : (n next w : Net) (ps : List Pick) (i : ℕ) (d : Pick) → i < length ps → after n (drop i ps) ≡ w → next ≡ netLeft n (step n (getD ps i d)) → after next (drop (i + 1) ps) ≡ w
+run-on : (n next w : Net) (ps : List Pick) (i : ℕ) (d : Pick) → i < length ps → after n (drop i ps) ≡ w → next ≡ netLeft n (step n (getD ps i d)) → after next (drop (i + 1) ps) ≡ w
 unfolding after nextNet
 run-on n next w ps i d h e s = rw (s, add-one) (sym (ap (after n) (drop-cons ps i d h)) ∙ e)
 
@@ -44,6 +44,8 @@ pub step-on : (net : Code.Net) (r : Stepped) (p : Pick) (w : Net) (picks : List 
 step-on net r p w picks i h q is e =
     run-on (view net) (view (r .net)) w (picksIn picks) i noPick (omega (arith, picks-length picks .1)) e (is .after ∙ ap (λ (x : Pick). netLeft (view net) (step (view net) x)) q)
 
-pub run-over : (n w : Net) (ps : List Pick) (i : ℕ) → length ps ≤ i → after n (drop i ps) ≡ w → n ≡ w
+pub run-over : (net : Code.Net) (w : Net) (picks : List ℕ) (i : ℕ) → length picks / 2 ≤ i → after (view net) (drop i (picksIn picks)) ≡ w → view net ≡ w
 unfolding after
-run-over n w ps i h e = rw (drop-of-length-le ps {i = i} h) at e
+run-over net w picks i h e =
+    let l : length (picksIn picks) ≤ i = omega (arith, picks-length picks .0) in
+    rw (drop-of-length-le (picksIn picks) {i = i} l) at e

@@ -2,3 +2,4 @@
 pub mod Layouts
 pub mod Calls
 pub mod Openings
+pub mod Examples

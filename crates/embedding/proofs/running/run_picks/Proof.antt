@@ -8,9 +8,8 @@ use borrow.Author.Needs.{needs}
 use Rattle.nets.specs.Sound.{sound}
 use Rattle.nets.specs.Accounts.{after}
 use Rattle.nets.specs.View.{view}
-use Rattle.files.specs.Engine.{noPick}
 use Rattle.embedding.specs.Calls.{picksIn}
-use Rattle.embedding.proofs.PickLaws.{picks-length, step-on, run-over}
+use Rattle.embedding.proofs.PickLaws.{step-on, run-over}
 use Rattle.embedding.proofs.running.run_picks.Statement.{statement}
 use Rattle.embedding.proofs.running.run_picks.Tie as tie
 
@@ -25,16 +24,10 @@ loop-holds : tie.Need-loop-holds Inv-loop μ-loop
 loop-holds c = (omega arith, refl, refl, c .before .pre)
 
 loop-again : tie.Need-loop-again Inv-loop μ-loop
-loop-again c =
-    let l = c .before .before .before .before .loop in
-    let picks = c .before .before .before .before .before .before .args .picks .now in
-    (omega arith, refl, step-on (l .net) (c .before .step-sound .result) _ _ picks (l .i) (omega arith) (c .before .before .pick-at .ensures) (c .before .step-sound .ensures .0) (l .inv .2), c .before .step-sound .ensures .1)
+loop-again c = (omega arith, refl, search step-on, search needs)
 
 returns : tie.Need-returns Inv-loop μ-loop
-returns c =
-    let l = c .before .loop in
-    let picks = c .before .before .before .args .picks .now in
-    (run-over (view (l .net)) _ (picksIn picks) (l .i) (omega (arith, picks-length picks .0)) (l .inv .2), l .inv .3)
+returns c = (search run-over, search needs)
 
 pub run-picks-spec : {M : Type 1} → statement M
 run-picks-spec =
