@@ -1,4 +1,4 @@
--- What the calls begin with. Only the code speaks of it: the rule is `called`.
+-- What the functions inside a call require and give back. Only the code speaks of it: the rule is `called`.
 use Prim.Native.Nat.{ℕ, _<_}
 use mathlib.Core.Path.{_≡_}
 use mathlib.Core.List.{List}
@@ -17,6 +17,8 @@ use Rattle.files.specs.declared.Written.the-variants.{Length, Unsound, Short}
 use Rattle.embedding.specs.declared.Reply.{Reply}
 use Rattle.embedding.specs.declared.Opened.{Opened}
 use Rattle.embedding.specs.Calls.{picksIn, Called, refusing, ifRoom, called}
+
+-- ── what a call begins with ──
 
 -- by the verdict on file and picks
 abbrev pub judged : Verdict → List ℕ → List ℕ → Called
