@@ -1,5 +1,5 @@
 -- The bytes of answers, one after the other. Assumes nothing.
-use Prim.Native.Nat.{ℕ, zero, suc, _+_, _-_, _*_, _/_, _<_, _≤_}
+use Prim.Native.Nat.{ℕ, suc, _+_, _-_, _*_, _/_, _<_, _≤_}
 use mathlib.Core.Path.{_≡_, refl, sym, ap, _∙_}
 use mathlib.Core.List.{List, [], _∷_, _++_, map, append-assoc, append-nil}
 use native.Mathlib.Omega.{arith}
@@ -8,15 +8,14 @@ use lib.ListN.{length, drop, getD, length-append, drop-of-length-le}
 use lib.Seq.{drop-cons}
 use borrow.Rule.Slice.PartMut.{putMid}
 use Rattle.values.specs.Lists.{firsts}
-use Rattle.values.proofs.Firsts.{length-firsts}
 use Rattle.nets.specs.declared.Pick.{Pick}
 use Rattle.nets.specs.declared.Net as Code
 use Rattle.nets.specs.declared.Stepped.{Stepped}
 use Rattle.nets.specs.Nets.{Net, Outcome, refused}
 use Rattle.nets.specs.Steps.{step}
-use Rattle.nets.specs.Accounts.{netLeft, nextNet, answers}
+use Rattle.nets.specs.Accounts.{nextNet, answers}
 use Rattle.nets.specs.View.{view}
-use Rattle.nets.specs.Answers.{Said, answerOf, saidOf, StepIs}
+use Rattle.nets.specs.Answers.{answerOf, saidOf, StepIs}
 use Rattle.codec.specs.Encoding.{endToEnd}
 use Rattle.codec.proofs.Stores.{part-written, ends-length, ends-more, ends-all}
 use Rattle.files.specs.Engine.{noPick}

@@ -9,9 +9,9 @@ use lib.Seq.{drop-cons}
 use Rattle.nets.specs.declared.Pick.{Pick}
 use Rattle.nets.specs.declared.Net as Code
 use Rattle.nets.specs.declared.Stepped.{Stepped}
-use Rattle.nets.specs.Nets.{Net, Outcome}
+use Rattle.nets.specs.Nets.{Net}
 use Rattle.nets.specs.Steps.{step}
-use Rattle.nets.specs.Accounts.{netLeft, nextNet, after, answers}
+use Rattle.nets.specs.Accounts.{netLeft, nextNet, after}
 use Rattle.nets.specs.View.{view}
 use Rattle.nets.specs.Answers.{StepIs}
 use Rattle.files.specs.Engine.{noPick}

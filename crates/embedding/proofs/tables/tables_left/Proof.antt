@@ -1,6 +1,6 @@
 -- `embedding::tables::tables_left` meets its contract: what `write` says of the net that the run left. Assumes nothing.
 use Prim.Native.Nat.{ℕ}
-use mathlib.Core.Path.{_≡_, sym, ap, _∙_, subst}
+use mathlib.Core.Path.{_≡_, sym}
 use mathlib.Core.List.{List}
 use lib.Dec.{T}
 use borrow.Author.Needs.{needs}
