@@ -2,6 +2,7 @@
 
 use crate::error::Error;
 use crate::item::{Next, Target};
+use crate::names::Names;
 use crate::token::Place;
 use std::collections::{BTreeMap, BTreeSet};
 
@@ -44,6 +45,13 @@ impl Labels {
                 }
             },
         }
+    }
+
+    /// The first label of each node that has one.
+    pub fn names(&self) -> Names {
+        let mut labels: Vec<_> = self.named.iter().collect();
+        labels.sort_by_key(|(_, (_, place))| std::cmp::Reverse((place.line, place.column)));
+        Names::Labels(labels.into_iter().map(|(label, (node, _))| (*node, label.clone())).collect())
     }
 
     /// The next byte of a node whose statement stands at `place`.

@@ -95,9 +95,11 @@ fn a_refused_file_has_no_text() {
     let shown =
         format!("{name}: load 7 at 1: the row's table is absent, or the row does not fit\n");
     assert_eq!(outcome(&run(NETDUMP, &[&name], b"")), (Some(1), String::new(), shown));
-    let shown = "<stdin>: load 1 at 0: the length is no multiple of 104\n".to_owned();
+    let shown = "<stdin>: load 1 at 0: the length is no multiple of 104; \
+                 the place counts the whole records\n"
+        .to_owned();
     assert_eq!(outcome(&run(NETDUMP, &[], &[1; 103])), (Some(1), String::new(), shown));
-    let shown = "<stdin>: load 3 at 0: the kind of the record is unknown\n".to_owned();
+    let shown = "<stdin>: load 3 at 0: the kind is unknown\n".to_owned();
     assert_eq!(outcome(&run(NETDUMP, &[], &[9; 104])), (Some(1), String::new(), shown));
 }
 

@@ -1,6 +1,6 @@
 //! netdump: writes the text of a file of records.
 
-use nettext::cli::{self, Input, Program};
+use nettext::cli::{self, Failure, Input, Program};
 use nettext::{dump, refusal};
 use std::process::ExitCode;
 
@@ -22,12 +22,14 @@ file can't be read or written. The grammar is in docs/TEXT.md.
 ";
 
 fn main() -> ExitCode {
-    cli::run(&Program { name: "netdump", help: HELP, flags: &[], work })
+    cli::run(&Program { name: "netdump", help: HELP, flags: &[], settings: &[], work })
 }
 
-fn work(input: &Input) -> Result<Vec<u8>, String> {
+fn work(input: &Input) -> Result<Vec<u8>, Failure> {
     match dump(&input.bytes) {
         Ok(text) => Ok(text.into_bytes()),
-        Err(fault) => Err(format!("{}: {}\n", input.name, refusal(fault))),
+        Err(fault) => {
+            Err(format!("{}: {}\n", input.name, refusal(fault.number, fault.place)).into())
+        }
     }
 }
