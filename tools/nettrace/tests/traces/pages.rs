@@ -1,9 +1,8 @@
 //! What the tour and the README show is what the program does, and the nets in the tour are those
 //! of the examples.
 
-mod common;
-
-use common::{blocks, by_stand_in, commands, read};
+use crate::double::{by_stand_in, traced};
+use crate::page::{blocks, commands, read, root};
 use std::fs;
 
 const TOUR: &str = "docs/TOUR.md";
@@ -22,7 +21,7 @@ fn the_program_gives_what_the_tour_shows() {
     for command in commands(&read(TOUR)) {
         let output = std::process::Command::new(env!("CARGO_BIN_EXE_nettrace"))
             .args(&command.arguments)
-            .current_dir(common::root())
+            .current_dir(root())
             .output()
             .expect("the program starts");
         let told = String::from_utf8_lossy(&output.stdout);
@@ -36,7 +35,7 @@ fn the_program_gives_what_the_tour_shows() {
 fn the_tour_has_all_its_nets() {
     let page = read(TOUR);
     let shown = blocks(&page, "nettext");
-    let entries = fs::read_dir(common::root().join("examples/tour")).expect("the nets of the tour");
+    let entries = fs::read_dir(root().join("examples/tour")).expect("the nets of the tour");
     let names = entries.map(|entry| entry.expect("a file").file_name().into_string());
     let nets: Vec<String> = names
         .map(|name| format!("examples/tour/{}", name.expect("a name that reads")))
@@ -56,7 +55,7 @@ fn the_readme_shows_what_its_net_comes_to() {
     let readme = read("README.md");
     let (_, rest) = readme.split_once("<<'END'\n").expect("the command that writes the net");
     let (net, _) = rest.split_once("END\n").expect("its end");
-    assert_eq!(blocks(&readme, "trace"), [common::traced(net).expect("a net that loads")]);
+    assert_eq!(blocks(&readme, "trace"), [traced(net).expect("a net that loads")]);
     let file = nettext::assemble(net).expect("a text that is well formed").file;
     assert_eq!(blocks(&readme, "netrun"), [String::from_utf8_lossy(&engine::netrun(&file))]);
 }
