@@ -4,7 +4,6 @@ use crate::error::Error;
 use crate::item::{Item, Statement};
 use crate::labels::Labels;
 use crate::names::Names;
-use crate::numbers::refusal;
 use crate::parse::parse;
 use crate::record::{Bytes, Record};
 use crate::token::Place;
@@ -46,10 +45,7 @@ impl Assembled {
     pub fn check(&self) -> Result<(), Error> {
         match engine::load(&self.file) {
             Ok(_) => Ok(()),
-            Err(fault) => {
-                let message = refusal(fault.number, fault.place);
-                Err(Error { place: self.places[fault.place], message })
-            }
+            Err(fault) => Err(Error::refused(self.places[fault.place], fault.number, fault.place)),
         }
     }
 

@@ -19,6 +19,6 @@ mod words;
 pub use assemble::{assemble, read_text, Assembled};
 pub use error::Error;
 pub use names::Names;
-pub use numbers::{number, refusal, Number};
+pub use numbers::{number, refused_file, Number};
 pub use print::{columns, dump, name, row, step};
 pub use token::Place;

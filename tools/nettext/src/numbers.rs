@@ -13,7 +13,17 @@ pub fn number(number: u8) -> Option<&'static Number> {
     NUMBERS.iter().find(|entry| entry.number == number)
 }
 
-/// A refused file as netrun prints it, with what is wrong.
+/// The report on a file that loading refuses.
+pub fn refused_file(name: &str, number: u8, place: usize) -> String {
+    format!("{name}: {}\n{}", refusal(number, place), advice(number))
+}
+
+/// What to do about a number, as a line of its own.
+pub fn advice(number: u8) -> String {
+    self::number(number).map_or_else(String::new, |entry| format!("what to do: {}\n", entry.advice))
+}
+
+/// A refusal as netrun prints it, with what is wrong.
 pub fn refusal(number: u8, place: usize) -> String {
     let wrong = self::number(number).map_or("this number is unknown", |entry| entry.wrong);
     format!("load {number} at {place}: {wrong}")
@@ -161,8 +171,11 @@ mod tests {
     }
 
     #[test]
-    fn a_refusal_says_what_is_wrong() {
-        assert!(refusal(6, 3).starts_with("load 6 at 3: this alias (site and locality) or table"));
-        assert!(number(22).is_none());
+    fn a_report_says_what_is_wrong_and_what_to_do() {
+        let report =
+            "net: load 6 at 3: this alias (site and locality) or table (site and name) came \
+                      before\nwhat to do: remove one of the two, or rename it\n";
+        assert_eq!(refused_file("net", 6, 3), report);
+        assert_eq!(refused_file("net", 99, 0), "net: load 99 at 0: this number is unknown\n");
     }
 }

@@ -79,6 +79,8 @@ fn one_example_is_refused_at_the_line_of_its_row() {
     let shown = "refused-file:7:1: load 7 at 1: the row's table is absent, or the row does not fit
     row (1, @1) in CARD at site 0
     ^
+what to do: put its table among the table records, before all rows; give as many values as \
+                 columns, of their kinds
 ";
     assert_eq!(error.shown("refused-file", &text), shown);
 }

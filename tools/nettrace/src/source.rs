@@ -2,7 +2,7 @@
 
 use embed::Refused;
 use engine::{decode, Node, Record};
-use nettext::{assemble, number, read_text, refusal, Assembled, Error, Names};
+use nettext::{assemble, read_text, refused_file, Assembled, Error, Names};
 
 pub struct Source {
     name: String,
@@ -63,21 +63,13 @@ impl Source {
 
     /// The report on a file that the engine refuses, at the line of the text if there is one.
     pub fn refusal(&self, refused: Refused) -> String {
-        let message = refusal(refused.number, refused.place);
-        let advice = match number(refused.number) {
-            Some(entry) => format!("what to do: {}\n", entry.advice),
-            None => String::new(),
-        };
-        self.shown(refused.place, message) + &advice + self.hint()
-    }
-
-    fn shown(&self, record: usize, message: String) -> String {
+        let Refused { number, place: record } = refused;
         if let Origin::Text(text, assembled) = &self.origin {
             if let Some(place) = assembled.place(record) {
-                return Error { place, message }.shown(&self.name, text);
+                return Error::refused(place, number, record).shown(&self.name, text);
             }
         }
-        format!("{}: {message}\n", self.name)
+        refused_file(&self.name, number, record) + self.hint()
     }
 
     /// A text that was taken for records is a likely slip.
