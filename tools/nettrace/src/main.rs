@@ -19,6 +19,9 @@ to standard output.
   -o FILE        write to FILE
   --help         show this
 
+In the reasons of refusals L is the locality after the @, T the template, t the tuple and T' what
+an aggregate's result must match.
+
 Example: nettrace examples/tour/gamma.nettext --picks \"1:0 0:0\"
 
 Exit status: 0 when the net was run, refused picks among the others; 1 when the text is at

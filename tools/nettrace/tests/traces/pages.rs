@@ -1,8 +1,9 @@
 //! What the tour and the README show is what the program does, and the nets in the tour are those
 //! of the examples.
 
-use crate::double::{by_stand_in, traced};
+use crate::double::{by_stand_in, traced, StandIn};
 use crate::page::{blocks, commands, read, root};
+use nettrace::{parse_picks, trace, Source};
 use std::fs;
 
 const TOUR: &str = "docs/TOUR.md";
@@ -58,4 +59,34 @@ fn the_readme_shows_what_its_net_comes_to() {
     assert_eq!(blocks(&readme, "trace"), [traced(net).expect("a net that loads")]);
     let file = nettext::assemble(net).expect("a text that is well formed").file;
     assert_eq!(blocks(&readme, "netrun"), [String::from_utf8_lossy(&engine::netrun(&file))]);
+}
+
+/// The tables after the last pick of a text, by these picks, and how many picks were refused.
+fn left(text: &str, picks: &str) -> (String, String) {
+    let source = Source::of_text("net.nettext", text.as_bytes()).expect("a text");
+    let picks = parse_picks(picks).expect("picks");
+    let told = trace(&StandIn, &source, Some(picks)).expect("a net that loads");
+    let (_, last) = told.split_once("after the last pick\n").expect("the last part");
+    let (tables, total) = last.split_once("\n\n").expect("the total");
+    let refused = total.split([',', ';']).nth(1).expect("how many are refused");
+    (tables.to_owned(), refused.trim().to_owned())
+}
+
+/// What a reader of the tour is asked to try comes to what the tour says.
+#[test]
+fn the_tries_of_the_tour() {
+    let gamma = read("examples/tour/gamma.nettext");
+    for (sum, alike) in [("x1 - 170", true), ("x1 - 175", false)] {
+        let text = gamma.replace("x1 - 5", sum);
+        assert_eq!(left(&text, "0:0 0:0") == left(&text, "1:0 0:0"), alike, "{sum}");
+        assert!(read(TOUR).contains(&format!("`{sum}`")));
+    }
+    let refused = read("examples/tour/refused.nettext");
+    let (tables, none) = left(&refused, "1:0 0:0 0:0");
+    assert_eq!((tables, none.as_str()), (left(&refused, "0 0 1 0 0").0, "0 refused"));
+    assert!(read(TOUR).contains("--picks \"1:0 0:0 0:0\""));
+    let branches = "0 0 0:0 1 1 0:1 1 1 0:2 1 1 0";
+    let (tables, none) = left(&read("examples/tour/stores.nettext"), branches);
+    assert!(tables.contains("(\"SHP2\", \"HIGH\", 53)") && none == "0 refused");
+    assert!(read(TOUR).contains(&format!("--picks \"{branches}\"")));
 }
