@@ -8,7 +8,7 @@
  *   1..9   the file was refused; *place is the place of the record at fault
  *   21     out is too short
  *   22     the length of picks is odd
- * After any number but 0, out is as it was. README.md has what the numbers mean.
+ * After any number but 0, out is as it was. README.md has what the numbers mean. Neither out nor place may overlap anything else.
  */
 #ifndef TIVGERAL_H
 #define TIVGERAL_H

@@ -60,7 +60,7 @@ static int given_picks(int count, char **words, size_t *length) {
     return 0;
 }
 
-/* Numbers are little endian, whatever this machine's are. */
+/* Numbers are little endian on every processor. */
 static uint64_t number_at(const uint8_t *bytes, int length) {
     uint64_t number = 0;
     for (int place = length - 1; place >= 0; place--)
