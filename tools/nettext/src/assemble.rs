@@ -3,16 +3,17 @@
 use crate::error::Error;
 use crate::item::{Item, Statement};
 use crate::labels::Labels;
-use crate::meaning;
+use crate::names::Names;
 use crate::parse::parse;
 use crate::record::{Bytes, Record};
 use crate::token::Place;
 use engine::Pick;
 
-/// The records of a text, and the place of the statement that each comes from.
+/// The records of a text, with the place of the statement that each comes from, and the labels.
 pub struct Assembled {
     pub file: Vec<u8>,
     places: Vec<Place>,
+    labels: Labels,
 }
 
 /// The bytes as text; fails at the first byte that is none.
@@ -36,7 +37,7 @@ pub fn assemble(text: &str) -> Result<Assembled, Error> {
         nodes += usize::from(matches!(statement.item, Item::Step(_)));
     }
     let places = statements.iter().map(|statement| statement.place).collect();
-    Ok(Assembled { file, places })
+    Ok(Assembled { file, places, labels })
 }
 
 impl Assembled {
@@ -44,10 +45,17 @@ impl Assembled {
     pub fn check(&self) -> Result<(), Error> {
         match engine::load(&self.file) {
             Ok(_) => Ok(()),
-            Err(fault) => {
-                Err(Error { place: self.places[fault.place], message: meaning::of(fault) })
-            }
+            Err(fault) => Err(Error::refused(self.places[fault.place], fault.number, fault.place)),
         }
+    }
+
+    /// Where the statement of a record begins; None past the last record.
+    pub fn place(&self, record: usize) -> Option<Place> {
+        self.places.get(record).copied()
+    }
+
+    pub fn names(&self) -> Names {
+        self.labels.names()
     }
 }
 

@@ -17,19 +17,42 @@ pub struct Program {
     pub help: &'static str,
     /// The options beside `--help` and `-o`.
     pub flags: &'static [&'static str],
+    /// The options that a value follows.
+    pub settings: &'static [&'static str],
     /// What to write for an input, or what to report.
-    pub work: fn(&Input) -> Result<Vec<u8>, String>,
+    pub work: fn(&Input) -> Result<Vec<u8>, Failure>,
+}
+
+/// What to report instead of a result.
+pub enum Failure {
+    /// Of the input: the whole report.
+    AtFault(String),
+    /// Of the usage, or of the program itself; its name goes before.
+    Unusable(String),
+}
+
+impl From<String> for Failure {
+    fn from(report: String) -> Failure {
+        Failure::AtFault(report)
+    }
 }
 
 pub struct Input {
     pub name: String,
     pub bytes: Vec<u8>,
     flags: Vec<String>,
+    settings: Vec<(String, String)>,
 }
 
 impl Input {
     pub fn has(&self, flag: &str) -> bool {
         self.flags.iter().any(|given| given == flag)
+    }
+
+    /// The value of an option, the last one where it is given twice.
+    pub fn setting(&self, option: &str) -> Option<&str> {
+        let given = self.settings.iter().rev().find(|(given, _)| given == option);
+        given.map(|(_, value)| value.as_str())
     }
 }
 
@@ -39,6 +62,7 @@ struct Options {
     input: Option<String>,
     output: Option<String>,
     flags: Vec<String>,
+    settings: Vec<(String, String)>,
 }
 
 pub fn run(program: &Program) -> ExitCode {
@@ -50,9 +74,9 @@ pub fn run(program: &Program) -> ExitCode {
             ExitCode::SUCCESS
         }
         Ok(options) => match carried_out(program, options) {
-            Ok(Ok(())) => ExitCode::SUCCESS,
-            Ok(Err(report)) => fail(AT_FAULT, &report),
-            Err(wrong) => fail(UNUSABLE, &format!("{name}: {wrong}\n")),
+            Ok(()) => ExitCode::SUCCESS,
+            Err(Failure::AtFault(report)) => fail(AT_FAULT, &report),
+            Err(Failure::Unusable(wrong)) => fail(UNUSABLE, &format!("{name}: {wrong}\n")),
         },
     }
 }
@@ -77,6 +101,10 @@ fn options(
             "--help" => options.help = true,
             "-o" => options.output = Some(arguments.next().ok_or("-o needs a file")?),
             flag if program.flags.contains(&flag) => options.flags.push(argument),
+            option if program.settings.contains(&option) => {
+                let value = arguments.next().ok_or_else(|| format!("{argument} needs a value"))?;
+                options.settings.push((argument, value));
+            }
             flag if flag.starts_with('-') => return Err(format!("unknown option {flag}")),
             _ if options.input.is_some() => return Err(format!("a second file {argument}")),
             _ => options.input = Some(argument),
@@ -85,24 +113,22 @@ fn options(
     Ok(options)
 }
 
-/// The outer error is about files, the inner one about what is in them.
-fn carried_out(program: &Program, options: Options) -> Result<Result<(), String>, String> {
-    let input = input(options.input, options.flags)?;
-    match (program.work)(&input) {
-        Ok(result) => write(options.output.as_deref(), &result).map(Ok),
-        Err(report) => Ok(Err(report)),
-    }
+fn carried_out(program: &Program, options: Options) -> Result<(), Failure> {
+    let output = options.output.clone();
+    let input = input(options).map_err(Failure::Unusable)?;
+    let result = (program.work)(&input)?;
+    write(output.as_deref(), &result).map_err(Failure::Unusable)
 }
 
-fn input(file: Option<String>, flags: Vec<String>) -> Result<Input, String> {
-    let name = file.as_deref().unwrap_or(STANDARD_INPUT).to_owned();
+fn input(options: Options) -> Result<Input, String> {
+    let name = options.input.as_deref().unwrap_or(STANDARD_INPUT).to_owned();
     let mut bytes = Vec::new();
-    let read = match file {
+    let read = match options.input {
         Some(path) => fs::File::open(path).and_then(|mut file| file.read_to_end(&mut bytes)),
         None => io::stdin().lock().read_to_end(&mut bytes),
     };
     read.map_err(|error| format!("{name}: {error}"))?;
-    Ok(Input { name, bytes, flags })
+    Ok(Input { name, bytes, flags: options.flags, settings: options.settings })
 }
 
 fn write(file: Option<&str>, bytes: &[u8]) -> Result<(), String> {

@@ -1,5 +1,6 @@
 //! What is wrong with a text, and where.
 
+use crate::numbers::{advice, refusal};
 use crate::token::Place;
 use std::iter;
 
@@ -10,15 +11,23 @@ const SHOWN: usize = 120;
 pub struct Error {
     pub place: Place,
     pub message: String,
+    /// A line on what to do, or nothing.
+    pub advice: String,
 }
 
 impl Error {
     /// The form of all errors about the text itself.
     pub fn unexpected(place: Place, found: &str, expected: &str) -> Error {
-        Error { place, message: format!("found {found}, expected {expected}") }
+        let message = format!("found {found}, expected {expected}");
+        Error { place, message, advice: String::new() }
     }
 
-    /// The error in one line, then the line of the text with a caret below the place.
+    /// Loading refuses the net by this number, at this record.
+    pub fn refused(place: Place, number: u8, record: usize) -> Error {
+        Error { place, message: refusal(number, record), advice: advice(number) }
+    }
+
+    /// The error in one line, then the line of the text with a caret below the place, then the advice.
     pub fn shown(&self, name: &str, text: &str) -> String {
         let Place { line, column } = self.place;
         let source = text.lines().nth(line - 1).unwrap_or_default();
@@ -26,7 +35,8 @@ impl Error {
         let part: String = source.chars().skip(left_out).take(SHOWN).map(visible).collect();
         let before = part.chars().chain(iter::repeat(' ')).take(column - 1 - left_out);
         let below: String = before.map(blank).collect();
-        format!("{name}:{line}:{column}: {}\n    {part}\n    {below}^\n", self.message)
+        let Error { message, advice, .. } = self;
+        format!("{name}:{line}:{column}: {message}\n    {part}\n    {below}^\n{advice}")
     }
 }
 

@@ -2,7 +2,9 @@
 
 use crate::error::Error;
 use crate::item::{Next, Target};
+use crate::names::Names;
 use crate::token::Place;
+use std::cmp::Reverse;
 use std::collections::{BTreeMap, BTreeSet};
 
 /// The byte that stands for no next node.
@@ -44,6 +46,14 @@ impl Labels {
                 }
             },
         }
+    }
+
+    /// The first label of each node that has one.
+    pub fn names(&self) -> Names {
+        let mut labels: Vec<_> = self.named.iter().collect();
+        // The last one put in for a node stays.
+        labels.sort_by_key(|(_, (_, place))| Reverse((place.line, place.column)));
+        Names::Labels(labels.into_iter().map(|(label, (node, _))| (*node, label.clone())).collect())
     }
 
     /// The next byte of a node whose statement stands at `place`.

@@ -1,4 +1,4 @@
-//! The texts in `examples` are those of the records beside them.
+//! The texts in `examples` and `examples/tour` are those of the records beside them.
 
 use engine::load;
 use nettext::{assemble, dump};
@@ -13,8 +13,9 @@ fn directory() -> &'static Path {
 
 /// The examples that have a file with this extension.
 fn with(extension: &str) -> BTreeSet<PathBuf> {
-    let entries = fs::read_dir(directory()).expect("the examples");
-    let paths = entries.map(|entry| entry.expect("an example").path());
+    let directories = [directory().to_owned(), directory().join("tour")];
+    let entries = directories.map(|directory| fs::read_dir(directory).expect("the examples"));
+    let paths = entries.into_iter().flatten().map(|entry| entry.expect("an example").path());
     let chosen = paths.filter(|path| path.extension() == Some(OsStr::new(extension)));
     chosen.map(|path| path.with_extension("")).collect()
 }
@@ -30,7 +31,8 @@ fn records(example: &Path) -> Vec<u8> {
 #[test]
 fn every_net_has_its_text_and_every_text_its_net() {
     assert_eq!(with("net"), with("nettext"));
-    assert!(with("net").len() >= 14);
+    assert_eq!(with("net"), with("out"));
+    assert!(with("net").len() >= 18);
 }
 
 #[test]
@@ -41,6 +43,14 @@ fn texts_assemble_to_the_stored_records() {
             Ok(assembled) => assert!(assembled.file == records(&example), "{}", example.display()),
             Err(error) => panic!("{}", error.shown(&example.to_string_lossy(), &text)),
         }
+    }
+}
+
+#[test]
+fn stored_output_is_what_netrun_prints() {
+    for example in with("net") {
+        let output = fs::read(example.with_extension("out")).expect("its output");
+        assert!(engine::netrun(&records(&example)) == output, "{}", example.display());
     }
 }
 
@@ -69,6 +79,8 @@ fn one_example_is_refused_at_the_line_of_its_row() {
     let shown = "refused-file:7:1: load 7 at 1: the row's table is absent, or the row does not fit
     row (1, @1) in CARD at site 0
     ^
+what to do: put its table among the table records, before all rows; give as many values as \
+                 columns, of their kinds
 ";
     assert_eq!(error.shown("refused-file", &text), shown);
 }

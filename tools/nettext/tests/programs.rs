@@ -74,6 +74,10 @@ fn an_error_in_the_text_writes_nothing() {
     assert!(!unwritten.exists());
 }
 
+/// What to do about number 7.
+const ADVICE: &str = "what to do: put its table among the table records, before all rows; \
+                      give as many values as columns, of their kinds\n";
+
 #[test]
 fn a_refused_net_is_written_only_unchecked() {
     let name = example("refused-file.nettext");
@@ -81,7 +85,7 @@ fn a_refused_net_is_written_only_unchecked() {
         "{name}:7:1: load 7 at 1: the row's table is absent, or the row does not fit
     row (1, @1) in CARD at site 0
     ^
-"
+{ADVICE}"
     );
     assert_eq!(outcome(&run(NETASM, &[&name], b"")), (Some(1), String::new(), shown));
     let output = run(NETASM, &["--unchecked", &name], b"");
@@ -92,13 +96,14 @@ fn a_refused_net_is_written_only_unchecked() {
 #[test]
 fn a_refused_file_has_no_text() {
     let name = example("refused-file.net");
-    let shown =
-        format!("{name}: load 7 at 1: the row's table is absent, or the row does not fit\n");
+    let shown = format!(
+        "{name}: load 7 at 1: the row's table is absent, or the row does not fit\n{ADVICE}"
+    );
     assert_eq!(outcome(&run(NETDUMP, &[&name], b"")), (Some(1), String::new(), shown));
-    let shown = "<stdin>: load 1 at 0: the length is no multiple of 104\n".to_owned();
-    assert_eq!(outcome(&run(NETDUMP, &[], &[1; 103])), (Some(1), String::new(), shown));
-    let shown = "<stdin>: load 3 at 0: the kind of the record is unknown\n".to_owned();
-    assert_eq!(outcome(&run(NETDUMP, &[], &[9; 104])), (Some(1), String::new(), shown));
+    for (input, number) in [(&[1; 103][..], 1), (&[9; 104], 3)] {
+        let shown = nettext::refused_file("<stdin>", number, 0);
+        assert_eq!(outcome(&run(NETDUMP, &[], input)), (Some(1), String::new(), shown));
+    }
 }
 
 #[test]

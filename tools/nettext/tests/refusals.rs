@@ -13,18 +13,17 @@ fn refused(text: &str, line: usize, message: &str) {
     assert!(message.starts_with(&format!("load {} at {}: ", fault.number, fault.place)));
 }
 
-const ORDER: &str = "its group comes before that of an earlier record; \
-                     the order is aliases, tables, rows, nodes, starts, picks";
+const ORDER: &str = "its group comes before that of an earlier record";
 const REPEATED: &str = "this alias (site and locality) or table (site and name) came before";
 const MISFIT: &str = "the row's table is absent, or the row does not fit";
-const TOO_MANY: &str = "it is the 9th table or start, 129th node, or 17th row of its table";
-const NO_NODE: &str =
-    "a next or body is not above its own node, or names no node, or a start names none";
+const TOO_MANY: &str = "the 9th table or start, 129th node, or 17th row of its table";
+const NO_NODE: &str = "next (unless 255) or a loop's body is not above its own node's number, \
+                       or one of these or a start names no node of the file";
 
 #[test]
 fn too_many_records() {
     let text = "pick thread 0\n".repeat(257);
-    refused(&text, 257, "load 2 at 256: there are over 256 records");
+    refused(&text, 257, "load 2 at 256: over 256 records; the place is 256");
     assert!(assemble(&text[14..]).is_ok_and(|assembled| assembled.check().is_ok()));
 }
 

@@ -1,6 +1,6 @@
 //! netasm: assembles the text of a net to records.
 
-use nettext::cli::{self, Input, Program};
+use nettext::cli::{self, Failure, Input, Program};
 use nettext::{assemble, read_text, Assembled, Error};
 use std::process::ExitCode;
 
@@ -24,10 +24,10 @@ or a file can't be read or written. The grammar is in docs/TEXT.md.
 ";
 
 fn main() -> ExitCode {
-    cli::run(&Program { name: "netasm", help: HELP, flags: &["--unchecked"], work })
+    cli::run(&Program { name: "netasm", help: HELP, flags: &["--unchecked"], settings: &[], work })
 }
 
-fn work(input: &Input) -> Result<Vec<u8>, String> {
+fn work(input: &Input) -> Result<Vec<u8>, Failure> {
     let shown = |error: Error, text: &str| error.shown(&input.name, text);
     let text = read_text(&input.bytes)
         .map_err(|error| shown(error, &String::from_utf8_lossy(&input.bytes)))?;

@@ -1,7 +1,7 @@
 //! netdump: writes the text of a file of records.
 
-use nettext::cli::{self, Input, Program};
-use nettext::{dump, refusal};
+use nettext::cli::{self, Failure, Input, Program};
+use nettext::{dump, refused_file};
 use std::process::ExitCode;
 
 const HELP: &str = "\
@@ -10,7 +10,8 @@ netdump writes the records of a Klaim-DB net as text, which netasm assembles to 
 usage: netdump [FILE] [-o FILE]
 
 Reads the records from FILE, or from standard input, and writes the text to standard output.
-Where loading refuses the file, it says the number and the record's place, and writes nothing.
+Where loading refuses the file, it says the number, the record's place and what to do, and
+writes nothing.
 
   -o FILE      write to FILE
   --help       show this
@@ -22,12 +23,12 @@ file can't be read or written. The grammar is in docs/TEXT.md.
 ";
 
 fn main() -> ExitCode {
-    cli::run(&Program { name: "netdump", help: HELP, flags: &[], work })
+    cli::run(&Program { name: "netdump", help: HELP, flags: &[], settings: &[], work })
 }
 
-fn work(input: &Input) -> Result<Vec<u8>, String> {
+fn work(input: &Input) -> Result<Vec<u8>, Failure> {
     match dump(&input.bytes) {
         Ok(text) => Ok(text.into_bytes()),
-        Err(fault) => Err(format!("{}: {}\n", input.name, refusal(fault))),
+        Err(fault) => Err(refused_file(&input.name, fault.number, fault.place).into()),
     }
 }

@@ -3,11 +3,12 @@
 mod operand;
 mod step;
 
+use crate::names::Names;
 use engine::{decode, load, Act, Fault, Loop, Node, Record};
-use operand::{columns, name, row};
+pub use operand::{columns, name, row};
 use std::collections::BTreeSet;
 use std::mem::discriminant;
-use step::step;
+pub use step::step;
 
 /// The text of a file that loading accepts; it assembles to the same bytes.
 pub fn dump(file: &[u8]) -> Result<String, Fault> {
@@ -81,7 +82,7 @@ impl Printer {
     fn node(&mut self, node: &Node) -> String {
         let number = self.node;
         let mut text = self.heading(number);
-        text += &format!("    {}", step(&node.act));
+        text += &format!("    {}", step(&node.act, &Names::Numbered));
         self.node += 1;
         self.next = node.next.map(usize::from);
         match self.next {

@@ -1,9 +1,11 @@
 //! A step of a process as text, without its next.
 
 use super::operand::{address, columns, function, operand, operands, predicate};
+use crate::names::Names;
 use engine::{Act, Loop};
 
-pub fn step(act: &Act) -> String {
+/// The names are those of loop bodies.
+pub fn step(act: &Act, names: &Names) -> String {
     match act {
         Act::Insert { into, tuple } => format!("insert {} into {}", operands(tuple), address(into)),
         Act::InsertTable { into, read } => format!("insert table T{read} into {}", address(into)),
@@ -45,7 +47,8 @@ pub fn step(act: &Act) -> String {
         Act::Drop { at } => format!("drop {}", address(at)),
         Act::Loop(Loop { parallel, read, template, body }) => {
             let parallel = if *parallel { "parallel " } else { "" };
-            format!("foreach {parallel}{} in T{read} do n{body}", operands(template))
+            let body = names.target(*body);
+            format!("foreach {parallel}{} in T{read} do {body}", operands(template))
         }
     }
 }

@@ -1,0 +1,21 @@
+//! The proved engine from Rust: a file of records and a list of picks go in, and the answers, the
+//! tables or the threads that they come to go out.
+//!
+//! The calls are those of `include/tivgeral.h`. They are there with the feature `proved`, which
+//! links `target/staticlib/libembedding.a`; without it this crate has their results alone.
+#![deny(unsafe_code)]
+
+mod answer;
+#[cfg(feature = "proved")]
+mod calls;
+mod pick;
+mod thread;
+
+pub use answer::{Answer, Refused};
+#[cfg(feature = "proved")]
+pub use calls::{answers, tables, threads};
+pub use pick::Pick;
+pub use thread::{Thread, Top};
+
+/// Bytes of a record.
+pub const RECORD: usize = 104;

@@ -1,0 +1,49 @@
+//! A test double of the proved engine: the three calls on top of the second engine. Tests alone
+//! use it, to run without the library and to hold the library against it.
+
+use embed::{Answer, Pick, Refused, Thread, Top};
+use engine::{Entry, Net};
+
+pub fn answers(file: &[u8], picks: &[Pick]) -> Result<Vec<Answer>, Refused> {
+    run(file, picks).map(|(_, answers)| answers.into_iter().map(answer).collect())
+}
+
+pub fn tables(file: &[u8], picks: &[Pick]) -> Result<Vec<u8>, Refused> {
+    run(file, picks).map(|(net, _)| written(&net))
+}
+
+pub fn threads(file: &[u8], picks: &[Pick]) -> Result<Vec<Thread>, Refused> {
+    run(file, picks).map(|(net, _)| net.threads.iter().map(thread).collect())
+}
+
+fn run(file: &[u8], picks: &[Pick]) -> Result<(Net, Vec<engine::Answer>), Refused> {
+    let (mut net, _) =
+        engine::load(file).map_err(|fault| Refused { number: fault.number, place: fault.place })?;
+    let picks: Vec<engine::Pick> =
+        picks.iter().map(|pick| engine::Pick { thread: pick.thread, row: pick.row }).collect();
+    let answers = engine::run(&mut net, &picks);
+    Ok((net, answers))
+}
+
+fn answer(answer: engine::Answer) -> Answer {
+    match answer {
+        Ok(done) => Answer::Done { added: done.added as u64, taken: done.taken as u64 },
+        Err(number) => Answer::Refused(number),
+    }
+}
+
+fn written(net: &Net) -> Vec<u8> {
+    let mut out = vec![0; 1 << 14];
+    let length = engine::write(net, &mut out).expect("a sound net");
+    out.truncate(length);
+    out
+}
+
+fn thread(thread: &engine::Thread) -> Thread {
+    let entry = thread.stack.last().expect("a stack with an entry");
+    let top = match entry {
+        Entry::Run(_) => Top::Run,
+        Entry::Loop { left, .. } => Top::Loop { left: left.iter().collect() },
+    };
+    Thread { site: thread.site.0, depth: thread.stack.len() as u8, node: entry.node(), top }
+}

@@ -1,0 +1,98 @@
+//! What differs between the tables before and after a pick.
+
+use crate::tables::Table;
+use engine::Row;
+
+/// A table with the rows that went and came, counted with repeats.
+pub struct Change<'a> {
+    pub table: &'a Table,
+    pub fate: Fate,
+    pub gone: Vec<Row>,
+    pub new: Vec<Row>,
+}
+
+#[derive(Clone, Copy, PartialEq, Eq, Debug)]
+pub enum Fate {
+    Created,
+    Dropped,
+    Stays,
+}
+
+/// The tables that changed: first those that were there, then the new ones.
+pub fn changes<'a>(before: &'a [Table], after: &'a [Table]) -> Vec<Change<'a>> {
+    let known = before.iter().map(|table| match find(after, table) {
+        Some(later) => between(table, Fate::Stays, &table.rows, &later.rows),
+        None => between(table, Fate::Dropped, &table.rows, &[]),
+    });
+    let created = after.iter().filter(|table| find(before, table).is_none());
+    let created = created.map(|table| between(table, Fate::Created, &[], &table.rows));
+    known.chain(created).filter(Change::is_one).collect()
+}
+
+impl Change<'_> {
+    fn is_one(&self) -> bool {
+        self.fate != Fate::Stays || !self.gone.is_empty() || !self.new.is_empty()
+    }
+}
+
+fn find<'a>(tables: &'a [Table], like: &Table) -> Option<&'a Table> {
+    tables.iter().find(|table| table.key() == like.key())
+}
+
+fn between<'a>(table: &'a Table, fate: Fate, before: &[Row], after: &[Row]) -> Change<'a> {
+    Change { table, fate, gone: without(before, after), new: without(after, before) }
+}
+
+/// The rows that are left when each of the others takes one equal row away.
+fn without(rows: &[Row], others: &[Row]) -> Vec<Row> {
+    let mut left = rows.to_vec();
+    for other in others {
+        if let Some(place) = left.iter().position(|row| row == other) {
+            left.remove(place);
+        }
+    }
+    left
+}
+
+#[cfg(test)]
+mod tests {
+    use super::*;
+    use engine::{Columns, Kind, Site, Text, Value};
+
+    fn table(name: &[u8; 4], values: &[i32]) -> Table {
+        Table {
+            site: Site(0),
+            name: Text(*name),
+            columns: Columns::from_iter([Kind::Int]),
+            rows: rows(values),
+        }
+    }
+
+    fn rows(values: &[i32]) -> Vec<Row> {
+        values.iter().map(|value| Row::from_iter([Value::Int(*value)])).collect()
+    }
+
+    #[test]
+    fn rows_are_counted_with_repeats() {
+        let (before, after) = ([table(b"CARD", &[1, 1, 2])], [table(b"CARD", &[1, 3, 3])]);
+        let changes = changes(&before, &after);
+        assert_eq!(changes.len(), 1);
+        assert_eq!((&changes[0].gone, &changes[0].new), (&rows(&[1, 2]), &rows(&[3, 3])));
+        assert_eq!(changes[0].fate, Fate::Stays);
+    }
+
+    #[test]
+    fn an_order_of_rows_is_no_change() {
+        let (before, after) = ([table(b"CARD", &[1, 2])], [table(b"CARD", &[2, 1])]);
+        assert!(changes(&before, &after).is_empty());
+    }
+
+    #[test]
+    fn tables_come_and_go() {
+        let (old, new) = ([table(b"OLD ", &[1])], [table(b"NEW ", &[])]);
+        let changes = changes(&old, &new);
+        assert_eq!(changes.len(), 2);
+        assert_eq!((changes[0].fate, &changes[0].gone), (Fate::Dropped, &rows(&[1])));
+        assert_eq!((changes[1].fate, changes[1].new.len()), (Fate::Created, 0));
+    }
+}

@@ -1,0 +1,152 @@
+//! The program nettrace: options, files and exit status.
+
+use std::io::Write;
+use std::process::{Command, Stdio};
+
+/// Exit status, standard output and standard error, at the root of the repository.
+fn run(arguments: &[&str], input: &[u8]) -> (Option<i32>, String, String) {
+    let mut child = Command::new(env!("CARGO_BIN_EXE_nettrace"))
+        .args(arguments)
+        .current_dir(concat!(env!("CARGO_MANIFEST_DIR"), "/../.."))
+        .stdin(Stdio::piped())
+        .stdout(Stdio::piped())
+        .stderr(Stdio::piped())
+        .spawn()
+        .expect("the program starts");
+    let mut stdin = child.stdin.take().expect("its standard input");
+    // A program that stops at a wrong option does not read.
+    let _ = stdin.write_all(input);
+    drop(stdin);
+    let output = child.wait_with_output().expect("the program ends");
+    let text = |bytes: &[u8]| String::from_utf8_lossy(bytes).into_owned();
+    (output.status.code(), text(&output.stdout), text(&output.stderr))
+}
+
+#[test]
+fn help() {
+    let (status, help, errors) = run(&["--help"], b"");
+    assert_eq!((status, errors.as_str()), (Some(0), ""));
+    for part in ["usage: nettrace", "Example: nettrace", "--picks", "--text", "docs/TOUR.md"] {
+        assert!(help.contains(part), "{part} in {help}");
+    }
+}
+
+#[test]
+fn wrong_options() {
+    let usage = "usage: nettrace [FILE] [--picks PICKS] [--text] [-o FILE]\n";
+    for (arguments, wrong) in [
+        (&["--pick"][..], "unknown option --pick"),
+        (&["--picks"], "--picks needs a value"),
+        (&["a.net", "b.net"], "a second file b.net"),
+    ] {
+        let expected = (Some(2), String::new(), format!("nettrace: {wrong}\n{usage}"));
+        assert_eq!(run(arguments, b""), expected);
+    }
+    let wrong = "nettrace: --picks: found \"0-1\", expected a pick THREAD or THREAD:ROW, \
+                 with places 0..255\n";
+    let (status, _, errors) = run(&["examples/update.net", "--picks", "0 0-1"], b"");
+    assert_eq!((status, errors.as_str()), (Some(2), wrong));
+}
+
+#[test]
+fn a_file_that_is_not_there() {
+    let (status, _, errors) = run(&["no/such.net"], b"");
+    assert_eq!(status, Some(2));
+    assert!(errors.starts_with("nettrace: no/such.net: "), "{errors}");
+}
+
+#[test]
+fn an_error_in_the_text() {
+    let shown = "<stdin>:1:13: found \"x\", expected a thread place 0..255
+    pick thread x
+                ^
+";
+    let outcome = run(&["--text"], b"pick thread x\n");
+    assert_eq!(outcome, (Some(1), String::new(), shown.to_owned()));
+}
+
+#[cfg(not(feature = "proved"))]
+#[test]
+fn without_the_engine_it_says_how_to_build_it() {
+    let (status, told, errors) = run(&["examples/update.net"], b"");
+    assert_eq!((status, told.as_str()), (Some(2), ""));
+    assert!(errors.starts_with("nettrace: this program was built without the engine"), "{errors}");
+    for command in ["rt staticlib embedding", "-p nettrace --features proved"] {
+        assert!(errors.contains(command), "{errors}");
+    }
+}
+
+#[cfg(feature = "proved")]
+mod with_the_engine {
+    use super::run;
+    use std::fs;
+
+    const ROOT: &str = concat!(env!("CARGO_MANIFEST_DIR"), "/../..");
+
+    fn example(name: &str) -> Vec<u8> {
+        fs::read(format!("{ROOT}/examples/{name}")).expect("the example")
+    }
+
+    /// The trace, of a run that ends well.
+    fn told(arguments: &[&str], input: &[u8]) -> String {
+        let (status, told, errors) = run(arguments, input);
+        assert_eq!((status, errors.as_str()), (Some(0), ""));
+        told
+    }
+
+    #[test]
+    fn a_net_by_file_and_by_standard_input() {
+        let by_text = told(&["examples/update.nettext"], b"");
+        assert_eq!(told(&["--text"], &example("update.nettext")), by_text);
+        let by_records = told(&["examples/update.net"], b"");
+        assert_eq!(told(&[], &example("update.net")), by_records);
+        assert_eq!(by_text.replace("line 13 (brighten)", "node 0"), by_records);
+    }
+
+    #[test]
+    fn picks_in_place_of_the_files_own() {
+        let none = told(&["examples/update.net", "--picks", ""], b"");
+        assert!(none.ends_with("in all: 0 picks done, 0 refused; 0 rows added, 0 taken\n"));
+        let three = told(&["examples/update.net", "--picks", "0:9 0 200:1"], b"");
+        assert!(three.ends_with("in all: 1 pick done, 2 refused; 1 row added, 1 taken\n"));
+    }
+
+    #[test]
+    fn a_trace_written_to_a_file() {
+        let path = concat!(env!("CARGO_TARGET_TMPDIR"), "/update.trace");
+        assert_eq!(told(&["examples/update.net", "-o", path], b""), "");
+        let written = fs::read_to_string(path).expect("the trace");
+        assert_eq!(written, told(&["examples/update.net"], b""));
+    }
+
+    #[test]
+    fn a_refused_file_is_explained() {
+        let advice = "what to do: put its table among the table records, before all rows; \
+                      give as many values as columns, of their kinds\n";
+        let wrong = "load 7 at 1: the row's table is absent, or the row does not fit\n";
+        let shown = format!("examples/refused-file.net: {wrong}{advice}");
+        assert_eq!(run(&["examples/refused-file.net"], b""), (Some(1), String::new(), shown));
+        let line = "    row (1, @1) in CARD at site 0\n    ^\n";
+        let shown = format!("examples/refused-file.nettext:7:1: {wrong}{line}{advice}");
+        assert_eq!(run(&["examples/refused-file.nettext"], b""), (Some(1), String::new(), shown));
+    }
+
+    #[test]
+    fn a_text_taken_for_records() {
+        let (status, _, errors) = run(&[], &example("update.nettext"));
+        assert_eq!(status, Some(1));
+        let hint = "It reads as text. Texts are files NAME.nettext, or any with --text.\n";
+        assert!(errors.ends_with(hint), "{errors}");
+    }
+
+    /// A newcomer who writes the README's net gets what the README shows.
+    #[test]
+    fn the_net_of_the_readme() {
+        let readme = fs::read_to_string(format!("{ROOT}/README.md")).expect("the README");
+        let (_, rest) = readme.split_once("<<'END'\n").expect("the command that writes the net");
+        let (net, _) = rest.split_once("END\n").expect("its end");
+        let (_, rest) = readme.split_once("```trace\n").expect("the trace");
+        let (shown, _) = rest.split_once("```").expect("its end");
+        assert_eq!(told(&["--text"], net.as_bytes()), shown);
+    }
+}
