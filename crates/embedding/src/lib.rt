@@ -1,29 +1,8 @@
 // The engine for programs in C and Rust: a net file and picks in, bytes out. Every call answers every input.
-use files::Verdict;
-use nets::Net;
-ghost use Rattle.embedding.specs.Calls.{TablesIs, AnswersIs, ThreadsIs};
-
-pub mod answers;
-pub mod opening;
-pub mod running;
-pub mod standing;
-pub mod tables;
-
-use answers::call_answers;
-use standing::call_threads;
-use tables::call_tables;
-
-// A number, and the place that goes with it.
-pub struct Reply {
-    pub number: u8,
-    pub place: usize,
-}
-
-// A verdict on file and picks, and the file's net where it is accepted.
-pub struct Opened {
-    pub verdict: Verdict,
-    pub net: Net,
-}
+use answering::answers::call_answers;
+use standing::stacks::call_threads;
+use standing::tables::call_tables;
+ghost use Rattle.calls.specs.Calls.{TablesIs, AnswersIs, ThreadsIs};
 
 // The tables after all picks, as records that load again.
 #[no_mangle]

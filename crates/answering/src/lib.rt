@@ -1,0 +1,2 @@
+// The answers to picks, as bytes.
+pub mod answers;

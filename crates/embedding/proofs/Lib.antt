@@ -1,5 +1,0 @@
--- Laws that belong to no one function.
-pub mod PickLaws
-pub mod CallLaws
-pub mod AnswerLaws
-pub mod ThreadLaws
