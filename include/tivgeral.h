@@ -30,8 +30,8 @@
  *
  * A refused pick is no error of a call: it changes nothing, is answered with its number, and the run goes on with the next pick.
  *
- * All of this is proved for every file, every list of picks and every buffer: crates/embedding/specs/Calls.antt has the definition of what a
- * call gives back, and crates/embedding/specs/Layouts.antt that of the bytes.
+ * What comes back is proved for every file, every list of picks and every buffer: crates/calls/specs/Calls.antt has the definition of what a
+ * call gives back, and crates/calls/specs/Layouts.antt that of the bytes. The stack space is measured, not proved.
  */
 #ifndef TIVGERAL_H
 #define TIVGERAL_H

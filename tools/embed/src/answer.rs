@@ -12,7 +12,7 @@ pub struct Refused {
 pub enum Answer {
     /// Carried out, with the rows added and taken.
     Done { added: u64, taken: u64 },
-    /// Refused by this number (10..20); the net stays as it was.
+    /// Refused by this number (11..20); the net stays as it was.
     Refused(u8),
 }
 

@@ -6,13 +6,13 @@ use engine::Row;
 /// A table with the rows that went and came, counted with repeats.
 pub struct Change<'a> {
     pub table: &'a Table,
-    pub fate: Fate,
+    pub kind: TableChange,
     pub gone: Vec<Row>,
     pub new: Vec<Row>,
 }
 
 #[derive(Clone, Copy, PartialEq, Eq, Debug)]
-pub enum Fate {
+pub enum TableChange {
     Created,
     Dropped,
     Stays,
@@ -21,17 +21,17 @@ pub enum Fate {
 /// The tables that changed: first those that were there, then the new ones.
 pub fn changes<'a>(before: &'a [Table], after: &'a [Table]) -> Vec<Change<'a>> {
     let known = before.iter().map(|table| match find(after, table) {
-        Some(later) => between(table, Fate::Stays, &table.rows, &later.rows),
-        None => between(table, Fate::Dropped, &table.rows, &[]),
+        Some(later) => between(table, TableChange::Stays, &table.rows, &later.rows),
+        None => between(table, TableChange::Dropped, &table.rows, &[]),
     });
     let created = after.iter().filter(|table| find(before, table).is_none());
-    let created = created.map(|table| between(table, Fate::Created, &[], &table.rows));
+    let created = created.map(|table| between(table, TableChange::Created, &[], &table.rows));
     known.chain(created).filter(Change::is_one).collect()
 }
 
 impl Change<'_> {
     fn is_one(&self) -> bool {
-        self.fate != Fate::Stays || !self.gone.is_empty() || !self.new.is_empty()
+        self.kind != TableChange::Stays || !self.gone.is_empty() || !self.new.is_empty()
     }
 }
 
@@ -39,8 +39,8 @@ fn find<'a>(tables: &'a [Table], like: &Table) -> Option<&'a Table> {
     tables.iter().find(|table| table.key() == like.key())
 }
 
-fn between<'a>(table: &'a Table, fate: Fate, before: &[Row], after: &[Row]) -> Change<'a> {
-    Change { table, fate, gone: without(before, after), new: without(after, before) }
+fn between<'a>(table: &'a Table, kind: TableChange, before: &[Row], after: &[Row]) -> Change<'a> {
+    Change { table, kind, gone: without(before, after), new: without(after, before) }
 }
 
 /// The rows that are left when each of the others takes one equal row away.
@@ -78,7 +78,7 @@ mod tests {
         let changes = changes(&before, &after);
         assert_eq!(changes.len(), 1);
         assert_eq!((&changes[0].gone, &changes[0].new), (&rows(&[1, 2]), &rows(&[3, 3])));
-        assert_eq!(changes[0].fate, Fate::Stays);
+        assert_eq!(changes[0].kind, TableChange::Stays);
     }
 
     #[test]
@@ -92,7 +92,7 @@ mod tests {
         let (old, new) = ([table(b"OLD ", &[1])], [table(b"NEW ", &[])]);
         let changes = changes(&old, &new);
         assert_eq!(changes.len(), 2);
-        assert_eq!((changes[0].fate, &changes[0].gone), (Fate::Dropped, &rows(&[1])));
-        assert_eq!((changes[1].fate, changes[1].new.len()), (Fate::Created, 0));
+        assert_eq!((changes[0].kind, &changes[0].gone), (TableChange::Dropped, &rows(&[1])));
+        assert_eq!((changes[1].kind, changes[1].new.len()), (TableChange::Created, 0));
     }
 }

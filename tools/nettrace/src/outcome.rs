@@ -1,9 +1,9 @@
 //! What came of a pick: the engine's answer, and what changed in tables and threads.
 
-use crate::changes::{changes, Change, Fate as TableFate};
+use crate::changes::{changes, Change, TableChange};
 use crate::run::Turn;
 use crate::steps::Steps;
-use crate::threads::{fate, Fate};
+use crate::threads::{thread_change, ThreadChange};
 use embed::Answer;
 use nettext::{columns, name, number, row};
 
@@ -53,24 +53,26 @@ fn change(change: &Change) -> Vec<String> {
 fn heading(change: &Change) -> String {
     let table = change.table;
     let address = format!("table {} at site {}", name(table.name), table.site.0);
-    match change.fate {
-        TableFate::Created => format!("+ {address} {}", columns(&table.columns)),
-        TableFate::Dropped => format!("- {address} {}", columns(&table.columns)),
-        TableFate::Stays => address,
+    match change.kind {
+        TableChange::Created => format!("+ {address} {}", columns(&table.columns)),
+        TableChange::Dropped => format!("- {address} {}", columns(&table.columns)),
+        TableChange::Stays => address,
     }
 }
 
 fn threads(turn: &Turn, steps: &Steps) -> Option<String> {
     let place = turn.pick.thread;
     let picked = usize::from(place);
-    match fate(&turn.before.threads, &turn.after.threads, picked) {
-        Fate::Same => None,
-        Fate::Ended if picked + 1 < turn.before.threads.len() => {
+    match thread_change(&turn.before.threads, &turn.after.threads, picked) {
+        ThreadChange::Same => None,
+        ThreadChange::Ended if picked + 1 < turn.before.threads.len() => {
             Some(format!("thread {place} ends; those after it close up"))
         }
-        Fate::Ended => Some(format!("thread {place} ends")),
-        Fate::Moved(now) => Some(format!("thread {place} goes on: {}", steps.entry(now))),
-        Fate::Forked(last, new) => Some(format!("thread {last} is new: {}", steps.entry(new))),
+        ThreadChange::Ended => Some(format!("thread {place} ends")),
+        ThreadChange::Moved(now) => Some(format!("thread {place} goes on: {}", steps.entry(now))),
+        ThreadChange::Forked(last, new) => {
+            Some(format!("thread {last} is new: {}", steps.entry(new)))
+        }
     }
 }
 

@@ -3,7 +3,7 @@
 use embed::Thread;
 
 #[derive(PartialEq, Eq, Debug)]
-pub enum Fate<'a> {
+pub enum ThreadChange<'a> {
     /// No thread changed.
     Same,
     /// The thread picked ended, and those after it close up.
@@ -15,14 +15,14 @@ pub enum Fate<'a> {
 }
 
 /// The threads before and after a pick of the thread at `place`.
-pub fn fate<'a>(before: &[Thread], after: &'a [Thread], place: usize) -> Fate<'a> {
+pub fn thread_change<'a>(before: &[Thread], after: &'a [Thread], place: usize) -> ThreadChange<'a> {
     if after.len() < before.len() {
-        return Fate::Ended;
+        return ThreadChange::Ended;
     }
     match (after.get(before.len()), after.get(place)) {
-        (Some(new), _) => Fate::Forked(before.len(), new),
-        (None, Some(now)) if Some(now) != before.get(place) => Fate::Moved(now),
-        _ => Fate::Same,
+        (Some(new), _) => ThreadChange::Forked(before.len(), new),
+        (None, Some(now)) if Some(now) != before.get(place) => ThreadChange::Moved(now),
+        _ => ThreadChange::Same,
     }
 }
 
@@ -36,12 +36,15 @@ mod tests {
     }
 
     #[test]
-    fn each_fate() {
+    fn each_thread_change() {
         let before = [at(1), at(2)];
-        assert_eq!(fate(&before, &before, 0), Fate::Same);
-        assert_eq!(fate(&before, &before, 7), Fate::Same);
-        assert_eq!(fate(&before, &[at(2)], 0), Fate::Ended);
-        assert_eq!(fate(&before, &[at(1), at(3)], 1), Fate::Moved(&at(3)));
-        assert_eq!(fate(&before, &[at(1), at(2), at(5)], 1), Fate::Forked(2, &at(5)));
+        assert_eq!(thread_change(&before, &before, 0), ThreadChange::Same);
+        assert_eq!(thread_change(&before, &before, 7), ThreadChange::Same);
+        assert_eq!(thread_change(&before, &[at(2)], 0), ThreadChange::Ended);
+        assert_eq!(thread_change(&before, &[at(1), at(3)], 1), ThreadChange::Moved(&at(3)));
+        assert_eq!(
+            thread_change(&before, &[at(1), at(2), at(5)], 1),
+            ThreadChange::Forked(2, &at(5))
+        );
     }
 }
