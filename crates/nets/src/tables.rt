@@ -20,7 +20,10 @@ pub fn find_table(tables: [Table; 8], count: usize, s: Site, name: u32) -> usize
     ensures { λ r. ⌜ r ≡ placeOf (isAt s name) (tablesOf count tables) ⌝ }
 {
     let mut i: usize = 0;
-    while i < count {
+    while i < 8 {
+        if i == count {
+            return count;
+        }
         let t = tables[i];
         if is_at(t, s, name) {
             return i;

@@ -6,4 +6,5 @@ pub mod LinkLaws
 pub mod LoadCall
 pub mod PlaceTies
 pub mod RowLaws
+pub mod RowTies
 pub mod WalkLaws

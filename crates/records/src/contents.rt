@@ -11,48 +11,79 @@ use codec::operands::operands_in;
 use nets::Table;
 use nets::tables::find_table;
 use rows::Draft;
+use rows::Operands;
 use rows::Relation;
-use rows::fit::draft_of;
 use rows::fit::fits_columns;
 use rows::fit::row_of;
 use values::Got;
+use values::Operand;
 use values::Slot;
+use values::Value;
 ghost use mathlib.Core.Path.{_≡_};
-ghost use mathlib.Core.Bool.{_&&_};
+ghost use mathlib.Core.Bool.{false};
 ghost use mathlib.Core.List.{[], _∷_, _++_, map};
-ghost use Prim.Native.Nat.{_≤_};
-ghost use lib.Dec.{T, ltb};
-ghost use lib.ListN.{length};
-ghost use Rattle.values.specs.Lists.{isSome};
-ghost use Rattle.values.specs.Operands.{eval};
-ghost use Rattle.rows.specs.View.{relationOf, draftOf, Shaped};
-ghost use Rattle.rows.specs.Fit.{fitsRow};
+ghost use Prim.Native.Nat.{_≤_, _<_};
+ghost use lib.Dec.{ltb};
+ghost use lib.ListN.{length, getD};
+ghost use Rattle.values.specs.Lists.{placeOf};
+ghost use Rattle.values.specs.Operands.{valuesIn, eval};
+ghost use Rattle.rows.specs.View.{noField, relationOf, draftOf, Shaped};
+ghost use Rattle.rows.specs.Fit.{fits, fitsRow};
 ghost use Rattle.changes.specs.Contracts.{Holds};
-ghost use Rattle.nets.specs.Tables.{tableAt, rowsOf, columnsOf, change};
-ghost use Rattle.nets.specs.Sound.{operandsOk};
+ghost use Rattle.nets.specs.Tables.{isAt, withRows};
 ghost use Rattle.nets.specs.Steps.{check};
-ghost use Rattle.nets.specs.View.{tablesOf};
+ghost use Rattle.nets.specs.View.{tableOf, tablesOf};
 ghost use Rattle.codec.specs.Bytes.{part, operandsIn};
 ghost use Rattle.codec.specs.Decoding.{siteAt, nameIn, rowIn, rowForm};
 ghost use Rattle.records.specs.Walking.{putTables, AllShaped, Leads, Going, numberOf, formThen};
 
 // A row's t has constants alone, so nothing is bound.
+fn constant(op: Operand) -> Got
+    ensures { λ r. ⌜ r ≡ eval [] op ⌝ }
+{
+    match op {
+        Operand::Absent => Got::Nothing,
+        Operand::ConstInt(i) => Got::One(Value::Int(i)),
+        Operand::ConstText(t) => Got::One(Value::Text(t)),
+        Operand::ConstLoc(l) => Got::One(Value::Loc(l)),
+        Operand::Var(_) => Got::Nothing,
+        Operand::Plus(_, _) => Got::Nothing,
+        Operand::Formal(_) => Got::Nothing,
+    }
+}
+
+fn slot_at(t: Operands, i: usize) -> Slot
+    requires { ⌜ i < 4 ⌝ }
+    ensures { λ r. ⌜ r .held ≡ eval [] (getD (t .fields) i noField .operand) ⌝ }
+{
+    let f = t.fields[i];
+    let op = f.operand;
+    let held = constant(op);
+    Slot { held }
+}
+
 pub fn row_draft(p: &[u8]) -> Draft
     requires { ⌜ length (now p) ≡ 32 ⌝ }
     ensures { λ o. ⌜ (draftOf o ≡ map (eval []) (operandsIn (now (p .entry)))) × (o .count ≤ 4) ⌝ }
 {
-    let slot = Slot { held: Got::Nothing };
     let t = operands_in(p);
-    draft_of(t, [slot; 16])
+    let a = slot_at(t, 0);
+    let b = slot_at(t, 1);
+    let c = slot_at(t, 2);
+    let d = slot_at(t, 3);
+    Draft {
+        slots: [a, b, c, d],
+        count: t.count,
+    }
 }
 
-// Checks 7 and 8 in the row's table: the number of the first that fails, 0 for none.
-pub fn content_fault(content: Relation, p: &[u8]) -> u8
-    requires { ⌜ Shaped content × (length (now p) ≡ 32) × T (operandsOk 3 (operandsIn (now p))) ⌝ }
-    ensures { λ o. ⌜ o ≡ numberOf (check 7 (fitsRow (relationOf content .columns) (rowIn (now (p .entry)))) ∷ check 8 (ltb (length (relationOf content .rows)) 16) ∷ []) ⌝ }
+// Checks 7 and 8 of what a row gives, in its table: the number of the first that fails, 0 for none.
+pub fn content_fault(content: Relation, d: Draft) -> u8
+    requires { ⌜ Shaped content × (d .count ≤ 4) ⌝ }
+    ensures { λ o. ⌜ o ≡ numberOf (check 7 (fits (relationOf content .columns) (draftOf d)) ∷ check 8 (ltb (length (relationOf content .rows)) 16) ∷ []) ⌝ }
 {
     let kinds = content.kinds;
-    if !fits_columns(content.columns, kinds, row_draft(p)) {
+    if !fits_columns(content.columns, kinds, d) {
         return 7;
     }
     if content.count < 16 {
@@ -62,43 +93,72 @@ pub fn content_fault(content: Relation, p: &[u8]) -> u8
 }
 
 // The row goes last.
-pub fn content_with(content: Relation, p: &[u8]) -> Relation
-    requires { ⌜ Shaped content × (length (now p) ≡ 32) × T (operandsOk 3 (operandsIn (now p))) × (numberOf (check 7 (fitsRow (relationOf content .columns) (rowIn (now p))) ∷ check 8 (ltb (length (relationOf content .rows)) 16) ∷ []) ≡ 0) ⌝ }
-    ensures { λ o. ⌜ Holds o (relationOf content .columns) (relationOf content .rows ++ (rowIn (now (p .entry)) ∷ [])) ⌝ }
+pub fn content_with(content: Relation, d: Draft) -> Relation
+    requires { ⌜ Shaped content × (d .count ≤ 4) × (numberOf (check 7 (fits (relationOf content .columns) (draftOf d)) ∷ check 8 (ltb (length (relationOf content .rows)) 16) ∷ []) ≡ 0) ⌝ }
+    ensures { λ o. ⌜ Holds o (relationOf content .columns) (relationOf content .rows ++ (valuesIn (draftOf d) ∷ [])) ⌝ }
 {
-    push(content, row_of(row_draft(p)))
+    push(content, row_of(d))
 }
 
-pub fn row_taken(tables: [Table; 8], count: usize, r: &[u8]) -> RowTaken
-    requires { ⌜ (length (now r) ≡ 104) × (count ≤ 8) × AllShaped count tables ⌝ }
-    ensures { λ o. ⌜ (o .fault ≡ formThen (rowForm (now (r .entry))) (check 7 (isSome (tableAt (siteAt 1 (now (r .entry))) (nameIn (now (r .entry))) (tablesOf count tables)) && fitsRow (columnsOf (tableAt (siteAt 1 (now (r .entry))) (nameIn (now (r .entry))) (tablesOf count tables))) (rowIn (part 56 88 (now (r .entry))))) ∷ check 8 (ltb (length (rowsOf (tableAt (siteAt 1 (now (r .entry))) (nameIn (now (r .entry))) (tablesOf count tables)))) 16) ∷ []))
-        × (o .fault ≡ 0 → tablesOf count (o .tables) ≡ change (siteAt 1 (now (r .entry))) (nameIn (now (r .entry))) (λ rs. rs ++ (rowIn (part 56 88 (now (r .entry))) ∷ [])) (tablesOf count tables))
-        × AllShaped count (o .tables) ⌝ }
+// The place of the row's table; `count` where there is none.
+pub fn row_place(tables: [Table; 8], count: usize, r: &[u8]) -> usize
+    requires { ⌜ (length (now r) ≡ 104) × (count ≤ 8) ⌝ }
+    ensures { λ o. ⌜ o ≡ placeOf (isAt (siteAt 1 (now (r .entry))) (nameIn (now (r .entry)))) (tablesOf count tables) ⌝ }
+{
+    find_table(tables, count, site_in(r), name_in(r))
+}
+
+// The fault of a row that has no table.
+pub fn lost_fault(r: &[u8]) -> u8
+    requires { ⌜ length (now r) ≡ 104 ⌝ }
+    ensures { λ o. ⌜ o ≡ formThen (rowForm (now (r .entry))) (check 7 false ∷ []) ⌝ }
+{
+    if row_form(r) {
+        return 7;
+    }
+    4
+}
+
+// The fault of a row that has a table, and the table with the row.
+pub fn row_taken(t: Table, r: &[u8]) -> RowTaken
+    requires { ⌜ (length (now r) ≡ 104) × Shaped (t .content) ⌝ }
+    ensures { λ o. ⌜ (o .fault ≡ formThen (rowForm (now (r .entry))) (check 7 (fitsRow (relationOf (t .content) .columns) (rowIn (part 56 88 (now (r .entry))))) ∷ check 8 (ltb (length (relationOf (t .content) .rows)) 16) ∷ []))
+        × (o .fault ≡ 0 → tableOf (o .table) ≡ withRows (relationOf (t .content) .rows ++ (rowIn (part 56 88 (now (r .entry))) ∷ [])) (tableOf t))
+        × Shaped (o .table .content) ⌝ }
 {
     if !row_form(r) {
-        return RowTaken { fault: 4, tables };
+        return RowTaken { fault: 4, table: t };
     }
-    let at = find_table(tables, count, site_in(r), name_in(r));
-    if count <= at {
-        return RowTaken { fault: 7, tables };
-    }
-    let t = tables[at];
+    let d = row_draft(&r[56..88]);
     let old = t.content;
-    let fault = content_fault(old, &r[56..88]);
+    let fault = content_fault(old, d);
     if fault != 0 {
-        return RowTaken { fault, tables };
+        return RowTaken { fault, table: t };
     }
     let site = t.site;
-    let content = content_with(old, &r[56..88]);
-    let mut next = tables;
-    next[at] = Table {
-        site,
-        name: t.name,
-        content,
-    };
+    let content = content_with(old, d);
     RowTaken {
         fault: 0,
-        tables: next,
+        table: Table {
+            site,
+            name: t.name,
+            content,
+        },
+    }
+}
+
+// The tables as they are, with a fault at the next record.
+fn halted(tables: [Table; 8], count: usize, at: Reach, fault: u8) -> TablesRead
+    ensures { λ r. ⌜ r ≡ record { tables = tables; count = count; reach = record { place = at .place; group = 3; fault = fault } } ⌝ }
+{
+    TablesRead {
+        tables,
+        count,
+        reach: Reach {
+            place: at.place,
+            group: 3,
+            fault,
+        },
     }
 }
 
@@ -111,20 +171,18 @@ pub fn rows_from(file: &[u8], read: TablesRead) -> TablesRead
     let mut at = read.reach;
     while next_group(file, at) == 3 {
         let i = at.place * 104;
-        let taken = row_taken(tables, count, &file[i..i + 104]);
-        let fault = taken.fault;
-        if fault != 0 {
-            return TablesRead {
-                tables,
-                count,
-                reach: Reach {
-                    place: at.place,
-                    group: 3,
-                    fault,
-                },
-            };
+        let place = row_place(tables, count, &file[i..i + 104]);
+        if count <= place {
+            let fault = lost_fault(&file[i..i + 104]);
+            return halted(tables, count, at, fault);
         }
-        tables = taken.tables;
+        let t = tables[place];
+        let taken = row_taken(t, &file[i..i + 104]);
+        if taken.fault != 0 {
+            return halted(tables, count, at, taken.fault);
+        }
+        let table = taken.table;
+        tables[place] = table;
         at = Reach {
             place: at.place + 1,
             group: 3,

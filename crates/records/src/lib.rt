@@ -55,10 +55,10 @@ pub struct PicksRead {
     pub reach: Reach,
 }
 
-// The fault of a row record, 0 for none, and the tables, with the row where there is no fault.
+// The fault of a row record, 0 for none, and its table, with the row where there is no fault.
 pub struct RowTaken {
     pub fault: u8,
-    pub tables: [Table; 8],
+    pub table: Table,
 }
 
 // What all records gave, up to the first fault.

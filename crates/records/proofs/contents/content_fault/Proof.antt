@@ -1,46 +1,37 @@
 -- `records::contents::content_fault` meets its contract: check 7 as the draft fits, then check 8 by the count.
-use Prim.Native.Nat.{ℕ, _≤_, _<_}
-use mathlib.Core.Path.{_≡_, sym, _∙_}
+use Prim.Native.Nat.{_≤_, _<_}
+use mathlib.Core.Path.{_≡_, sym}
 use mathlib.Core.Bool.{Bool, true, false}
-use mathlib.Core.List.{List, [], _∷_, map}
-use lib.Dec.{T, ltb}
+use mathlib.Core.List.{List, [], _∷_}
+use lib.Dec.{ltb}
 use lib.ListN.{length}
 use borrow.Author.Needs.{needs}
 use borrow.Author.Tests.{not-true, not-false, lt-ltb, le-ltb}
-use Rattle.values.specs.Operands.{eval}
 use Rattle.values.proofs.Firsts.{length-firsts}
 use Rattle.rows.specs.declared.Draft.{Draft}
 use Rattle.rows.specs.declared.Relation.{Relation}
-use Rattle.rows.specs.Fit.{fits, fitsRow}
+use Rattle.rows.specs.Fit.{fits}
 use Rattle.rows.specs.View.{noRow, valuesOf, relationOf, draftOf}
-use Rattle.nets.specs.Sound.{operandsOk}
 use Rattle.nets.specs.Steps.{Check, check}
-use Rattle.codec.specs.Bytes.{operandsIn}
-use Rattle.codec.specs.Decoding.{rowIn}
 use Rattle.records.specs.Walking.{numberOf}
-use Rattle.records.proofs.RowLaws.{row-fits}
 use Rattle.records.proofs.contents.content_fault.Statement.{statement}
 use Rattle.records.proofs.contents.content_fault.Tie as tie
 
-module _ (r : Relation) (p : List ℕ) (d : Draft) (given : draftOf d ≡ map (eval []) (operandsIn p)) (ok : T (operandsOk 3 (operandsIn p)))
-    (b : Bool) (e : b ≡ fits (relationOf r .columns) (draftOf d)) where
+module _ (r : Relation) (d : Draft) (b : Bool) (e : b ≡ fits (relationOf r .columns) (draftOf d)) where
   abbrev checks : List Check
-  checks = check 7 (fitsRow (relationOf r .columns) (rowIn p)) ∷ check 8 (ltb (length (relationOf r .rows)) 16) ∷ []
-
-  fitting : fitsRow (relationOf r .columns) (rowIn p) ≡ b
-  fitting = row-fits (relationOf r .columns) p d given ok ∙ sym e
+  checks = check 7 (fits (relationOf r .columns) (draftOf d)) ∷ check 8 (ltb (length (relationOf r .rows)) 16) ∷ []
 
   counted : length (relationOf r .rows) ≡ r .count
   counted = length-firsts (valuesOf (r .columns)) noRow (r .count) (r .rows)
 
   misfit : b ≡ false → 7 ≡ numberOf checks
-  misfit h = rw (fitting, h)
+  misfit h = rw (sym e, h)
 
   fine : b ≡ true → r .count < 16 → 0 ≡ numberOf checks
-  fine h l = rw (fitting, h, counted, lt-ltb (r .count) 16 l)
+  fine h l = rw (sym e, h, counted, lt-ltb (r .count) 16 l)
 
   full : b ≡ true → 16 ≤ r .count → 8 ≡ numberOf checks
-  full h l = rw (fitting, h, counted, le-ltb (r .count) 16 l)
+  full h l = rw (sym e, h, counted, le-ltb (r .count) 16 l)
 
 returns : tie.Need-returns
 returns c = search (misfit, not-true)
@@ -52,5 +43,4 @@ returns-3 : tie.Need-returns-3
 returns-3 c = search (full, not-false)
 
 pub content-fault-spec : {M : Type 1} → statement M
-content-fault-spec =
-    tie.close (tie.spec (λ c κs. search needs) (λ c κs. search needs) returns returns-2 returns-3)
+content-fault-spec = tie.close (tie.spec (λ c κs. search needs) returns returns-2 returns-3)
