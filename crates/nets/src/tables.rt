@@ -14,7 +14,7 @@ pub fn is_at(t: Table, s: Site, name: u32) -> bool
     (s.0 == site.0) & (name == t.name)
 }
 
-// The place of the table of a site and name; `count` where there is none.
+// The place of the table of a site and name; `count` where there is none. Bounds that are fixed let the compiler unroll the loop, and then no table is copied.
 pub fn find_table(tables: [Table; 8], count: usize, s: Site, name: u32) -> usize
     requires { ⌜ count ≤ 8 ⌝ }
     ensures { λ r. ⌜ r ≡ placeOf (isAt s name) (tablesOf count tables) ⌝ }
