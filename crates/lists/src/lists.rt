@@ -1,18 +1,25 @@
 // The lists of tables and threads after a step. Nothing else puts, adds or removes a table or a thread.
 use crate::TableList;
 use crate::ThreadList;
+use acts::Judged;
+use acts::judging::content_after;
 use nets::Node;
 use nets::Table;
 use nets::Thread;
 use rows::Relation;
 use values::Site;
+use values::Slot;
 ghost use mathlib.Core.Path.{_≡_};
+ghost use mathlib.Core.Bool.{false};
 ghost use mathlib.Core.List.{[], _∷_, _++_};
 ghost use Prim.Native.Nat.{_≤_, _<_};
 ghost use lib.Dec.{T};
 ghost use lib.ListN.{set};
 ghost use Rattle.values.specs.Lists.{removeAt};
 ghost use Rattle.rows.specs.View.{relationOf};
+ghost use Rattle.changes.specs.Contracts.{Holds};
+ghost use Rattle.acts.specs.Effects.{contentBy};
+ghost use Rattle.acts.specs.Contracts.{isStep, putsRows, partsOf, Doing, ActReady, JudgedIs};
 ghost use Rattle.nets.specs.Steps.{settle};
 ghost use Rattle.nets.specs.Nets.{needsTable, isCreate};
 ghost use Rattle.nets.specs.View.{kindAt, tableOf, tablesOf, nodeOf, threadOf, threadsOf};
@@ -110,6 +117,32 @@ pub fn tables_after(
         23 => push_table(tables, count, created(site, node, content)),
         24 => without_table(tables, count, at),
         _ => TableList { tables, count },
+    }
+}
+
+// The table that a done step found, after it: its rows give way where the step changes them.
+pub fn table_after(
+    table: Table,
+    node: Node,
+    content: Relation,
+    source: Relation,
+    vars: [Slot; 16],
+    j: Judged,
+) -> Table
+    requires { ⌜ (T (putsRows (kindAt (node .kind))) → ActReady node content source vars × T (isStep (kindAt (node .kind))) × JudgedIs node source vars j × Doing node content source vars) ⌝ }
+    ensures { λ r. ⌜ (r .site ≡ table .site) × (r .name ≡ table .name) × (T (putsRows (kindAt (node .kind))) → Holds (r .content) (contentBy (kindAt (node .kind)) (partsOf node content source vars false 0) .columns) (contentBy (kindAt (node .kind)) (partsOf node content source vars false 0) .rows)) × (putsRows (kindAt (node .kind)) ≡ false → r ≡ table) ⌝ }
+{
+    let kind = node.kind;
+    match kind {
+        16 | 17 | 18 | 21 => {
+            let site = table.site;
+            Table {
+                site,
+                name: table.name,
+                content: content_after(node, content, source, vars, j),
+            }
+        }
+        _ => table,
     }
 }
 

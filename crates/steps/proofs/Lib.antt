@@ -2,6 +2,8 @@
 pub mod HeldLaws
 pub mod KeepStep
 pub mod ListTies
+pub mod PlainTies
 pub mod ReadTies
 pub mod SceneTies
 pub mod StoreTies
+pub mod TurnLaws

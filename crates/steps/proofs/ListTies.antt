@@ -15,8 +15,8 @@ use Rattle.nets.specs.Scenes.{Scene, site, table}
 use Rattle.nets.specs.Steps.{tablesBy, addedBy, takenBy, threadsAfter, netAfter, performed, Check, verdict, judge}
 use Rattle.nets.specs.Accounts.{netLeft}
 use Rattle.nets.specs.Answers.{refusing, answerOf}
-use Rattle.acts.specs.Contracts.{isDoing}
-use Rattle.turns.specs.Contracts.{putsRows, laterChecks, outcomeAt}
+use Rattle.acts.specs.Contracts.{isDoing, putsRows}
+use Rattle.turns.specs.Contracts.{laterChecks, outcomeAt}
 use Rattle.nets.proofs.TableLaws.{change-same}
 use Rattle.nets.proofs.TablePlaces.{placeAt, place-below, table-at, change-place, remove-place}
 

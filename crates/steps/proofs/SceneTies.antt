@@ -14,7 +14,7 @@ use Rattle.values.proofs.Bools.{and-l, and-r, is-true}
 use Rattle.values.proofs.ListLaws.{all-at, find-all}
 use Rattle.values.proofs.Firsts.{length-firsts, firsts-at}
 use Rattle.rows.specs.Relations.{Relation}
-use Rattle.turns.specs.declared.Situation.{Situation}
+use Rattle.turns.specs.Situations.{Situation}
 use Rattle.nets.specs.declared.Pick.{Pick}
 use Rattle.nets.specs.declared.Alias.{Alias}
 use Rattle.nets.specs.declared.Frame.{Frame}

@@ -21,7 +21,7 @@ use Rattle.nets.specs.declared.Answer.{Answer}
 use Rattle.nets.specs.declared.Answer.the-variants.{Done, Refused}
 use Rattle.nets.specs.declared.Frame.{Frame}
 use Rattle.turns.specs.declared.Located.{Located}
-use Rattle.turns.specs.declared.Change.{Change}
+use Rattle.turns.specs.Situations.{Change}
 use Rattle.lists.specs.declared.TableList.{TableList}
 use Rattle.lists.specs.declared.ThreadList.{ThreadList}
 use Rattle.nets.specs.declared.Net.{Net}
@@ -34,10 +34,10 @@ use Rattle.nets.specs.Scenes.{Scene, sceneOf, site, table}
 use Rattle.nets.specs.Steps.{check14, roomBy, check20, settle, tablesBy, threadsAfter, performed, Check, verdict, judge, step}
 use Rattle.nets.specs.Accounts.{netLeft}
 use Rattle.nets.specs.View.{noTable, noThread, kindAt, tableOf, nodeOf, threadOf, tablesOf, threadsOf, view}
-use Rattle.nets.specs.Answers.{Said, refusing, numberOf, answerOf, saidOf, StepIs}
-use Rattle.acts.specs.Contracts.{isDoing}
+use Rattle.nets.specs.Answers.{Said, refusing, numberOf, answerOf, saidOf, isRefused, StepIs}
+use Rattle.acts.specs.Contracts.{isDoing, putsRows}
 use Rattle.threads.specs.Contracts.{standing, forksOf}
-use Rattle.turns.specs.Contracts.{putsRows, laterChecks, outcomeAt, ChangeIs}
+use Rattle.turns.specs.Contracts.{laterChecks, outcomeAt, ChangeIs}
 use Rattle.lists.specs.Contracts.{putContent, tablesWith}
 use Rattle.nets.proofs.StepLaws.{Passed}
 use Rattle.nets.proofs.AnswerLaws.{refuses-11}
@@ -66,9 +66,9 @@ past-refused net p ok h =
 
 -- refused by a later check
 pub change-refused :
-    (net : Net) (p : Pick) → T (sound (view net)) → p .thread < net .threadcount → {d : Change} → ChangeIs (sceneOf (view net) p) d → {why : Refusal} → d .answer ≡ Refused why →
+    (net : Net) (p : Pick) → T (sound (view net)) → p .thread < net .threadcount → {a : Answer} → saidOf a ≡ answerOf (outcomeAt (sceneOf (view net) p)) → {why : Refusal} → a ≡ Refused why →
     answerOf (step (view net) p) ≡ refusing (numberOf why) []
-change-refused net p ok there is says = ap answerOf (step-is net p ok there) ∙ sym (is .answer) ∙ ap saidOf says
+change-refused net p ok there is says = ap answerOf (step-is net p ok there) ∙ sym is ∙ ap saidOf says
 
 -- ── a done step passed the checks ──
 
@@ -137,7 +137,7 @@ netWith net ts hs =
 
 module _
     (net : Net) (p : Pick) (ok : T (sound (view net))) (there : p .thread < net .threadcount)
-    {f : Frame} {k : ℕ} {b h : Bool} {g : Got} {l : Located} {s : Site} {at : ℕ} {q : Code.Relation} (r : Read net p f k b h g l s at q)
+    {f : Frame} {k : ℕ} {h : Bool} {g : Got} {l : Located} {s : Site} {at : ℕ} {q : Code.Relation} (r : Read net p f k h g l s at q)
     {d : Change} (is : ChangeIs (sceneOf (view net) p) d) where
   module _ {a t : ℕ} (says : d .answer ≡ Done a t) where
     is-doing : T (isDoing (saidOf (d .answer)))
@@ -200,15 +200,15 @@ module _
       unfolding sceneOf view
       threads-stored = threads ∙ sym (is .threads is-doing)
 
-      pub done-is : StepIs net p (record { answer = Done a t; net = netWith net ts hs })
+      pub done-is : StepIs net p (record { answer = d .answer; net = netWith net ts hs })
       unfolding view sceneOf
       done-is =
           record {
-            answer = sym (ap saidOf says) ∙ is .answer ∙ ap answerOf (sym (step-is net p ok there));
+            answer = is .answer ∙ ap answerOf (sym (step-is net p ok there));
             after =
                 (λ j. record { aliases = view net .aliases; tables = tables-stored j; nodes = view net .nodes; threads = threads-stored j })
                 ∙ sym (net-after (sceneOf (view net) p))
                 ∙ sym (done-left (view net) (sceneOf (view net) p) done-at)
                 ∙ ap (netLeft (view net)) (sym (step-is net p ok there));
-            kept = λ x. absurd x;
+            kept = λ x. absurd (subst (λ (y : Answer). T (isRefused y)) says x);
           }

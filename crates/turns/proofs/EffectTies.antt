@@ -17,8 +17,8 @@ use Rattle.nets.specs.Scenes.{Scene, below, vars, site, table, relation, source
 use Rattle.nets.specs.Steps.{holds, check12, check13, check14, check15, check16, check17, check18, check19, check20, tablesBy, addedBy, takenBy, bindRelation, withVars, bindingsBy, withBindings, goOn, settle, threadsAfter, performed, verdict, judge}
 use Rattle.nets.specs.Answers.{Said, doing, answerOf}
 use Rattle.acts.specs.Effects.{Parts, passing, saidBy, contentBy, boundBy, varsBy}
-use Rattle.acts.specs.Contracts.{isStep}
-use Rattle.turns.specs.Contracts.{putsRows, outcomeAt}
+use Rattle.acts.specs.Contracts.{isStep, putsRows}
+use Rattle.turns.specs.Contracts.{outcomeAt}
 use Rattle.nets.proofs.TableLaws.{change-same}
 
 -- ── the answer, check by check ──

@@ -2,7 +2,9 @@
 pub mod CompleteLaws
 pub mod DecideLaws
 pub mod EffectTies
+pub mod LoopLaws
 pub mod MeetTies
+pub mod MovedLaws
 pub mod RoundTies
 pub mod SituationLaws
 pub mod TurnLaws

@@ -8,7 +8,7 @@ use Rattle.values.specs.Operands.{varsOf}
 use Rattle.rows.specs.declared.Relation as Code
 use Rattle.rows.specs.Relations.{Relation}
 use Rattle.rows.specs.View.{relationOf, operandsOf}
-use Rattle.turns.specs.declared.Situation.{Situation}
+use Rattle.turns.specs.Situations.{Situation}
 use Rattle.nets.specs.Nets as M
 use Rattle.nets.specs.Nets.{Kind, bindsRelation, isLoop, isParallel}
 use Rattle.nets.specs.Scenes.{Scene, vars, template, relation, source}

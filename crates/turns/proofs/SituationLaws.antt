@@ -1,7 +1,7 @@
 -- What soundness and check 12 say of the parts that a pick meets: counts, table variables, the source of rows, and a select's t. Assumes nothing.
 use Prim.Native.Nat.{ℕ, _≤_, _<_}
 use mathlib.Core.Path.{_≡_, refl, ap, ap₂, sym, subst, _∙_}
-use mathlib.Core.Bool.{Bool, true, false, not, cond}
+use mathlib.Core.Bool.{Bool, true, false, not, cond, _&&_}
 use mathlib.Core.List.{List, map}
 use mathlib.Core.Option.{Option, none, some}
 use native.Mathlib.Omega.{arith}
@@ -20,16 +20,16 @@ use Rattle.rows.specs.Relations.{Relation}
 use Rattle.rows.specs.View.{noRow, noField, valuesOf, relationOf, operandsOf, Shaped, Short}
 use Rattle.changes.specs.Contracts.{Complete}
 use Rattle.nets.specs.declared.TableVariable.{TableVariable}
-use Rattle.turns.specs.declared.Situation.{Situation}
+use Rattle.turns.specs.Situations.{Situation}
 use Rattle.nets.specs.Nets as M
 use Rattle.nets.specs.Nets.{Kind, hasTemplate, hasTuple, isSelect, isLoop, readsRelation, bindsRelation, code}
 use Rattle.nets.specs.Sound.{operandsOk, isEmpty, templateOk, relationOk, fieldsOkAs, linksOkAs}
 use Rattle.nets.specs.Scenes.{Scene, source}
 use Rattle.nets.specs.Steps.{isBound, isBoundTable, readsOk, check12}
 use Rattle.nets.specs.View.{kindAt, nodeOf, variableOf, threadOf}
-use Rattle.acts.specs.Contracts.{flagAt, isStep, ActReady}
+use Rattle.acts.specs.Contracts.{flagAt, isStep, ActReady, JudgeReady}
 use Rattle.threads.specs.Contracts.{visitOf}
-use Rattle.turns.specs.Contracts.{Meets, relationRead, Fine, Known, SourceIs}
+use Rattle.turns.specs.Contracts.{Meets, relationRead, Fine, Known, SourceIs, Sourced}
 use Rattle.turns.proofs.EffectTies.{read-source, own-source}
 use Rattle.nets.proofs.RoundLaws.{given, loop-reads}
 use Rattle.turns.proofs.CompleteLaws.{select-complete}
@@ -111,6 +111,10 @@ module _ (s : Situation) (f : Fine s) where
   pub fine-tuple : Short (s .node .tuple)
   fine-tuple = short (s .node .tuple) (tuple-few (kindAt (s .node .kind)) (nodeOf (s .node)) fields-fine)
 
+  -- rows can be judged before check 12 is
+  pub judge-ready : (q : Code.Relation) → Shaped q → JudgeReady (s .node) q
+  judge-ready q h = record { source = h; template = fine-template; tuple = fine-tuple }
+
   -- a kind that is no loop
   pub fine-step : {b : Bool} → b ≡ isLoop (kindAt (s .node .kind)) → b ≡ false → T (isStep (kindAt (s .node .kind)))
   fine-step e h =
@@ -135,14 +139,6 @@ module _ (s : Situation) (f : Fine s) where
         rows = leb→le (length (relationOf q .rows)) 16 (search (and-l, and-r));
       })
 
--- a table variable that holds something is bound
-variable-bound : (v : TableVariable) {o : Option Relation} → variableOf v ≡ o → T (isSome o) → o ≡ some (relationOf (v .content))
-variable-bound v {o} e h = go (v .bound) (sym e)
-  where
-    go : (b : Bool) → o ≡ cond b (some (relationOf (v .content))) none → o ≡ some (relationOf (v .content))
-    go true p = p
-    go false p = absurd (subst (λ (x : Option Relation). T (isSome x)) p h)
-
 module _ (s : Situation) (k : Known s) where
   read-bound : T (readsRelation (kindAt (s .node .kind))) → T (isSome (relationRead s))
   unfolding readsOk
@@ -163,11 +159,11 @@ module _ (s : Situation) (c : Scene) (m : Meets s c) where
   pub known-12 : Known s → check12 c ≡ true
   known-12 k = met-12 ∙ is-true (readsOk (isBound (threadOf (s .thread) .bindings .vars)) (isBoundTable (threadOf (s .thread) .bindings .relations)) (nodeOf (s .node))) (k .reads)
 
--- with the variables and table variables that are bound given by flags
-module _ (s : Situation) (fs hs : List Bool) (bound : (i : ℕ) → flagAt fs i ≡ isBound (varsOf (s .thread .vars)) i) (held : (i : ℕ) → flagAt hs i ≡ isBoundTable (map variableOf (s .thread .relations)) i)
-    {b : Bool} (e : b ≡ readsOk (flagAt fs) (flagAt hs) (nodeOf (s .node))) where
+-- with the table variables that are bound given by flags
+module _ (s : Situation) (hs : List Bool) (held : (i : ℕ) → flagAt hs i ≡ isBoundTable (threadOf (s .thread) .bindings .relations) i)
+    {b : Bool} (e : b ≡ readsOk (isBound (varsOf (s .thread .vars))) (flagAt hs) (nodeOf (s .node))) where
   reads-flagged : b ≡ readsOk (isBound (threadOf (s .thread) .bindings .vars)) (isBoundTable (threadOf (s .thread) .bindings .relations)) (nodeOf (s .node))
-  reads-flagged = e ∙ (λ i. readsOk (λ n. bound n i) (λ n. held n i) (nodeOf (s .node)))
+  reads-flagged = e ∙ (λ i. readsOk (isBound (varsOf (s .thread .vars))) (λ n. held n i) (nodeOf (s .node)))
 
   pub flagged-known : b ≡ true → Known s
   flagged-known h = record { reads = subst T (sym h ∙ reads-flagged) tt }
@@ -177,19 +173,42 @@ module _ (s : Situation) (fs hs : List Bool) (bound : (i : ℕ) → flagAt fs i 
 
 -- ── the source of rows ──
 
-module _ (s : Situation) (f : Fine s) {b : Bool} (e : b ≡ readsRelation (kindAt (s .node .kind))) where
-  pub source-read : b ≡ true → Known s → (v : TableVariable) → variableOf v ≡ relationRead s → SourceIs s (v .content)
-  source-read h k v p =
-      let r : T (readsRelation (kindAt (s .node .kind))) = T-of (readsRelation (kindAt (s .node .kind))) (sym e ∙ h) in
-      let held = variable-bound v p (read-bound s k r) in
+module _ (s : Situation) (f : Fine s) (v : TableVariable) (p : variableOf v ≡ relationRead s) where
+  abbrev sourceFrom : Bool → Bool → Code.Relation
+  sourceFrom a b = cond (a && b) (v .content) (s .content)
+
+  -- a bound one is what is read
+  read-as : v .bound ≡ true → relationRead s ≡ some (relationOf (v .content))
+  read-as e = sym p ∙ rw e
+
+  unread : v .bound ≡ false → relationRead s ≡ none
+  unread e = sym p ∙ rw e
+
+  source-read : (b : Bool) → v .bound ≡ b → T (readsRelation (kindAt (s .node .kind))) → Known s → SourceIs s (sourceFrom true b)
+  source-read true e r k =
       record {
-        shaped = read-shaped s f (v .content) held;
-        read = λ g. held;
+        shaped = read-shaped s f (v .content) (read-as e);
+        read = λ g. read-as e;
         own = λ g. absurd (subst T g r);
       }
+  source-read false e r k =
+      absurd (subst (λ (o : Option Relation). T (isSome o)) (unread e) (read-bound s k r))
 
-  pub source-own : b ≡ false → SourceIs s (s .content)
-  source-own h = record { shaped = f .content; read = λ g. absurd (subst T (sym e ∙ h) g); own = λ g. refl }
+  shaped-from : (a b : Bool) → v .bound ≡ b → Shaped (sourceFrom a b)
+  shaped-from true true e = read-shaped s f (v .content) (read-as e)
+  shaped-from true false e = f .content
+  shaped-from false b e = f .content
+
+  pub sourced : Sourced s (sourceFrom (readsRelation (kindAt (s .node .kind))) (v .bound))
+  sourced =
+      record {
+        shaped = shaped-from (readsRelation (kindAt (s .node .kind))) (v .bound) refl;
+        source = go (readsRelation (kindAt (s .node .kind))) refl;
+      }
+    where
+      go : (a : Bool) → readsRelation (kindAt (s .node .kind)) ≡ a → Known s → SourceIs s (sourceFrom a (v .bound))
+      go true e k = source-read (v .bound) refl (T-of (readsRelation (kindAt (s .node .kind))) e) k
+      go false e k = record { shaped = f .content; read = λ g. absurd (subst T e g); own = λ g. refl }
 
 module _ (s : Situation) (q : Code.Relation) (i : SourceIs s q) where
   pub source-met : (c : Scene) → Meets s c → relationOf q ≡ source c

@@ -2,7 +2,7 @@
 use Prim.Native.Nat.{ℕ, _≤_}
 use mathlib.Core.Path.{_≡_, refl, ap, ap₂, sym, subst, _∙_}
 use mathlib.Core.Bool.{Bool, true, false, not, cond, _&&_, _||_}
-use mathlib.Core.List.{List, [], _∷_, _++_, append-nil}
+use mathlib.Core.List.{List, [], _∷_, _++_, map, append-nil}
 use mathlib.Core.Option.{some}
 use lib.Dec.{T, eqb, ltb}
 use lib.ListN.{length, getD}
@@ -21,16 +21,18 @@ use Rattle.nets.specs.declared.Frame.{Frame}
 use Rattle.threads.specs.declared.Round.{Round}
 use Rattle.threads.specs.declared.Turn.{Turn}
 use Rattle.threads.specs.declared.Turn.the-variants.{Over, Opened, Stopped}
-use Rattle.turns.specs.declared.Situation.{Situation}
+use Rattle.turns.specs.declared.Decided.{Decided}
+use Rattle.turns.specs.Situations.{Situation}
 use Rattle.nets.specs.Nets as M
-use Rattle.nets.specs.Nets.{Kind, acting, other, insert, insertTable, delete, update, create, drop, select, selectRelation, aggregate, sequential, parallel, badKind, isLoop, isParallel, toRun, visiting}
+use Rattle.nets.specs.Nets.{Kind, acting, other, insert, insertTable, delete, update, create, drop, select, selectRelation, aggregate, sequential, parallel, badKind, isLoop, isParallel, bindsRelation, toRun, visiting}
 use Rattle.nets.specs.Sound.{entryNode}
 use Rattle.nets.specs.Scenes.{Scene, below, stillToVisit, vars, template, rowAt}
 use Rattle.nets.specs.Steps.{roomForRound, check12, loopEntry, roundBindings, withBindings, withStack, withVars, goOn, settle}
 use Rattle.nets.specs.Answers.{refusing, answerOf, numberOf}
-use Rattle.nets.specs.View.{kindAt, marked, entryOf, bindingsOf, threadOf}
+use Rattle.nets.specs.View.{kindAt, marked, entryOf, variableOf, bindingsOf, threadOf}
+use Rattle.acts.specs.Contracts.{putsRows}
 use Rattle.threads.specs.Contracts.{turnOf, turnBy, opened, readyAt, visitOf, RoundIs, standing}
-use Rattle.turns.specs.Contracts.{outcomeAt, Meets, relationRead, putsRows, ChangeIs}
+use Rattle.turns.specs.Contracts.{outcomeAt, Meets, relationRead, Made, changed, ChangeIs}
 use Rattle.nets.proofs.KindLaws.{at-one}
 use Rattle.turns.proofs.MeetTies.{met-kind, met-vars, met-template, met-relation, met-turn, met-room}
 use Rattle.turns.proofs.RoundTies.{turnedSaid, turnAt, turnIn, turn-answer, over-threads, sequential-threads, parallel-threads, loop-visit, loop-row}
@@ -50,19 +52,37 @@ puts-none (other sequential) l h = h
 puts-none (other parallel) l h = h
 puts-none (other badKind) l h = l
 
+-- and binds no table variable
+binds-none : (k : Kind) → T (isLoop k) → bindsRelation k ≡ false
+binds-none (acting insert) l = absurd l
+binds-none (acting insertTable) l = absurd l
+binds-none (acting delete) l = absurd l
+binds-none (acting update) l = absurd l
+binds-none (acting create) l = absurd l
+binds-none (acting drop) l = absurd l
+binds-none (other select) l = absurd l
+binds-none (other selectRelation) l = absurd l
+binds-none (other aggregate) l = absurd l
+binds-none (other sequential) l = refl
+binds-none (other parallel) l = refl
+binds-none (other badKind) l = absurd l
+
+pub loop-relations : (s : Situation) (q : Code.Relation) (r : Decided) (x : Made s q r) → T (isLoop (kindAt (s .node .kind))) → map variableOf (x .relations) ≡ map variableOf (s .thread .relations)
+loop-relations s q r x l = x .bound ∙ rw (binds-none (kindAt (s .node .kind)) l)
+
+-- a thread with such bindings goes on as it is
+pub same-bindings :
+    (s : Situation) (q : Code.Relation) (r : Decided) (x : Made s q r) → T (isLoop (kindAt (s .node .kind))) → r .vars ≡ s .thread .vars →
+    goOn (s .node .next) (withBindings (threadOf (s .thread)) (bindingsOf (r .vars) (x .relations))) (below (threadOf (s .thread) .stack)) ≡ goOn (s .node .next) (threadOf (s .thread)) (below (threadOf (s .thread) .stack))
+same-bindings s q r x l v =
+    λ i.
+    goOn (s .node .next)
+    (record { site = s .thread .site; bindings = record { vars = varsOf (v i); relations = loop-relations s q r x l i }; stack = threadOf (s .thread) .stack })
+    (below (threadOf (s .thread) .stack))
+
 -- a round in a thread: its variables, and the entries that its top gives way to
-abbrev roundIn : M.Thread → Vars → M.Entry → M.Entry → M.Thread
+abbrev pub roundIn : M.Thread → Vars → M.Entry → M.Entry → M.Thread
 roundIn t vs x y = withStack (withBindings t (withVars (t .bindings) vs)) (x ∷ y ∷ below (t .stack))
-
--- the loop entry of node `j`
-pub loop-in : (t : M.Thread) {w : M.Thread} {i j : ℕ} {v : List ℕ} → i ≡ j → w ≡ withStack t (visiting i v ∷ below (t .stack)) → w ≡ withStack t (visiting j v ∷ below (t .stack))
-loop-in t {v = v} h e = e ∙ ap (λ (i : ℕ). withStack t (visiting i v ∷ below (t .stack))) h
-
--- step by step, as the code makes it
-pub round-in :
-    (t : M.Thread) {w u r : M.Thread} {x y z : M.Entry} {vs : Vars} → w ≡ withStack t (y ∷ below (t .stack)) → u ≡ withBindings w (withVars (w .bindings) vs) → z ≡ x → r ≡ withStack u (z ∷ u .stack) →
-    r ≡ roundIn t vs x y
-round-in t {vs = vs} e f h g = g ∙ ap₂ (λ (v : M.Thread) (z : M.Entry). withStack v (z ∷ v .stack)) (f ∙ ap (λ (v : M.Thread). withBindings v (withVars (v .bindings) vs)) e) h
 
 -- a round has room
 has-room : (a b q r : Bool) → turnBy a b q r ≡ opened → r ≡ true
@@ -127,11 +147,11 @@ module _ (s : Situation) (c : Scene) (o : Round) (r : RoundAt s c o) where
       ∙ ap (turnIn (varsOf (s .thread .vars)) (operandsOf (s .node .selector .template)) q (visitOf (s .frame) q) (s .row)) (sym (r .space))
       ∙ sym (r .got .turn) ∙ ap turnOf e
 
-  says : {t : Turn} → o .turn ≡ t → turnedSaid (turnOf t) ≡ answerOf (outcomeAt c)
-  says e = sym (turn-answer c loops (r .twelve) ∙ ap turnedSaid (turn-is e))
+  pub turn-says : {t : Turn} → o .turn ≡ t → turnedSaid (turnOf t) ≡ answerOf (outcomeAt c)
+  turn-says e = sym (turn-answer c loops (r .twelve) ∙ ap turnedSaid (turn-is e))
 
   pub turn-stops : (why : Refusal) → o .turn ≡ Stopped why → refusing (numberOf why) [] ≡ answerOf (outcomeAt c)
-  turn-stops why e = says e
+  turn-stops why e = turn-says e
 
   kind-is : isParallel (c .node .kind) ≡ eqb (s .node .kind) 26
   kind-is = ap isParallel (met-kind s c m) ∙ sym (parallel-byte (s .node .kind))
@@ -147,7 +167,7 @@ module _ (s : Situation) (c : Scene) (o : Round) (r : RoundAt s c o) where
       ChangeIs c (record { answer = Done 0 0; content = content; thread = after; forks = false; fork = fork })
   turn-over e content after fork goes-on =
       record {
-        answer = says e;
+        answer = turn-says e;
         content = λ h k. absurd (puts-no-rows k);
         room = λ h. absurd h;
         threads = λ h.
@@ -187,7 +207,7 @@ module _ (s : Situation) (c : Scene) (o : Round) (r : RoundAt s c o) where
         ChangeIs c (record { answer = Done 0 0; content = content; thread = after; forks = false; fork = fork })
     turn-runs h content after fork p =
         record {
-          answer = says e;
+          answer = turn-says e;
           content = λ d k. absurd (puts-no-rows k);
           room = λ d. absurd d;
           threads = λ d.
@@ -207,7 +227,7 @@ module _ (s : Situation) (c : Scene) (o : Round) (r : RoundAt s c o) where
         ChangeIs c (record { answer = Done 0 0; content = content; thread = after; forks = true; fork = fork })
     turn-forks h content after fork deep p f =
         record {
-          answer = says e;
+          answer = turn-says e;
           content = λ d k. absurd (puts-no-rows k);
           room = λ d. (ltb-true (length (c .net .threads)) 8 (sym (ap (λ (n : ℕ). ltb n 8) (m .threads)) ∙ space-is), deep);
           threads = λ d.

@@ -2,31 +2,33 @@
 use Prim.Native.Nat.{ℕ, _≤_, _<_}
 use mathlib.Core.Path.{_≡_}
 use mathlib.Core.Bool.{Bool, false, cond}
-use mathlib.Core.List.{List, [], _∷_, _++_}
+use mathlib.Core.List.{List, [], _∷_, _++_, map}
 use mathlib.Core.Option.{Option, none, some}
 use lib.Dec.{T, ltb}
 use lib.ListN.{getD, set, length}
 use Rattle.values.specs.declared.Site.{Site}
-use Rattle.values.specs.Lists.{all, any, among, isSome}
-use Rattle.values.specs.Operands.{varsOf}
+use Rattle.values.specs.Lists.{all, any, isSome}
 use Rattle.rows.specs.declared.Relation as Code
 use Rattle.rows.specs.Relations.{Relation}
 use Rattle.rows.specs.View.{relationOf, Shaped}
 use Rattle.changes.specs.Contracts.{Holds}
 use Rattle.turns.specs.declared.Located.{Located}
 use Rattle.turns.specs.declared.Located.the-variants.{Nowhere, At}
-use Rattle.acts.specs.declared.Effect.{Effect}
-use Rattle.turns.specs.declared.Situation.{Situation}
-use Rattle.turns.specs.declared.Change.{Change}
+use Rattle.nets.specs.declared.Frame.{Frame}
+use Rattle.nets.specs.declared.TableVariable.{TableVariable}
+use Rattle.nets.specs.declared.Thread.{Thread}
+use Rattle.turns.specs.declared.Decided.{Decided}
+use Rattle.turns.specs.Situations.{Situation, Change, overOf, moved}
 use Rattle.nets.specs.Nets as M
-use Rattle.nets.specs.Nets.{Kind, code, isLoop, readsRelation, bindsRelation, Outcome}
+use Rattle.nets.specs.Nets.{Kind, isLoop, readsRelation, bindsRelation, toRun, Outcome}
 use Rattle.nets.specs.Tables.{tableAt, contentOf, rowsOf, columnsOf}
 use Rattle.nets.specs.Sound.{nodeOkAs, bindingsOk}
 use Rattle.nets.specs.Scenes.{Scene, site, siteOfL, table}
 use Rattle.nets.specs.Steps.{isBound, isBoundTable, readsOk, holds, settle, tablesBy, threadsAfter, performed, Check, check, check12, check13, check14, check15, check16, check17, check18, check19, check20, judge}
-use Rattle.nets.specs.View.{kindAt, nodeOf, entryOf, threadOf}
+use Rattle.nets.specs.View.{kindAt, nodeOf, entryOf, variableOf, bindingsOf, threadOf}
 use Rattle.nets.specs.Answers.{answerOf, saidOf}
-use Rattle.acts.specs.Contracts.{isDoing}
+use Rattle.acts.specs.Effects.{Parts, contentBy, boundBy}
+use Rattle.acts.specs.Contracts.{isDoing, isStep, putsRows, partsOf, Doing}
 use Rattle.threads.specs.Contracts.{visitOf, Stacked, standing, forksOf}
 
 -- ── places ──
@@ -92,17 +94,10 @@ pub record SourceIs (s : Situation) (r : Code.Relation) : Type 0 where
   pub read : T (readsRelation (kindAt (s .node .kind))) → relationRead s ≡ some (relationOf r)
   pub own : readsRelation (kindAt (s .node .kind)) ≡ false → relationOf r ≡ relationOf (s .content)
 
--- the bindings of a thread after an effect
-abbrev pub boundWith : Situation → Effect → M.Bindings
-boundWith s e =
-    record {
-      vars = varsOf (e .vars);
-      relations = cond (bindsRelation (kindAt (s .node .kind))) (set (threadOf (s .thread) .bindings .relations) (s .node .bound) (some (relationOf (e .bound)))) (threadOf (s .thread) .bindings .relations);
-    }
-
--- the step changes the rows of a table that stays
-abbrev pub putsRows : Kind → Bool
-putsRows k = among (code k) (16 ∷ 17 ∷ 18 ∷ 21 ∷ [])
+-- the source, before check 12 is known to pass
+pub record Sourced (s : Situation) (r : Code.Relation) : Type 0 where
+  pub shaped : Shaped r
+  pub source : Known s → SourceIs s r
 
 pub record ChangeIs (c : Scene) (r : Change) : Type 0 where
   pub answer : saidOf (r .answer) ≡ answerOf (outcomeAt c)
@@ -111,3 +106,39 @@ pub record ChangeIs (c : Scene) (r : Change) : Type 0 where
   -- what becomes of the thread, and the new thread of a parallel round
   pub room : T (r .forks) → (length (c .net .threads) < 8) × (1 ≤ r .thread .depth)
   pub threads : T (isDoing (saidOf (r .answer))) → threadsAfter c ≡ settle (c .at) (standing (threadOf (r .thread))) (c .net .threads) ++ forksOf (r .forks) (r .fork)
+
+-- ── what is decided ──
+
+-- the parts that it takes no thread to make, where source and node are known
+abbrev pub partsIn : Situation → Code.Relation → Parts
+partsIn s q = partsOf (s .node) (s .content) q (s .thread .vars) false 0
+
+-- what is made for a done step: the table's content, the table variables, a frame for the body, and the new thread
+pub record Made (s : Situation) (q : Code.Relation) (r : Decided) : Type 0 where
+  pub content : Code.Relation
+  pub put : T (putsRows (kindAt (s .node .kind))) → Holds content (contentBy (kindAt (s .node .kind)) (partsIn s q) .columns) (contentBy (kindAt (s .node .kind)) (partsIn s q) .rows)
+  pub relations : List TableVariable
+  pub bound :
+      map variableOf relations
+      ≡ cond (bindsRelation (kindAt (s .node .kind))) (set (map variableOf (s .thread .relations)) (s .node .bound) (some (boundBy (kindAt (s .node .kind)) (partsIn s q)))) (map variableOf (s .thread .relations))
+  pub above : ℕ
+  pub over : above ≡ overOf (s .thread .depth)
+  pub body : Frame
+  pub runs : entryOf body ≡ toRun (s .node .body)
+  pub fork : Thread
+  pub forked : T (r .forks) → threadOf fork ≡ record { site = s .thread .site; bindings = bindingsOf (r .inner) relations; stack = toRun (s .node .body) ∷ [] }
+
+-- the change that it makes
+abbrev pub changed : (s : Situation) (q : Code.Relation) (r : Decided) → Made s q r → Change
+changed s q r m = record { answer = r .answer; content = m .content; thread = moved (s .thread) r (m .above) (m .body) (m .relations); forks = r .forks; fork = m .fork }
+
+-- at a scene
+pub record DecidedAt (s : Situation) (q : Code.Relation) (c : Scene) (r : Decided) : Type 0 where
+  pub answer : saidOf (r .answer) ≡ answerOf (outcomeAt c)
+  pub change : T (isDoing (saidOf (r .answer))) → (m : Made s q r) → ChangeIs c (changed s q r m)
+
+pub record DecidedIs (s : Situation) (q : Code.Relation) (r : Decided) : Type 0 where
+  pub at : (c : Scene) → Meets s c → DecidedAt s q c r
+  -- a done step passed check 12, and what its parts say
+  pub known : T (isDoing (saidOf (r .answer))) → Known s
+  pub does : T (isDoing (saidOf (r .answer))) → T (isStep (kindAt (s .node .kind))) → Doing (s .node) (s .content) q (s .thread .vars)

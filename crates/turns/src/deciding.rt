@@ -1,18 +1,18 @@
-// What a pick comes to, from the small parts that it meets: checks 12 to 20 in their order, and what a done step changes.
-use crate::Change;
+// What a pick comes to: checks 12 to 20 in their order, and where the thread goes on.
+use crate::Decided;
 use crate::Located;
-use crate::Situation;
-use acts::Effect;
-use acts::acts::act;
-use acts::reading::bound_flags;
-use acts::reading::bound_table_flags;
+use crate::Setting;
+use acts::Judged;
+use acts::judging::says;
+use acts::judging::vars_after;
 use acts::reading::reads_ok;
 use nets::Answer;
 use nets::Entry;
 use nets::Frame;
+use nets::Node;
 use nets::Refusal;
+use nets::TableVariable;
 use nets::Thread;
-use nets::kinds::binds_relation;
 use nets::kinds::has_place;
 use nets::kinds::is_loop;
 use nets::kinds::needs_table;
@@ -20,40 +20,70 @@ use nets::kinds::reads_relation;
 use rows::Relation;
 use threads::Turn;
 use threads::loops::round;
-use threads::threads::forked;
-use threads::threads::go_on;
 use threads::threads::node_of;
-use threads::threads::push_frame;
 use threads::threads::run_frame;
-use threads::threads::table_variable;
-use threads::threads::with_relation;
-use threads::threads::with_top;
-use threads::threads::with_vars;
+use values::Slot;
 ghost use mathlib.Core.Path.{_≡_};
-ghost use mathlib.Core.Bool.{true, false};
+ghost use mathlib.Core.Bool.{true, false, cond, _&&_};
+ghost use Prim.Native.Nat.{ℕ};
 ghost use lib.Dec.{T};
 ghost use Rattle.values.specs.Lists.{isSome};
-ghost use Rattle.nets.specs.Nets.{isLoop};
-ghost use Rattle.nets.specs.Scenes.{Scene, below};
-ghost use Rattle.nets.specs.Steps.{check13, check14, check15, goOn, withBindings};
+ghost use Rattle.nets.specs.Nets.{isLoop, readsRelation};
+ghost use Rattle.nets.specs.Scenes.{Scene};
+ghost use Rattle.nets.specs.Steps.{check13, check14, check15, isBoundTable};
 ghost use Rattle.nets.specs.View.{kindAt, threadOf};
-ghost use Rattle.acts.specs.Contracts.{isStep};
-ghost use Rattle.threads.specs.Contracts.{standing};
-ghost use Rattle.turns.specs.Contracts.{locatedOf, Meets, Fine, Known, SourceIs, boundWith, ChangeIs};
+ghost use Rattle.nets.specs.Answers.{saidOf};
+ghost use Rattle.acts.specs.Contracts.{flagAt, isStep, isDoing, JudgedIs, Doing};
+ghost use Rattle.threads.specs.Contracts.{Stacked};
+ghost use Rattle.turns.specs.Situations.{situation, Onward};
+ghost use Rattle.turns.specs.Contracts.{locatedOf, Meets, Fine, Known, SourceIs, Sourced, DecidedAt, DecidedIs};
 
 // A refusal changes nothing.
-pub fn refuses(r: Refusal, s: Situation) -> Change
+pub fn refuses(r: Refusal, thread: Thread, frame: Frame) -> Decided
     ensures { λ o. ⌜ (o .answer ≡ Answer.Refused r) × (o .forks ≡ false) ⌝ }
 {
-    let content = s.content;
-    let thread = s.thread;
+    let vars = thread.vars;
     let answer = Answer::Refused(r);
-    Change {
+    Decided {
         answer,
-        content,
-        thread,
         forks: false,
-        fork: thread,
+        frame,
+        depth: thread.depth,
+        vars,
+        inner: vars,
+    }
+}
+
+// Done: to next, or with 255 the entry is removed.
+pub fn onward(
+    thread: Thread,
+    frame: Frame,
+    next: u8,
+    vars: [Slot; 16],
+    added: usize,
+    taken: usize,
+) -> Decided
+    requires { ⌜ Stacked thread ⌝ }
+    ensures { λ o. ⌜ (o .answer ≡ Answer.Done added taken) × (o .forks ≡ false) × (o .vars ≡ vars) × Onward thread next o ⌝ }
+{
+    let depth = thread.depth;
+    if next == 255 {
+        return Decided {
+            answer: Answer::Done(added, taken),
+            forks: false,
+            frame,
+            depth: depth - 1,
+            vars,
+            inner: vars,
+        };
+    }
+    Decided {
+        answer: Answer::Done(added, taken),
+        forks: false,
+        frame: run_frame(next),
+        depth,
+        vars,
+        inner: vars,
     }
 }
 
@@ -66,144 +96,130 @@ pub fn is_located(l: Located) -> bool
     }
 }
 
-// The rows that the step speaks of: those of the table variable read, or of the table.
-pub fn source_of(s: Situation) -> Relation
-    requires { ⌜ Fine s × Known s ⌝ }
-    ensures { λ r. ⌜ SourceIs s r ⌝ }
+// The table variables that are bound.
+pub fn bound_tables(t: Thread) -> [bool; 2]
+    ensures { λ r. ⌜ ((i : ℕ) → flagAt r i ≡ isBoundTable (threadOf t .bindings .relations) i) ⌝ }
 {
-    let node = s.node;
-    let kind = node.kind;
-    let content = s.content;
-    if reads_relation(kind) {
-        let thread = s.thread;
-        let read = node.read;
-        let v = table_variable(thread, read);
-        let rows = v.content;
-        return rows;
+    let a = t.relations[0];
+    let b = t.relations[1];
+    [a.bound, b.bound]
+}
+
+// The rows that the step speaks of: those of the table variable read, or of the table. What an unbound table variable holds is no matter.
+pub fn source_of(kind: u8, v: TableVariable, content: Relation) -> Relation
+    ensures { λ r. ⌜ r ≡ cond (readsRelation (kindAt kind) && v .bound) (v .content) content ⌝ }
+{
+    let own = v.content;
+    if reads_relation(kind) & v.bound {
+        return own;
     }
     content
 }
 
 // A loop: a round, or over and on to next.
-pub fn decide_loop(s: Situation) -> Change
-    requires { ⌜ Fine s × T (isLoop (kindAt (s .node .kind))) × Known s ⌝ }
-    ensures { λ r. ⌜ ((c : Scene) → Meets s c → ChangeIs c r) ⌝ }
+pub fn decide_loop(
+    thread: Thread,
+    frame: Frame,
+    node: Node,
+    content: Relation,
+    source: Relation,
+    s: Setting,
+) -> Decided
+    requires { ⌜ Fine (situation thread frame node content s) × T (isLoop (kindAt (node .kind))) × Known (situation thread frame node content s) × SourceIs (situation thread frame node content s) source ⌝ }
+    ensures { λ r. ⌜ ((c : Scene) → Meets (situation thread frame node content s) c → DecidedAt (situation thread frame node content s) source c r) ⌝ }
 {
-    let node = s.node;
     let selector = node.selector;
     let template = selector.template;
-    let thread = s.thread;
-    let frame = s.frame;
     let vars = thread.vars;
-    let content = s.content;
-    let source = source_of(s);
+    let depth = thread.depth;
     let parallel = node.kind == 26;
-    let room = (parallel & (s.threads < 8)) | (!parallel & (thread.depth < 8));
+    let room = (parallel & (s.threads < 8)) | (!parallel & (depth < 8));
     let r = round(template, source, frame, vars, s.row, room);
     let turn = r.turn;
     match turn {
-        Turn::Stopped(why) => refuses(why, s),
-        Turn::Over => Change {
-            answer: Answer::Done(0, 0),
-            content,
-            thread: go_on(thread, node.next),
-            forks: false,
-            fork: thread,
-        },
+        Turn::Stopped(why) => refuses(why, thread, frame),
+        Turn::Over => onward(thread, frame, node.next, vars, 0, 0),
         Turn::Opened => {
             let visit = r.visit;
-            let bound = r.vars;
+            let inner = r.vars;
             let entry = Entry::Loop(node_of(frame));
-            let waiting = with_top(thread, Frame { entry, visit });
-            let inner = with_vars(waiting, bound);
+            let waiting = Frame { entry, visit };
             if parallel {
-                return Change {
+                return Decided {
                     answer: Answer::Done(0, 0),
-                    content,
-                    thread: waiting,
                     forks: true,
-                    fork: forked(thread, bound, node.body),
+                    frame: waiting,
+                    depth,
+                    vars,
+                    inner,
                 };
             }
-            Change {
+            Decided {
                 answer: Answer::Done(0, 0),
-                content,
-                thread: push_frame(inner, run_frame(node.body)),
                 forks: false,
-                fork: thread,
+                frame: waiting,
+                depth: depth + 1,
+                vars: inner,
+                inner,
             }
         }
     }
 }
 
-// The thread with what the step binds, gone on to next.
-pub fn after_act(s: Situation, e: Effect) -> Thread
-    requires { ⌜ Fine s ⌝ }
-    ensures { λ r. ⌜ standing (threadOf r) ≡ goOn (s .node .next) (withBindings (threadOf (s .thread)) (boundWith s e)) (below (threadOf (s .thread) .stack)) ⌝ }
+pub fn decide_act(
+    thread: Thread,
+    frame: Frame,
+    node: Node,
+    content: Relation,
+    source: Relation,
+    j: Judged,
+    s: Setting,
+) -> Decided
+    requires { ⌜ Fine (situation thread frame node content s) × T (isStep (kindAt (node .kind))) × Known (situation thread frame node content s) × SourceIs (situation thread frame node content s) source × JudgedIs node source (thread .vars) j ⌝ }
+    ensures { λ r. ⌜ ((c : Scene) → Meets (situation thread frame node content s) c → check13 c ≡ true → check14 c ≡ true → check15 c ≡ true → DecidedAt (situation thread frame node content s) source c r) × (T (isDoing (saidOf (r .answer))) → Doing node content source (thread .vars)) ⌝ }
 {
-    let node = s.node;
-    let kind = node.kind;
-    let thread = s.thread;
-    let vars = e.vars;
-    let bound = e.bound;
-    let t = with_vars(thread, vars);
-    if binds_relation(kind) {
-        return go_on(with_relation(t, node.bound, bound), node.next);
-    }
-    go_on(t, node.next)
-}
-
-pub fn decide_act(s: Situation) -> Change
-    requires { ⌜ Fine s × T (isStep (kindAt (s .node .kind))) × Known s ⌝ }
-    ensures { λ r. ⌜ ((c : Scene) → Meets s c → check13 c ≡ true → check14 c ≡ true → check15 c ≡ true → ChangeIs c r) ⌝ }
-{
-    let node = s.node;
-    let thread = s.thread;
     let vars = thread.vars;
-    let content = s.content;
-    let source = source_of(s);
-    let e = act(node, content, source, vars, s.held, s.tables);
-    let answer = e.answer;
+    let answer = says(node, content, source, vars, j, s.held, s.tables);
     match answer {
-        Answer::Refused(why) => refuses(why, s),
+        Answer::Refused(why) => refuses(why, thread, frame),
         Answer::Done(a, t) => {
-            let next = e.content;
-            Change {
-                answer: Answer::Done(a, t),
-                content: next,
-                thread: after_act(s, e),
-                forks: false,
-                fork: thread,
-            }
+            let after = vars_after(node, content, source, vars, j);
+            onward(thread, frame, node.next, after, a, t)
         }
     }
 }
 
-pub fn decide(s: Situation) -> Change
-    requires { ⌜ Fine s ⌝ }
-    ensures { λ r. ⌜ ((c : Scene) → Meets s c → ChangeIs c r) ⌝ }
+// What a pick comes to in its thread, whose top frame is `frame`, at a node.
+pub fn decide(
+    thread: Thread,
+    frame: Frame,
+    node: Node,
+    content: Relation,
+    source: Relation,
+    j: Judged,
+    s: Setting,
+) -> Decided
+    requires { ⌜ Fine (situation thread frame node content s) × Sourced (situation thread frame node content s) source × JudgedIs node source (thread .vars) j ⌝ }
+    ensures { λ r. ⌜ DecidedIs (situation thread frame node content s) source r ⌝ }
 {
-    let node = s.node;
     let kind = node.kind;
-    let thread = s.thread;
     let vars = thread.vars;
-    let relations = thread.relations;
     let located = s.located;
     let found = s.found;
-    if !reads_ok(node, bound_flags(vars), bound_table_flags(relations)) {
-        return refuses(Refusal::Unbound, s);
+    if !reads_ok(node, vars, bound_tables(thread)) {
+        return refuses(Refusal::Unbound, thread, frame);
     }
     if has_place(kind) & !is_located(located) {
-        return refuses(Refusal::NoPlace, s);
+        return refuses(Refusal::NoPlace, thread, frame);
     }
     if needs_table(kind) & !found {
-        return refuses(Refusal::NoTable, s);
+        return refuses(Refusal::NoTable, thread, frame);
     }
     if (kind == 23) & found {
-        return refuses(Refusal::TableThere, s);
+        return refuses(Refusal::TableThere, thread, frame);
     }
     if is_loop(kind) {
-        return decide_loop(s);
+        return decide_loop(thread, frame, node, content, source, s);
     }
-    decide_act(s)
+    decide_act(thread, frame, node, content, source, j, s)
 }

@@ -1,10 +1,8 @@
 // What a pick comes to, from the small parts that it meets.
 use nets::Answer;
 use nets::Frame;
-use nets::Node;
-use nets::Thread;
-use rows::Relation;
 use values::Site;
+use values::Slot;
 
 pub mod deciding;
 
@@ -14,26 +12,24 @@ pub enum Located {
     At(Site),
 }
 
-// What a pick meets, in small parts: the thread with its top frame, the node, where L leads, the content of the table there, whether a loop entry
-// holds the table variable to be bound, and the numbers of tables and threads.
-pub struct Situation {
-    pub thread: Thread,
-    pub frame: Frame,
-    pub node: Node,
+// What a pick meets beside its thread, its node and rows: where L leads, whether the table is there, whether a loop entry holds the table variable to
+// be bound, the numbers of tables and threads, and the row picked.
+pub struct Setting {
     pub located: Located,
     pub found: bool,
-    pub content: Relation,
     pub held: bool,
     pub tables: usize,
     pub threads: usize,
     pub row: u8,
 }
 
-// What a pick changes: the content of the table, the thread, which is gone where its stack is empty, and the new thread of a parallel round.
-pub struct Change {
+// The answer, and what becomes of the thread: its top frame, the height of its stack and its variables; where a parallel round opens, also the
+// variables of the new thread. A sequential round's body goes above the top frame.
+pub struct Decided {
     pub answer: Answer,
-    pub content: Relation,
-    pub thread: Thread,
     pub forks: bool,
-    pub fork: Thread,
+    pub frame: Frame,
+    pub depth: usize,
+    pub vars: [Slot; 16],
+    pub inner: [Slot; 16],
 }

@@ -1,20 +1,24 @@
--- `turns::deciding::source_of` meets its contract: check 12 saw the table variable read, which soundness keeps within its arrays. Assumes nothing.
+-- `turns::deciding::source_of` meets its contract. Assumes nothing.
+use mathlib.Core.Path.{_≡_, ap, sym, _∙_}
+use mathlib.Core.Bool.{Bool, true, false, cond, _&&_}
 use borrow.Author.Needs.{needs}
-use Rattle.turns.proofs.SituationLaws.{fine-read, source-read, source-own}
+use Rattle.rows.specs.declared.Relation.{Relation}
 use Rattle.turns.proofs.deciding.source_of.Statement.{statement}
 use Rattle.turns.proofs.deciding.source_of.Tie as tie
 
-table-variable-requires : tie.Need-table-variable-requires
-table-variable-requires c κs = let s = c .before .before .before .before .before in fine-read (s .args .s) (s .pre .0)
+-- `r` is what the code's test of the kind answered
+chosen : (a b r x : Bool) (p q : Relation) → r ≡ a → (r && b) ≡ x → cond x p q ≡ cond (a && b) p q
+chosen a b r x p q e h = ap (λ (z : Bool). cond z p q) (sym h ∙ ap (_&& b) e)
 
 returns : tie.Need-returns
 returns c =
-    let s = c .before .before .before .before .before .before .before in
-    source-read (s .args .s) (s .pre .0) (c .before .before .before .before .reads-relation .ensures) (c .before .before .before .if1 .taken) (s .pre .1) (c .before .table-variable .result)
-    (c .before .table-variable .ensures)
+    let k = c .before .before in
+    chosen _ (k .before .before .args .v .bound) _ true _ _ (k .reads-relation .ensures) (c .if1 .taken)
 
 returns-2 : tie.Need-returns-2
-returns-2 c = let s = c .before .before .before .before in source-own (s .args .s) (s .pre .0) (c .before .reads-relation .ensures) (c .if1 .left)
+returns-2 c =
+    let k = c .before .before in
+    chosen _ (k .before .before .args .v .bound) _ false (k .before .before .args .v .content) _ (k .reads-relation .ensures) (c .if1 .left)
 
 pub source-of-spec : {M : Type 1} → statement M
-source-of-spec = tie.close (tie.spec (λ c κs. search needs) table-variable-requires returns returns-2)
+source-of-spec = tie.close (tie.spec (λ c κs. search needs) returns returns-2)

@@ -1,0 +1,189 @@
+-- A table and a thread stored at their places, where no list grows or closes up. Assumes nothing.
+use Prim.Native.Nat.{ℕ, zero, suc, _<_, _≤_}
+use mathlib.Core.Path.{_≡_, refl, ap, sym, subst, _∙_}
+use mathlib.Core.Bool.{Bool, true, false, cond, _||_}
+use mathlib.Core.List.{List, [], _∷_, _++_, map, append-nil}
+use mathlib.Core.Option.{Option, some}
+use native.Mathlib.Omega.{arith}
+use lib.Dec.{T, eqb, ltb}
+use lib.ListN.{length, getD, set}
+use borrow.Author.Tests.{lt-ltb, eqb-false}
+use Rattle.values.specs.declared.Site.{Site}
+use Rattle.values.proofs.Bools.{T-of}
+use Rattle.values.proofs.Arrays.{map-set}
+use Rattle.values.proofs.Firsts.{firsts-at, firsts-set}
+use Rattle.changes.specs.Contracts.{Holds}
+use Rattle.turns.specs.declared.Decided.{Decided}
+use Rattle.turns.specs.Situations.{moved}
+use Rattle.rows.specs.declared.Relation as Code
+use Rattle.rows.specs.Relations.{Relation}
+use Rattle.rows.specs.View.{relationOf}
+use Rattle.nets.specs.declared.Table.{Table}
+use Rattle.nets.specs.declared.Frame.{Frame}
+use Rattle.nets.specs.declared.TableVariable.{TableVariable}
+use Rattle.nets.specs.declared.Thread.{Thread}
+use Rattle.nets.specs.Nets as M
+use Rattle.nets.specs.Nets.{Kind, acting, other, insert, insertTable, delete, update, create, drop, select, selectRelation, aggregate, sequential, parallel, badKind, code, needsTable, bindsRelation, isCreate}
+use Rattle.nets.specs.Steps.{settle}
+use Rattle.nets.specs.View.{noTable, noThread, kindAt, tableOf, variableOf, threadOf, tablesOf, threadsOf}
+use Rattle.acts.specs.Contracts.{isStep, putsRows}
+use Rattle.threads.specs.Contracts.{standing, forksOf}
+use Rattle.threads.proofs.ThreadLaws.{standing-there, settle-one}
+use Rattle.lists.specs.Contracts.{withContent, putContent, tablesWith}
+use Rattle.nets.proofs.KindLaws.{at-one}
+
+-- ── kinds ──
+
+pub puts-step : (k : Kind) → T (putsRows k) → T (isStep k)
+puts-step (acting insert) h = tt
+puts-step (acting insertTable) h = tt
+puts-step (acting delete) h = tt
+puts-step (acting update) h = tt
+puts-step (acting create) h = absurd h
+puts-step (acting drop) h = absurd h
+puts-step (other select) h = absurd h
+puts-step (other selectRelation) h = absurd h
+puts-step (other aggregate) h = absurd h
+puts-step (other sequential) h = absurd h
+puts-step (other parallel) h = absurd h
+puts-step (other badKind) h = absurd h
+
+pub binds-step : (k : Kind) → T (bindsRelation k) → T (isStep k)
+binds-step (acting insert) h = absurd h
+binds-step (acting insertTable) h = absurd h
+binds-step (acting delete) h = tt
+binds-step (acting update) h = absurd h
+binds-step (acting create) h = absurd h
+binds-step (acting drop) h = absurd h
+binds-step (other select) h = tt
+binds-step (other selectRelation) h = tt
+binds-step (other aggregate) h = absurd h
+binds-step (other sequential) h = absurd h
+binds-step (other parallel) h = absurd h
+binds-step (other badKind) h = absurd h
+
+puts-needs : (k : Kind) → T (putsRows k) → T (needsTable k)
+puts-needs (acting insert) h = tt
+puts-needs (acting insertTable) h = tt
+puts-needs (acting delete) h = tt
+puts-needs (acting update) h = tt
+puts-needs (acting create) h = absurd h
+puts-needs (acting drop) h = absurd h
+puts-needs (other select) h = absurd h
+puts-needs (other selectRelation) h = absurd h
+puts-needs (other aggregate) h = absurd h
+puts-needs (other sequential) h = absurd h
+puts-needs (other parallel) h = absurd h
+puts-needs (other badKind) h = absurd h
+
+abbrev isDrop : Kind → Bool
+isDrop k = eqb (code k) 24
+
+module _ (at : ℕ) (ts : List M.Table) (s : Site) (d : M.Node) (q : Relation) where
+  with-puts : (k : Kind) → T (putsRows k) → tablesWith k at ts s d q ≡ putContent at q ts
+  unfolding tablesWith
+  with-puts (acting insert) h = refl
+  with-puts (acting insertTable) h = refl
+  with-puts (acting delete) h = refl
+  with-puts (acting update) h = refl
+  with-puts (acting create) h = absurd h
+  with-puts (acting drop) h = absurd h
+  with-puts (other select) h = absurd h
+  with-puts (other selectRelation) h = absurd h
+  with-puts (other aggregate) h = absurd h
+  with-puts (other sequential) h = absurd h
+  with-puts (other parallel) h = absurd h
+  with-puts (other badKind) h = absurd h
+
+  with-same : (k : Kind) → putsRows k ≡ false → isCreate k ≡ false → isDrop k ≡ false → tablesWith k at ts s d q ≡ ts
+  unfolding tablesWith
+  with-same (acting insert) a b c = absurd (subst T a tt)
+  with-same (acting insertTable) a b c = absurd (subst T a tt)
+  with-same (acting delete) a b c = absurd (subst T a tt)
+  with-same (acting update) a b c = absurd (subst T a tt)
+  with-same (acting create) a b c = absurd (subst T b tt)
+  with-same (acting drop) a b c = absurd (subst T c tt)
+  with-same (other o) a b c = refl
+
+-- ── tables ──
+
+set-same : {A : Type 0} (l : List A) (i : ℕ) (d : A) → set l i (getD l i d) ≡ l
+set-same [] i d = refl
+set-same (x ∷ l) zero d = refl
+set-same (x ∷ l) (suc i) d = ap (x ∷_) (set-same l i d)
+
+-- the table at `slot` gives way to `fresh`
+module _ (n : ℕ) (l : List Table) (at slot b : ℕ) (fresh : Table) (s : Site) (d : M.Node) (eight : length l ≡ 8) (few : n ≤ 8)
+    (slot-is : slot ≡ cond (ltb at n) at 0) (site-is : fresh .site ≡ getD l slot noTable .site) (name-is : fresh .name ≡ getD l slot noTable .name)
+    (rests : putsRows (kindAt b) ≡ false → fresh ≡ getD l slot noTable) (there : T (needsTable (kindAt b)) → at < n) where
+  put-table : T (putsRows (kindAt b)) → tablesOf n (set l slot fresh) ≡ putContent at (relationOf (fresh .content)) (tablesOf n l)
+  put-table h =
+      let low : at < n = there (puts-needs (kindAt b) h) in
+      let e : slot ≡ at = slot-is ∙ ap (λ (x : Bool). cond x at 0) (lt-ltb at n low) in
+      ap (λ (i : ℕ). tablesOf n (set l i fresh)) e
+      ∙ firsts-set tableOf noTable n l at fresh (omega (arith, low, eight, few))
+      ∙ ap (set (tablesOf n l) at)
+      ((λ i. record { site = (site-is ∙ ap (λ (j : ℕ). getD l j noTable .site) e) i; name = (name-is ∙ ap (λ (j : ℕ). getD l j noTable .name) e) i; content = relationOf (fresh .content) })
+      ∙ sym (ap (withContent (relationOf (fresh .content))) (firsts-at tableOf noTable n l at (tableOf noTable) low)))
+
+  pub plain-tables : eqb b 23 ≡ false → eqb b 24 ≡ false → tablesOf n (set l slot fresh) ≡ tablesWith (kindAt b) at (tablesOf n l) s d (relationOf (fresh .content))
+  unfolding kindAt
+  plain-tables x y = go (putsRows (kindAt b)) refl
+    where
+      no-create : isCreate (kindAt b) ≡ false
+      no-create = sym (at-one isCreate 23 tt tt b) ∙ x
+
+      no-drop : isDrop (kindAt b) ≡ false
+      no-drop = sym (at-one isDrop 24 tt tt b) ∙ y
+
+      go : (p : Bool) → putsRows (kindAt b) ≡ p → tablesOf n (set l slot fresh) ≡ tablesWith (kindAt b) at (tablesOf n l) s d (relationOf (fresh .content))
+      go true e = let h = T-of (putsRows (kindAt b)) e in put-table h ∙ sym (with-puts at (tablesOf n l) s d (relationOf (fresh .content)) (kindAt b) h)
+      go false e =
+          ap (λ (t : Table). tablesOf n (set l slot t)) (rests e) ∙ ap (tablesOf n) (set-same l slot noTable)
+          ∙ sym (with-same at (tablesOf n l) s d (relationOf (fresh .content)) (kindAt b) e no-create no-drop)
+
+-- ── threads ──
+
+pub plain-threads :
+    (n : ℕ) (l : List Thread) (i : ℕ) (t fork : Thread) {f : Bool} → length l ≡ 8 → i < n → n ≤ 8 → 1 ≤ t .depth → f ≡ false →
+    threadsOf n (set l i t) ≡ settle i (standing (threadOf t)) (threadsOf n l) ++ forksOf f fork
+plain-threads n l i t fork eight low few deep e =
+    firsts-set threadOf noThread n l i t (omega (arith, eight, low, few))
+    ∙ sym (settle-one i (threadOf t) (threadsOf n l))
+    ∙ ap (λ (us : List M.Thread). settle i us (threadsOf n l)) (sym (standing-there t deep))
+    ∙ sym (append-nil (settle i (standing (threadOf t)) (threadsOf n l)))
+    ∙ ap (λ (b : Bool). settle i (standing (threadOf t)) (threadsOf n l) ++ forksOf b fork) (sym e)
+
+-- ── the code's test ──
+
+-- none of four
+pub none-of : (a b c d : Bool) → (((a || b) || c) || d) ≡ false → (a ≡ false) × (b ≡ false) × (c ≡ false) × (d ≡ false)
+none-of false false false false e = (refl, refl, refl, refl)
+none-of true b c d e = absurd (subst T e (or3 b c d))
+  where
+    or3 : (b c d : Bool) → T (((true || b) || c) || d)
+    or3 b c d = tt
+none-of false true c d e = absurd (subst T e tt)
+none-of false false true d e = absurd (subst T e tt)
+none-of false false false true e = absurd (subst T e tt)
+
+pub some-depth : (n : ℕ) → eqb n 0 ≡ false → 1 ≤ n
+some-depth n e = let d : n ≡ 0 → ⊥ = eqb-false n 0 e in omega arith
+
+-- ── what is stored in the thread ──
+
+-- a thread that is, at its end, as `moved` makes it
+pub as-moved : (t : Thread) (r : Decided) (i : ℕ) (f : Frame) {u v : Thread} → u ≡ v → v ≡ moved t r i f (v .relations) → u ≡ moved t r i f (u .relations)
+as-moved t r i f e h = e ∙ h ∙ sym (ap (λ (x : Thread). moved t r i f (x .relations)) e)
+
+-- a table variable bound anew
+pub bound-set :
+    (vs : List TableVariable) (b : ℕ) (q : Code.Relation) (m : Relation) → Holds q (m .columns) (m .rows) → {x : Bool} → x ≡ true →
+    map variableOf (set vs b (record { bound = true; content = q })) ≡ cond x (set (map variableOf vs) b (some m)) (map variableOf vs)
+bound-set vs b q m h e =
+    map-set variableOf vs b (record { bound = true; content = q })
+    ∙ ap (λ (r : Relation). set (map variableOf vs) b (some r)) (λ i. record { columns = h .columns i; rows = h .rows i })
+    ∙ ap (λ (x : Bool). cond x (set (map variableOf vs) b (some m)) (map variableOf vs)) (sym e)
+
+pub bound-none : (vs : List TableVariable) (o : List (Option Relation)) {x : Bool} → x ≡ false → map variableOf vs ≡ cond x o (map variableOf vs)
+bound-none vs o e = ap (λ (x : Bool). cond x o (map variableOf vs)) (sym e)

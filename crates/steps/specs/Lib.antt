@@ -1,0 +1,2 @@
+-- What picks in turn come to.
+pub mod Turns

@@ -1,0 +1,90 @@
+// Small parts that a step reads off a net.
+use nets::Entry;
+use nets::Node;
+use nets::Thread;
+use rows::Relation;
+use turns::Located;
+use values::Site;
+ghost use mathlib.Core.Path.{_≡_};
+ghost use mathlib.Core.Bool.{cond};
+ghost use Prim.Native.Nat.{_≤_};
+ghost use lib.Dec.{T, ltb};
+ghost use Rattle.values.specs.Lists.{all, any, orElse};
+ghost use Rattle.rows.specs.Relations.{noRelation};
+ghost use Rattle.rows.specs.View.{relationOf};
+ghost use Rattle.nets.specs.Sound.{entryNode};
+ghost use Rattle.nets.specs.Steps.{holds};
+ghost use Rattle.nets.specs.View.{noSite, nodesOf, threadOf};
+ghost use Rattle.turns.specs.Contracts.{locatedOf};
+
+// Where L leads nowhere any site will do: no step looks there.
+pub fn site_in(l: Located) -> Site
+    ensures { λ r. ⌜ r ≡ orElse noSite (locatedOf l) ⌝ }
+{
+    match l {
+        Located::Nowhere => Site(0),
+        Located::At(s) => s,
+    }
+}
+
+// A loop entry of the stack holds the table variable.
+pub fn is_held(nodes: [Node; 128], count: usize, t: Thread, v: u8) -> bool
+    requires { ⌜ (count ≤ 128) × (t .depth ≤ 8) × T (all (λ x. ltb (entryNode x) count) (threadOf t .stack)) ⌝ }
+    ensures { λ r. ⌜ r ≡ any (holds (nodesOf count nodes) v) (threadOf t .stack) ⌝ }
+{
+    let depth = t.depth;
+    let mut i: usize = 0;
+    while i < depth {
+        let f = t.stack[i];
+        let e = f.entry;
+        i += 1;
+        match e {
+            Entry::Run(_) => {}
+            Entry::Loop(k) => {
+                let n = k as usize;
+                let d = nodes[n];
+                if d.read == v {
+                    return true;
+                }
+            }
+        }
+    }
+    false
+}
+
+// A place within a list, also where none is found.
+pub fn slot_at(at: usize, count: usize) -> usize
+    ensures { λ r. ⌜ r ≡ cond (ltb at count) at 0 ⌝ }
+{
+    if at < count {
+        return at;
+    }
+    0
+}
+
+// The place above the top of a stack; of a full one the top itself.
+pub fn over(depth: usize, top: usize) -> usize
+    ensures { λ r. ⌜ r ≡ cond (ltb depth 8) depth top ⌝ }
+{
+    if depth < 8 {
+        return depth;
+    }
+    top
+}
+
+// The content of the table that was found; else no columns and no rows, whatever stands in the arrays.
+pub fn shown(found: bool, r: Relation) -> Relation
+    ensures { λ o. ⌜ relationOf o ≡ cond found (relationOf r) noRelation ⌝ }
+{
+    if found {
+        return r;
+    }
+    let kinds = r.kinds;
+    let rows = r.rows;
+    Relation {
+        columns: 0,
+        kinds,
+        rows,
+        count: 0,
+    }
+}
