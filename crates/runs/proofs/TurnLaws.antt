@@ -1,11 +1,12 @@
 -- Turns of a run, one after another, are a run. Assumes nothing.
 use Prim.Native.Nat.{ℕ, _+_, _*_, _<_, _≤_, _^_}
 use mathlib.Core.Path.{_≡_, refl, ap, sym, _∙_, subst}
-use mathlib.Core.Bool.{true, false, not, _&&_}
-use mathlib.Core.List.{List, [], _∷_, _++_}
+use mathlib.Core.Bool.{Bool, true, false, not, _&&_}
+use mathlib.Core.List.{List, [], _∷_, _++_, append-assoc, append-nil}
 use native.Mathlib.Omega.{arith}
 use native.Mathlib.Numerals.{add-one}
-use lib.Dec.{T}
+use borrow.Author.Tests.{eqb-false}
+use lib.Dec.{T, eqb}
 use lib.ListN.{length, take, getD, length-append}
 use lib.Seq.{take-suc, take-all, length-take-le}
 use Rattle.nets.specs.declared.Pick.{Pick}
@@ -29,7 +30,9 @@ use Rattle.counts.specs.declared.Ran.{Ran}
 use Rattle.counts.specs.Totals.{totalOf}
 use Rattle.runs.specs.Runs.{allRefused, RunIs}
 use Rattle.counts.specs.States.{Begun, Tallied}
-use Rattle.runs.specs.Turns.{Ready, Turned}
+use Rattle.runs.specs.declared.Batch.{Batch}
+use Rattle.runs.specs.Batches.{picksOf, Empty, OneMore}
+use Rattle.runs.specs.Turns.{Ready, ReadyForAll, Turned}
 use Rattle.runs.proofs.ListLaws.{after-both, added-both, taken-both, refused-both}
 
 -- ── any number of picks ──
@@ -67,40 +70,91 @@ turned-both s m r ps qs a b = record {
   takenRoom = let l = length-append ps qs in omega (arith, a .takenRoom, b .takenRoom, l);
 }
 
+-- one pick of a list further
+pub turned-next :
+    (s m r : Ran) (ps : List Pick) (i : ℕ) (d : Pick) → i < length ps → Turned s (take i ps) m → Turned m (getD ps i d ∷ []) r → Turned s (take (i + 1) ps) r
+turned-next s m r ps i d l a b = rw (add-one, take-suc ps i d) (turned-both s m r (take i ps) (getD ps i d ∷ []) a b)
+
+-- the sums that have room for a batch have room for each of its picks
+pub ready-within : (s m : Ran) (ps : List Pick) (i : ℕ) → ReadyForAll s → i < 64 → i ≤ length ps → Turned s (take i ps) m → Ready m
+ready-within s m ps i h l few t =
+    let n = length-take-le i ps few in
+    record {
+      flag = t .flag;
+      added = omega (arith, t .addedRoom, h .added, n, l);
+      taken = omega (arith, t .takenRoom, h .taken, n, l);
+    }
+
 -- ── the loop over the slice ──
 
--- i picks are behind
-pub record SoFar (net : Net) (ys : List Pick) (i : ℕ) (s : Ran) : Type 0 where
+-- i picks are behind: the state has had its turns of those, but for the last, which are in the batch
+pub record SoFar (net : Net) (ys : List Pick) (i : ℕ) (s : Ran) (b : Batch) : Type 0 where
   pub first : Ran
   pub begun : Begun net first
   pub upto : i ≤ length ys
-  pub behind : Turned first (take i ys) s
+  pub done : List Pick
+  pub behind : Turned first done s
+  pub both : done ++ picksOf b ≡ take i ys
+  pub few : b .count ≤ 64
 
-pub so-far-start : (net : Net) (ys : List Pick) (s : Ran) → Begun net s → SoFar net ys 0 s
-so-far-start net ys s b = record {
+pub so-far-start : (net : Net) (ys : List Pick) (s : Ran) (b : Batch) → Begun net s → Empty b → SoFar net ys 0 s b
+so-far-start net ys s b h e = record {
   first = s;
-  begun = b;
+  begun = h;
   upto = omega arith;
-  behind = turned-none s (b .flag ∙ ap (λ (n : Net). sound (view n)) (sym (b .same)));
+  done = [];
+  behind = turned-none s (h .flag ∙ ap (λ (n : Net). sound (view n)) (sym (h .same)));
+  both = e .picks;
+  few = omega (arith, e .count);
 }
 
-pub so-far-next : (net : Net) (ys : List Pick) (i : ℕ) (s r : Ran) (d : Pick) → i < length ys → SoFar net ys i s → Turned s (getD ys i d ∷ []) r → SoFar net ys (i + 1) r
-so-far-next net ys i s r d l g t = record {
+-- a pick is put into the batch
+pub so-far-more :
+    (net : Net) (ys : List Pick) (i : ℕ) (s : Ran) (b r : Batch) (d : Pick) → i < length ys → b .count < 64 → SoFar net ys i s b → OneMore b (getD ys i d) r → SoFar net ys (i + 1) s r
+so-far-more net ys i s b r d l room g m = record {
   first = g .first;
   begun = g .begun;
   upto = omega arith;
-  behind = rw (add-one, take-suc ys i d) (turned-both (g .first) s r (take i ys) (getD ys i d ∷ []) (g .behind) t);
+  done = g .done;
+  behind = g .behind;
+  both =
+      ap (λ (qs : List Pick). g .done ++ qs) (m .picks) ∙ sym (append-assoc (g .done) (picksOf b) (getD ys i d ∷ []))
+      ∙ ap (λ (qs : List Pick). qs ++ (getD ys i d ∷ [])) (g .both) ∙ rw (add-one, take-suc ys i d) refl;
+  few = omega (arith, m .count, room);
 }
 
+-- the picks of the batch have their turns
+turned-all : (net : Net) (ys : List Pick) (i : ℕ) (s r : Ran) (b : Batch) (g : SoFar net ys i s b) → Turned s (picksOf b) r → Turned (g .first) (take i ys) r
+turned-all net ys i s r b g t = rw (← g .both) (turned-both (g .first) s r (g .done) (picksOf b) (g .behind) t)
+
+pub so-far-turned : (net : Net) (ys : List Pick) (i : ℕ) (s r : Ran) (b e : Batch) → SoFar net ys i s b → Turned s (picksOf b) r → Empty e → SoFar net ys i r e
+so-far-turned net ys i s r b e g t z = record {
+  first = g .first;
+  begun = g .begun;
+  upto = g .upto;
+  done = take i ys;
+  behind = turned-all net ys i s r b g t;
+  both = ap (λ (qs : List Pick). take i ys ++ qs) (z .picks) ∙ append-nil (take i ys);
+  few = omega (arith, z .count);
+}
+
+-- a batch that is not full has room
+pub room-left : (b : Batch) (t : Bool) → t ≡ eqb (b .count) 64 → T (not t) → b .count ≤ 64 → b .count < 64
+room-left b true e h l = absurd h
+room-left b false e h l = omega (arith, l, eqb-false (b .count) 64 (sym e))
+
 -- a list in memory is so short that the sums have room
-pub so-far-ready : (net : Net) (ys : List Pick) (i : ℕ) (s : Ran) → length ys * 2 < 2 ^ 63 → i < length ys → SoFar net ys i s → Ready s
-so-far-ready net ys i s room l g =
-    let n = length-take-le i ys (omega arith) in
-    record {
-      flag = g .behind .flag;
-      added = let z = ap (λ (t : Total). t .high) (g .begun .added) in omega (arith, g .behind .addedRoom, z, n, room, l);
-      taken = let z = ap (λ (t : Total). t .high) (g .begun .taken) in omega (arith, g .behind .takenRoom, z, n, room, l);
-    }
+pub so-far-ready : (net : Net) (ys : List Pick) (i : ℕ) (s : Ran) (b : Batch) → length ys * 2 < 2 ^ 63 → SoFar net ys i s b → ReadyForAll s × (b .count ≤ 64)
+so-far-ready net ys i s b room g =
+    let n = length-take-le i ys (g .upto) in
+    let both = sym (length-append (g .done) (picksOf b)) ∙ ap length (g .both) in (
+      record {
+        flag = g .behind .flag;
+        added = let z = ap (λ (t : Total). t .high) (g .begun .added) in omega (arith, g .behind .addedRoom, z, n, both, room, g .upto);
+        taken = let z = ap (λ (t : Total). t .high) (g .begun .taken) in omega (arith, g .behind .takenRoom, z, n, both, room, g .upto);
+      },
+      g .few,
+    )
 
 -- from the first state on, all picks of a list
 run-is : (net : Net) (ys : List Pick) (f s : Ran) → Begun net f → Turned f ys s → RunIs net ys s
@@ -124,8 +178,8 @@ run-is net ys f s b t = record {
     taken-is : totalOf (s .taken) ≡ reportedTaken (view net) ys
     taken-is = let n = ap (λ (n : Net). reportedTaken (view n) ys) (b .same) in let z = ap totalOf (b .taken) in omega (arith, t .taken, z, n)
 
-pub so-far-all : (net : Net) (ys : List Pick) (i : ℕ) (s : Ran) → length ys ≤ i → SoFar net ys i s → RunIs net ys s
-so-far-all net ys i s l g = run-is net ys (g .first) s (g .begun) (rw (← take-all i ys l) (g .behind))
+pub so-far-all : (net : Net) (ys : List Pick) (i : ℕ) (s r : Ran) (b : Batch) → length ys ≤ i → SoFar net ys i s b → Turned s (picksOf b) r → RunIs net ys r
+so-far-all net ys i s r b l g t = run-is net ys (g .first) r (g .begun) (rw (← take-all i ys l) (turned-all net ys i s r b g t))
 
 -- ── one pick ──
 

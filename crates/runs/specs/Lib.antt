@@ -1,3 +1,4 @@
 -- What a run gives back.
+pub mod Batches
 pub mod Runs
 pub mod Turns

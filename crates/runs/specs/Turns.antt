@@ -18,6 +18,12 @@ pub record Ready (s : Ran) : Type 0 where
   pub added : s .added .high < 2 ^ 63
   pub taken : s .taken .high < 2 ^ 63
 
+-- the same for every pick of a batch
+pub record ReadyForAll (s : Ran) : Type 0 where
+  pub flag : s .sound ≡ sound (view (s .net))
+  pub added : s .added .high + 64 < 2 ^ 63
+  pub taken : s .taken .high + 64 < 2 ^ 63
+
 -- some picks further: as `RunIs`, from a state in the middle of a run; a pick moves a high half by one at most
 pub record Turned (s : Ran) (ps : List Pick) (r : Ran) : Type 0 where
   pub after : view (r .net) ≡ after (view (s .net)) ps
