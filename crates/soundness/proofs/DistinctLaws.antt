@@ -1,26 +1,27 @@
 -- No two aliases, tables or formals alike: each element tested with those after it. Assumes nothing.
-use Prim.Native.Nat.{ℕ, _<_, _≤_}
+use Prim.Native.Nat.{ℕ, zero, suc, _<_, _≤_}
 use mathlib.Core.Path.{_≡_, refl, sym, ap, ap₂, _∙_, subst}
 use mathlib.Core.Bool.{Bool, true, false, not, _&&_, _||_}
 use mathlib.Core.List.{List, [], _∷_, map}
 use mathlib.Core.Option.{Option, none, some}
 use native.Mathlib.Omega.{arith}
 use lib.Dec.{T, eqb, leb}
-use lib.ListN.{length, getD, List·getD-eq-default}
+use lib.ListN.{length, drop, getD, List·getD-eq-default}
 use borrow.Author.Tests.{le-leb, lt-leb}
 use Rattle.values.specs.declared.Operand.{Operand}
 use Rattle.values.specs.Lists.{all, any, among, present}
 use Rattle.values.specs.Operands.{formalOf, formals}
-use Rattle.values.proofs.Firsts.{length-firsts, firsts-at}
+use Rattle.values.proofs.Firsts.{length-firsts, firsts-at, firsts-same, map-firsts}
 use Rattle.values.proofs.ListLaws.{all-at, found-any}
 use Rattle.values.proofs.PairLaws.{tails, tails-and, tails-all}
-use Rattle.rows.specs.Plans.{isFormalOf}
 use Rattle.nets.specs.declared.Alias.{Alias}
+use Rattle.nets.specs.declared.Table as Code
 use Rattle.nets.specs.Nets.{Table}
 use Rattle.nets.specs.Tables.{isAt, rowsFit, distinct}
-use Rattle.nets.specs.Sound.{tableOk, aliasOk, sameAlias, aliasesDiffer, differ}
-use Rattle.soundness.specs.SoundParts.{alike, sameFormal}
-use Rattle.nets.specs.View.{noAlias, aliasesOf}
+use Rattle.nets.specs.Sound.{tableOk, aliasOk, sameAlias, aliasesDiffer, tagged, differ}
+use Rattle.soundness.specs.declared.Label.{Label}
+use Rattle.soundness.specs.SoundParts.{noLabel, labelOf, sameLabel, labelsIn}
+use Rattle.nets.specs.View.{noAlias, aliasesOf, noTable, tableOf, tablesOf}
 
 -- ── aliases ──
 
@@ -77,29 +78,45 @@ module _ (l : List Table) {n : ℕ} (e : length l ≡ n) where
   pub tables-over : 8 < n → false ≡ (leb (length l) 8 && all tableOk l && all rowsFit l && distinct l)
   tables-over h = rw (lt-leb (length l) 8 (omega arith))
 
--- ── formals ──
+-- tables compared by their labels
+any-mapped : {A B : Type 0} (p : B → Bool) (g : A → B) (k : ℕ) (l : List A) → any p (drop k (map g l)) ≡ any (λ (a : A). p (g a)) (drop k l)
+any-mapped p g zero [] = refl
+any-mapped p g zero (a ∷ l) = ap (λ (t : Bool). p (g a) || t) (any-mapped p g zero l)
+any-mapped p g (suc k) [] = refl
+any-mapped p g (suc k) (a ∷ l) = any-mapped p g k l
 
-abbrev pub formalNew : Operand → List Operand → Bool
-formalNew o others = not (any (sameFormal o) others)
+module _ (ts : List Code.Table) (ls : List Label) (n : ℕ) (h : n ≤ 8) (each : (i : ℕ) → i < 8 → getD ls i noLabel ≡ labelOf (tableOf (getD ts i noTable))) where
+  labels-are : labelsIn n ls ≡ map labelOf (tablesOf n ts)
+  labels-are =
+      firsts-same (λ (a : Label). a) noLabel (λ (t : Code.Table). labelOf (tableOf t)) noTable n ls ts (λ i k. each i (omega arith))
+      ∙ sym (map-firsts labelOf tableOf noTable n ts)
 
-none-alike : (l : List Operand) → any (λ b. alike none (formalOf b)) l ≡ false
-none-alike [] = refl
-none-alike (b ∷ l) = none-alike l
+  pub label-tested : (t : Table) (k : ℕ) {a : Label} {r : Bool} → a ≡ labelOf t → r ≡ not (any (sameLabel a) (drop k (labelsIn n ls))) → r ≡ tableNew t (drop k (tablesOf n ts))
+  label-tested t k e q =
+      q
+      ∙ ap₂ (λ (b : Label) (l : List Label). not (any (sameLabel b) (drop k l))) e labels-are
+      ∙ ap not (any-mapped (sameLabel (labelOf t)) labelOf k (tablesOf n ts))
 
-among-formals : (i : ℕ) (l : List Operand) → any (λ b. isFormalOf i (formalOf b)) l ≡ among i (formals l)
-among-formals i [] = refl
-among-formals i (b ∷ l) = go (formalOf b) (among-formals i l)
+-- ── operands ──
+
+abbrev pub freshIn : Option ℕ → List ℕ → Bool
+freshIn none l = true
+freshIn (some i) l = not (among i l)
+
+-- a formal that is none of those after it
+abbrev pub operandTest : Operand → List Operand → Bool
+operandTest o others = tagged 6 o && freshIn (formalOf o) (formals others)
+
+formals-differ : (l : List Operand) → tails (λ o r. freshIn (formalOf o) (formals r)) l ≡ differ (formals l)
+formals-differ [] = refl
+formals-differ (o ∷ l) = go (formalOf o) (formals-differ l)
   where
-    go : (o : Option ℕ) → any (λ x. isFormalOf i (formalOf x)) l ≡ among i (formals l)
-        → (isFormalOf i o || any (λ x. isFormalOf i (formalOf x)) l) ≡ among i (present (o ∷ map formalOf l))
+    go : (m : Option ℕ) → tails (λ o r. freshIn (formalOf o) (formals r)) l ≡ differ (formals l)
+        → (freshIn m (formals l) && tails (λ o r. freshIn (formalOf o) (formals r)) l) ≡ differ (present (m ∷ map formalOf l))
     go none ih = ih
-    go (some j) ih = ap (λ (t : Bool). eqb i j || t) ih
+    go (some i) ih = ap (λ (t : Bool). not (among i (formals l)) && t) ih
 
-pub formals-are : (l : List Operand) → tails formalNew l ≡ differ (formals l)
-formals-are [] = refl
-formals-are (o ∷ l) = go (formalOf o) (formals-are l)
-  where
-    go : (m : Option ℕ) → tails formalNew l ≡ differ (formals l)
-        → (not (any (λ b. alike m (formalOf b)) l) && tails formalNew l) ≡ differ (present (m ∷ map formalOf l))
-    go none ih = ap (λ (t : Bool). not t && tails formalNew l) (none-alike l) ∙ ih
-    go (some i) ih = ap₂ (λ (t u : Bool). not t && u) (among-formals i l) ih
+pub operands-are : (l : List Operand) → tails operandTest l ≡ (all (tagged 6) l && differ (formals l))
+operands-are l =
+    tails-and (λ o r. tagged 6 o) (λ o r. freshIn (formalOf o) (formals r)) l
+    ∙ ap₂ _&&_ (tails-all (tagged 6) l) (formals-differ l)

@@ -1,4 +1,7 @@
--- Laws that belong to no one function.
 pub mod Counts
 pub mod DistinctLaws
 pub mod EntryLaws
+pub mod FieldLaws
+pub mod MarkLaws
+pub mod RowLaws
+pub mod TextLaws

@@ -1,6 +1,6 @@
--- What the soundness test of the code speaks of besides `sound`: formals that are the same, links, what each node asks of a loop entry, and what a table
+-- What the soundness test of the code speaks of besides `sound`: labels, formals, links, rows, what each node asks of a loop entry, and what a table
 -- variable holds.
-use Prim.Native.Nat.{ℕ, _≤_}
+use Prim.Native.Nat.{ℕ, _+_, _*_, _≤_}
 use mathlib.Core.Path.{_≡_}
 use mathlib.Core.Bool.{Bool, false, not, cond, _&&_, _||_}
 use mathlib.Core.List.{List, map}
@@ -8,23 +8,44 @@ use mathlib.Core.Option.{Option, none, some}
 use lib.Dec.{eqb, ltb}
 use lib.ListN.{length, getD}
 use Rattle.values.specs.declared.Operand.{Operand}
-use Rattle.values.specs.Lists.{all, firsts}
+use Rattle.values.specs.declared.Value.{Value}
+use Rattle.values.specs.Lists.{all, agree, firsts}
+use Rattle.values.specs.Values.{sameSite, kindOf, inRange}
 use Rattle.values.specs.Operands.{formalOf}
-use Rattle.rows.specs.Relations.{Relation}
-use Rattle.rows.specs.Plans.{isFormalOf}
+use Rattle.rows.specs.Relations.{Row, Columns, Relation}
 use Rattle.soundness.specs.declared.Extent.{Extent}
-use Rattle.nets.specs.Nets.{Kind, isLoop, Node}
+use Rattle.soundness.specs.declared.Label.{Label}
+use Rattle.nets.specs.declared.Alias.{Alias}
+use Rattle.nets.specs.Nets.{Table, Kind, isLoop, Node}
 use Rattle.nets.specs.Sound.{hasPlaces}
+
+-- ── aliases and tables ──
+
+-- the place of a site and a locality
+abbrev pub aliasPlace : Alias → ℕ
+aliasPlace a = a .site .0 * 8 + a .locality .0
+
+abbrev pub noLabel : Label
+noLabel = record { site = record { 0 = 0 }; name = 0 }
+
+abbrev pub labelOf : Table → Label
+labelOf t = record { site = t .site; name = t .name }
+
+abbrev pub sameLabel : Label → Label → Bool
+sameLabel a b = sameSite (a .site) (b .site) && eqb (a .name) (b .name)
+
+abbrev pub labelsIn : ℕ → List Label → List Label
+labelsIn n l = firsts (λ (a : Label). a) noLabel n l
 
 -- ── templates ──
 
-abbrev pub alike : Option ℕ → Option ℕ → Bool
-alike none o = false
-alike (some i) o = isFormalOf i o
+abbrev pub placeIn : Option ℕ → ℕ
+placeIn none = 16
+placeIn (some i) = i
 
--- both operands are formals of one variable
-abbrev pub sameFormal : Operand → Operand → Bool
-sameFormal a b = alike (formalOf a) (formalOf b)
+-- the variable of a formal; 16, which is none, of any other operand
+abbrev pub formalPlace : Operand → ℕ
+formalPlace a = placeIn (formalOf a)
 
 -- ── links ──
 
@@ -42,6 +63,16 @@ shapeOf d = cond (isLoop (d .kind) && ltb (d .read) 2) (d .read) 2
 pub record ShapesOf (shapes : List ℕ) (count : ℕ) (ds : List Node) : Type 0 where
   pub long : length ds ≡ count
   pub each : firsts (λ (s : ℕ). s) 0 count shapes ≡ map shapeOf ds
+
+-- ── rows ──
+
+-- a value of its column's kind, in range
+abbrev pub cellOk : ℕ → Value → Bool
+cellOk k v = eqb k (kindOf v) && inRange v
+
+-- a row that fits its columns, all values in range
+abbrev pub rowOk : Columns → Row → Bool
+rowOk cs r = agree cellOk cs r
 
 -- ── table variables, as loop entries see them ──
 

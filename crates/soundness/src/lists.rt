@@ -1,4 +1,5 @@
 // Aliases and tables: each in its ranges, no two alike.
+use crate::Label;
 use crate::ranges::locality_ok;
 use crate::ranges::site_ok;
 use crate::relations::table_ok;
@@ -6,13 +7,14 @@ use nets::Alias;
 use nets::Table;
 ghost use mathlib.Core.Path.{_≡_};
 ghost use mathlib.Core.Bool.{not, _&&_};
-ghost use Prim.Native.Nat.{_≤_};
+ghost use Prim.Native.Nat.{ℕ, _<_, _≤_};
 ghost use lib.Dec.{leb};
-ghost use lib.ListN.{length, drop};
+ghost use lib.ListN.{length, drop, getD};
 ghost use Rattle.values.specs.Lists.{all, any};
-ghost use Rattle.nets.specs.Tables.{isAt, rowsFit, distinct};
+ghost use Rattle.nets.specs.Tables.{rowsFit, distinct};
 ghost use Rattle.nets.specs.Sound.{aliasOk, sameAlias, aliasesDiffer, tableOk};
-ghost use Rattle.nets.specs.View.{aliasesOf, tableOf, tablesOf};
+ghost use Rattle.nets.specs.View.{aliasesOf, noTable, tableOf, tablesOf};
+ghost use Rattle.soundness.specs.SoundParts.{aliasPlace, noLabel, labelOf, sameLabel, labelsIn};
 
 // ---- aliases
 
@@ -49,18 +51,33 @@ pub fn alias_new(aliases: [Alias; 56], count: usize, a: Alias, from: usize) -> b
     true
 }
 
+// Its place among the pairs of a site and a locality.
+pub fn alias_place(a: Alias) -> usize
+    ensures { λ r. ⌜ r ≡ aliasPlace a ⌝ }
+{
+    let s = a.site;
+    let l = a.locality;
+    (s.0 as usize) * 8 + (l.0 as usize)
+}
+
+// From the last alias to the first; the pairs of those passed are marked.
 pub fn aliases_ok(aliases: [Alias; 56], count: usize) -> bool
     ensures { λ r. ⌜ r ≡ (all aliasOk (aliasesOf count aliases) && aliasesDiffer (aliasesOf count aliases)) ⌝ }
 {
     if 56 < count {
         return false;
     }
-    let mut i: usize = 0;
-    while i < count {
+    let mut seen: [bool; 64] = [false; 64];
+    let mut i = count;
+    while 0 < i {
+        i -= 1;
         let a = aliases[i];
-        let next = i + 1;
-        if alias_ok(a) & alias_new(aliases, count, a, next) {
-            i = next;
+        if alias_ok(a) {
+            let at = alias_place(a);
+            if seen[at] {
+                return false;
+            }
+            seen[at] = true;
         } else {
             return false;
         }
@@ -70,23 +87,54 @@ pub fn aliases_ok(aliases: [Alias; 56], count: usize) -> bool
 
 // ---- tables
 
-pub fn same_table(a: Table, b: Table) -> bool
-    ensures { λ r. ⌜ r ≡ isAt (a .site) (a .name) (tableOf b) ⌝ }
+pub fn label_of(t: Table) -> Label
+    ensures { λ r. ⌜ r ≡ labelOf (tableOf t) ⌝ }
+{
+    let site = t.site;
+    Label { site, name: t.name }
+}
+
+// Tables are compared by their labels, which are small.
+pub fn labels_of(tables: [Table; 8]) -> [Label; 8]
+    ensures { λ r. ⌜ ((i : ℕ) → i < 8 → getD r i noLabel ≡ labelOf (tableOf (getD tables i noTable))) ⌝ }
+{
+    let a = tables[0];
+    let b = tables[1];
+    let c = tables[2];
+    let d = tables[3];
+    let e = tables[4];
+    let f = tables[5];
+    let g = tables[6];
+    let h = tables[7];
+    [
+        label_of(a),
+        label_of(b),
+        label_of(c),
+        label_of(d),
+        label_of(e),
+        label_of(f),
+        label_of(g),
+        label_of(h),
+    ]
+}
+
+pub fn same_label(a: Label, b: Label) -> bool
+    ensures { λ r. ⌜ r ≡ sameLabel a b ⌝ }
 {
     let s = a.site;
     let t = b.site;
     (s.0 == t.0) & (a.name == b.name)
 }
 
-// No table from place `from` on has the site and name of this one.
-pub fn table_new(tables: [Table; 8], count: usize, a: Table, from: usize) -> bool
+// No label from place `from` on is this one.
+pub fn label_new(labels: [Label; 8], count: usize, a: Label, from: usize) -> bool
     requires { ⌜ count ≤ 8 ⌝ }
-    ensures { λ r. ⌜ r ≡ not (any (isAt (a .site) (a .name)) (drop from (tablesOf count tables))) ⌝ }
+    ensures { λ r. ⌜ r ≡ not (any (sameLabel a) (drop from (labelsIn count labels))) ⌝ }
 {
     let mut i = from;
     while i < count {
-        let b = tables[i];
-        if same_table(a, b) {
+        let b = labels[i];
+        if same_label(a, b) {
             return false;
         }
         i += 1;
@@ -100,11 +148,13 @@ pub fn tables_ok(tables: [Table; 8], count: usize) -> bool
     if 8 < count {
         return false;
     }
+    let labels = labels_of(tables);
     let mut i: usize = 0;
     while i < count {
         let t = tables[i];
+        let a = label_of(t);
         let next = i + 1;
-        if table_ok(t) & table_new(tables, count, t, next) {
+        if table_ok(t) & label_new(labels, count, a, next) {
             i = next;
         } else {
             return false;

@@ -5,18 +5,13 @@ use rows::Function;
 use rows::Operands;
 use rows::Selector;
 use rows::Test;
-use rows::plans::is_formal_of;
 use values::Operand;
 ghost use mathlib.Core.Path.{_≡_};
-ghost use mathlib.Core.Bool.{not, _&&_};
-ghost use Prim.Native.Nat.{_≤_};
-ghost use lib.ListN.{drop};
-ghost use Rattle.values.specs.Lists.{any};
-ghost use Rattle.values.specs.Operands.{formals};
+ghost use mathlib.Core.Bool.{_&&_};
 ghost use Rattle.rows.specs.declared.Test.the-variants.{Always};
 ghost use Rattle.rows.specs.View.{operandsOf};
-ghost use Rattle.nets.specs.Sound.{tagged, isAbsent, placeOk, operandsOk, differ, templateOk, testOk, isAlways, functionOk};
-ghost use Rattle.soundness.specs.SoundParts.{sameFormal};
+ghost use Rattle.nets.specs.Sound.{tagged, isAbsent, placeOk, operandsOk, templateOk, testOk, isAlways, functionOk};
+ghost use Rattle.soundness.specs.SoundParts.{formalPlace};
 
 // ---- operands
 
@@ -88,64 +83,49 @@ pub fn operands_ok(hi: u8, t: Operands) -> bool
 
 // ---- templates
 
-pub fn same_formal(a: Operand, b: Operand) -> bool
-    ensures { λ r. ⌜ r ≡ sameFormal a b ⌝ }
+// The variable of a formal; 16 of any other operand.
+pub fn formal_place(op: Operand) -> usize
+    ensures { λ r. ⌜ r ≡ formalPlace op ⌝ }
 {
-    match a {
-        Operand::Absent => false,
-        Operand::ConstInt(_) => false,
-        Operand::ConstText(_) => false,
-        Operand::ConstLoc(_) => false,
-        Operand::Var(_) => false,
-        Operand::Plus(_, _) => false,
-        Operand::Formal(i) => is_formal_of(i, b),
+    match op {
+        Operand::Absent => 16,
+        Operand::ConstInt(_) => 16,
+        Operand::ConstText(_) => 16,
+        Operand::ConstLoc(_) => 16,
+        Operand::Var(_) => 16,
+        Operand::Plus(_, _) => 16,
+        Operand::Formal(i) => i as usize,
     }
 }
 
-// No operand from place `from` on is the same formal as this one.
-pub fn formal_new(t: Operands, a: Operand, from: usize) -> bool
-    requires { ⌜ t .count ≤ 4 ⌝ }
-    ensures { λ r. ⌜ r ≡ not (any (sameFormal a) (drop from (operandsOf t))) ⌝ }
+// From the last operand to the first; the formals passed are marked.
+pub fn template_ok(t: Operands) -> bool
+    ensures { λ r. ⌜ r ≡ templateOk (operandsOf t) ⌝ }
 {
     let count = t.count;
-    let mut i = from;
-    while i < count {
-        let f = t.fields[i];
-        let b = f.operand;
-        if same_formal(a, b) {
-            return false;
-        }
-        i += 1;
+    if count == 0 {
+        return false;
     }
-    true
-}
-
-pub fn formals_differ(t: Operands) -> bool
-    requires { ⌜ t .count ≤ 4 ⌝ }
-    ensures { λ r. ⌜ r ≡ differ (formals (operandsOf t)) ⌝ }
-{
-    let count = t.count;
-    let mut i: usize = 0;
-    while i < count {
+    if 4 < count {
+        return false;
+    }
+    let mut seen: [bool; 17] = [false; 17];
+    let mut i = count;
+    while 0 < i {
+        i -= 1;
         let f = t.fields[i];
-        let a = f.operand;
-        let next = i + 1;
-        if formal_new(t, a, next) {
-            i = next;
+        let op = f.operand;
+        if tagged(6, op) {
+            let at = formal_place(op);
+            if seen[at] {
+                return false;
+            }
+            seen[at] = at < 16;
         } else {
             return false;
         }
     }
     true
-}
-
-pub fn template_ok(t: Operands) -> bool
-    ensures { λ r. ⌜ r ≡ templateOk (operandsOf t) ⌝ }
-{
-    if operands_ok(6, t) {
-        return formals_differ(t);
-    }
-    false
 }
 
 // ---- predicates and functions

@@ -5,8 +5,6 @@ use values::Site;
 use values::Slot;
 use values::Value;
 ghost use mathlib.Core.Path.{_≡_};
-ghost use mathlib.Core.Bool.{_&&_};
-ghost use lib.Dec.{leb};
 ghost use Rattle.values.specs.Values.{siteOk, localityOk, isText, inRange};
 ghost use Rattle.nets.specs.Sound.{variableOk};
 
@@ -22,19 +20,14 @@ pub fn locality_ok(l: Locality) -> bool
     l.0 < 8
 }
 
-pub fn byte_ok(b: u32) -> bool
-    ensures { λ r. ⌜ r ≡ (leb 32 b && leb b 126) ⌝ }
-{
-    (32 <= b) & (b <= 126)
-}
-
+// The four bytes at once: with 1 added or not, none has its high bit; with 96 added, each has it.
 pub fn is_text(t: u32) -> bool
     ensures { λ r. ⌜ r ≡ isText t ⌝ }
 {
-    byte_ok(t / 16777216 % 256)
-        & byte_ok(t / 65536 % 256)
-        & byte_ok(t / 256 % 256)
-        & byte_ok(t % 256)
+    let x = t as u64;
+    ((x & 0x80808080) == 0)
+        & (((x + 0x01010101) & 0x80808080) == 0)
+        & (((x + 0x60606060) & 0x80808080) == 0x80808080)
 }
 
 // Any i32 is in range; its arm binds it so that the proof has its bounds.

@@ -1,23 +1,26 @@
 // Relations in their ranges, and the tables and table variables that hold them.
-use crate::ranges::in_range;
+use crate::Extent;
 use crate::ranges::is_text;
+use crate::ranges::locality_ok;
 use crate::ranges::site_ok;
 use nets::Table;
 use nets::TableVariable;
+use rows::Cell;
 use rows::Relation;
 use rows::Row;
-use rows::fit::rows_fit;
+use values::Value;
 ghost use mathlib.Core.Path.{_≡_};
 ghost use mathlib.Core.Bool.{_&&_};
+ghost use mathlib.Core.List.{List};
 ghost use mathlib.Core.Option.{some};
-ghost use Prim.Native.Nat.{_≤_};
+ghost use Prim.Native.Nat.{ℕ, _≤_};
 ghost use lib.Dec.{leb};
 ghost use Rattle.values.specs.Lists.{all};
-ghost use Rattle.values.specs.Values.{inRange};
-ghost use Rattle.rows.specs.View.{valuesOf, columnsOf, relationOf};
+ghost use Rattle.rows.specs.View.{valuesOf, columnsOf, relationOf, Shaped};
 ghost use Rattle.nets.specs.Tables.{rowsFit};
-ghost use Rattle.nets.specs.Sound.{columnsOk, rowsOk, tableOk, relationOk};
+ghost use Rattle.nets.specs.Sound.{columnsOk, tableOk, relationOk, hasPlaces};
 ghost use Rattle.nets.specs.View.{tableOf, variableOf};
+ghost use Rattle.soundness.specs.SoundParts.{cellOk, rowOk, holdsPlaces};
 
 pub fn kind_ok(k: u8) -> bool
     ensures { λ r. ⌜ r ≡ (leb 1 k && leb k 3) ⌝ }
@@ -46,36 +49,44 @@ pub fn columns_ok(columns: usize, kinds: [u8; 4]) -> bool
     true
 }
 
-pub fn row_ok(row: Row, columns: usize) -> bool
-    requires { ⌜ columns ≤ 4 ⌝ }
-    ensures { λ r. ⌜ r ≡ all inRange (valuesOf columns row) ⌝ }
+// A value of its column's kind, in range. Any i32 is in range; its arm binds it so that the proof has its bounds.
+pub fn cell_ok(kind: u8, c: Cell) -> bool
+    ensures { λ r. ⌜ r ≡ cellOk kind (c .value) ⌝ }
 {
-    let mut i: usize = 0;
-    while i < columns {
-        let c = row.cells[i];
-        let v = c.value;
-        if in_range(v) {
-            i += 1;
-        } else {
-            return false;
-        }
+    let v = c.value;
+    match v {
+        Value::Int(_i) => kind == 1,
+        Value::Text(t) => (kind == 2) & is_text(t),
+        Value::Loc(l) => (kind == 3) & locality_ok(l),
     }
-    true
+}
+
+// Fixed places, so that the row is read where it stands.
+pub fn row_ok(row: Row, columns: usize, kinds: [u8; 4]) -> bool
+    requires { ⌜ (1 ≤ columns) × (columns ≤ 4) ⌝ }
+    ensures { λ r. ⌜ r ≡ rowOk (columnsOf columns kinds) (valuesOf columns row) ⌝ }
+{
+    let a = row.cells[0];
+    let b = row.cells[1];
+    let c = row.cells[2];
+    let d = row.cells[3];
+    cell_ok(kinds[0], a)
+        & ((columns < 2) | cell_ok(kinds[1], b))
+        & ((columns < 3) | cell_ok(kinds[2], c))
+        & ((columns < 4) | cell_ok(kinds[3], d))
 }
 
 pub fn rows_ok(r: Relation) -> bool
-    requires { ⌜ r .columns ≤ 4 ⌝ }
-    ensures { λ o. ⌜ o ≡ rowsOk (relationOf r .rows) ⌝ }
+    requires { ⌜ (1 ≤ r .columns) × Shaped r ⌝ }
+    ensures { λ o. ⌜ o ≡ all (rowOk (relationOf r .columns)) (relationOf r .rows) ⌝ }
 {
     let count = r.count;
     let columns = r.columns;
-    if 16 < count {
-        return false;
-    }
+    let kinds = r.kinds;
     let mut i: usize = 0;
     while i < count {
         let row = r.rows[i];
-        if row_ok(row, columns) {
+        if row_ok(row, columns, kinds) {
             i += 1;
         } else {
             return false;
@@ -84,33 +95,44 @@ pub fn rows_ok(r: Relation) -> bool
     true
 }
 
-// Columns, ranges and fit.
-pub fn relation_ok(r: Relation) -> bool
-    ensures { λ o. ⌜ o ≡ relationOk (some (relationOf r)) ⌝ }
+// The number of rows, if columns, ranges and fit are right, and else 17. Where there is no row, none is copied.
+pub fn rows_in(r: Relation) -> usize
+    ensures { λ o. ⌜ (leb o 16 ≡ relationOk (some (relationOf r))) × (o ≤ 16 → o ≡ r .count) ⌝ }
 {
     let columns = r.columns;
     let kinds = r.kinds;
-    if columns_ok(columns, kinds) {
+    let count = r.count;
+    if columns_ok(columns, kinds) & (count <= 16) {
+        if count == 0 {
+            return 0;
+        }
         if rows_ok(r) {
-            return rows_fit(r);
+            return count;
         }
     }
-    false
+    17
 }
 
 pub fn table_ok(t: Table) -> bool
     ensures { λ r. ⌜ r ≡ (tableOk (tableOf t) && rowsFit (tableOf t)) ⌝ }
 {
     let content = t.content;
-    site_ok(t.site) & is_text(t.name) & relation_ok(content)
+    site_ok(t.site) & is_text(t.name) & (rows_in(content) <= 16)
 }
 
-pub fn table_variable_ok(v: TableVariable) -> bool
-    ensures { λ r. ⌜ r ≡ relationOk (variableOf v) ⌝ }
+// Whether a table variable is bound, and its number of rows; 17 if what it holds is not right.
+pub fn extent_of(v: TableVariable) -> Extent
+    ensures { λ r. ⌜ (leb (r .rows) 16 ≡ relationOk (variableOf v)) × (r .rows ≤ 16 → (l : List ℕ) → hasPlaces l (variableOf v) ≡ holdsPlaces r l) ⌝ }
 {
-    let content = v.content;
     if v.bound {
-        return relation_ok(content);
+        let content = v.content;
+        return Extent {
+            bound: true,
+            rows: rows_in(content),
+        };
     }
-    true
+    Extent {
+        bound: false,
+        rows: 0,
+    }
 }

@@ -2,13 +2,10 @@
 use crate::Extent;
 use crate::ranges::site_ok;
 use crate::ranges::variable_ok;
-use crate::relations::table_variable_ok;
+use crate::relations::extent_of;
 use nets::Entry;
 use nets::Frame;
-use nets::Node;
-use nets::TableVariable;
 use nets::Thread;
-use nets::kinds::is_loop;
 use values::Slot;
 ghost use mathlib.Core.Path.{_≡_};
 ghost use mathlib.Core.Bool.{_&&_};
@@ -21,46 +18,8 @@ ghost use Rattle.values.specs.Operands.{varsOf};
 ghost use Rattle.rows.specs.Relations as Rows;
 ghost use Rattle.nets.specs.Nets as Model;
 ghost use Rattle.nets.specs.Sound.{variableOk, entryOk, stackOk, threadOk};
-ghost use Rattle.soundness.specs.SoundParts.{shapeOf, ShapesOf, holdsPlaces, ExtentsOf};
-ghost use Rattle.nets.specs.View.{nodeOf, nodesOf, marked, entryOf, stackOf, threadOf, threadsOf};
-
-// ---- what entries are judged by
-
-// The table variable that a loop node reads; 2 of every other node.
-pub fn shape_of(d: Node) -> u8
-    ensures { λ r. ⌜ r ≡ shapeOf (nodeOf d) ⌝ }
-{
-    let kind = d.kind;
-    let read = d.read;
-    if is_loop(kind) & (read < 2) {
-        return read;
-    }
-    2
-}
-
-pub fn shapes_of(nodes: [Node; 128], count: usize) -> [u8; 128]
-    requires { ⌜ count ≤ 128 ⌝ }
-    ensures { λ r. ⌜ ShapesOf r count (nodesOf count nodes) ⌝ }
-{
-    let mut shapes: [u8; 128] = [2; 128];
-    let mut i: usize = 0;
-    while i < count {
-        let d = nodes[i];
-        shapes[i] = shape_of(d);
-        i += 1;
-    }
-    shapes
-}
-
-pub fn extent_of(v: TableVariable) -> Extent
-    ensures { λ r. ⌜ (r .bound ≡ v .bound) × (r .rows ≡ v .content .count) ⌝ }
-{
-    let content = v.content;
-    Extent {
-        bound: v.bound,
-        rows: content.count,
-    }
-}
+ghost use Rattle.soundness.specs.SoundParts.{ShapesOf, holdsPlaces, ExtentsOf};
+ghost use Rattle.nets.specs.View.{marked, entryOf, stackOf, threadOf, threadsOf};
 
 // ---- parts of a thread
 
@@ -166,9 +125,9 @@ pub fn thread_ok(shapes: [u8; 128], count: usize, t: Thread) -> bool
     let stack = t.stack;
     let a = t.relations[0];
     let b = t.relations[1];
-    if site_ok(t.site) & vars_ok(vars) & (table_variable_ok(a) & table_variable_ok(b)) {
-        let m = extent_of(a);
-        let n = extent_of(b);
+    let m = extent_of(a);
+    let n = extent_of(b);
+    if site_ok(t.site) & vars_ok(vars) & ((m.rows <= 16) & (n.rows <= 16)) {
         return stack_ok(shapes, count, m, n, stack, t.depth);
     }
     false

@@ -2,7 +2,6 @@
 use crate::lists::aliases_ok;
 use crate::lists::tables_ok;
 use crate::nodes::nodes_ok;
-use crate::threads::shapes_of;
 use crate::threads::threads_ok;
 use nets::Net;
 ghost use mathlib.Core.Path.{_≡_};
@@ -17,8 +16,9 @@ pub fn sound_net(net: Net) -> bool
     let aliases = net.aliases;
     let threads = net.threads;
     let count = net.nodecount;
-    if nodes_ok(nodes, count) {
-        let shapes = shapes_of(nodes, count);
+    let judged = nodes_ok(nodes, count);
+    let shapes = judged.shapes;
+    if judged.right {
         let a = tables_ok(tables, net.tablecount);
         let b = aliases_ok(aliases, net.aliascount);
         let c = threads_ok(shapes, count, threads, net.threadcount);

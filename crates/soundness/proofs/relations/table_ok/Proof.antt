@@ -10,7 +10,7 @@ table-is : (f g h : Bool) {x y z s n : Bool} → x ≡ s → y ≡ n → z ≡ (
 table-is f g h {s = s} {n} p q r = rw (p, q, r) (and-assoc (s && n) (f && g) h ∙ ap (λ (t : Bool). t && h) (and-assoc (s && n) f g))
 
 returns : tie.Need-returns
-returns c = table-is _ _ _ (c .before .before .site-ok .ensures) (c .before .is-text .ensures) (c .relation-ok .ensures)
+returns c = table-is _ _ _ (c .before .before .site-ok .ensures) (c .before .is-text .ensures) (c .rows-in .ensures .0)
 
 pub table-ok-spec : {M : Type 1} → statement M
 table-ok-spec = tie.close (tie.spec (λ c κs. search needs) (λ c κs. search needs) (λ c κs. search needs) returns)

@@ -1,20 +1,22 @@
 -- `soundness::threads::thread_ok` meets its contract: site, variables and table variables first, then the stack.
+use Prim.Native.Nat.{ℕ, _≤_}
 use mathlib.Core.Path.{_≡_, sym, ap, _∙_}
 use mathlib.Core.Bool.{Bool, true, _&&_, and-true}
 use mathlib.Core.List.{List, map}
+use lib.Dec.{leb}
 use lib.ListN.{length, getD, length-map}
-use borrow.Author.Tests.{eq-eqb}
+use borrow.Author.Tests.{eq-eqb, leb-true}
 use Rattle.values.specs.declared.Slot.{Slot}
 use Rattle.values.specs.Lists.{all}
 use Rattle.values.specs.Values.{siteOk}
 use Rattle.values.specs.Operands.{varsOf}
 use Rattle.values.proofs.Arrays.{long}
-use Rattle.values.proofs.Bools.{and-assoc, and-go, and-stop}
+use Rattle.values.proofs.Bools.{and-assoc, and-first, and-last, and-go, and-stop}
 use Rattle.nets.specs.declared.Thread.{Thread}
 use Rattle.nets.specs.declared.TableVariable.{TableVariable}
 use Rattle.nets.specs.Sound.{relationOk, variableOk, bindingsOk}
 use Rattle.nets.specs.View.{noVariable, variableOf, bindingsOf}
-use Rattle.soundness.proofs.EntryLaws.{extent-is, extents-are, both-of}
+use Rattle.soundness.proofs.EntryLaws.{extents-are, both-of}
 use borrow.Author.Needs.{needs}
 use Rattle.soundness.proofs.threads.thread_ok.Statement.{statement}
 use Rattle.soundness.proofs.threads.thread_ok.Tie as tie
@@ -33,6 +35,14 @@ module _ (t : Thread) (m : length (t .vars) ≡ 16) (n : length (t .relations) �
       tidied s v a b
       ∙ rw (eq-eqb (length (varsOf (t .vars))) 16 (length-map (t .vars) (λ (x : Slot). x .held) ∙ m), eq-eqb (length (map variableOf (t .relations))) 2 (length-map (t .relations) variableOf ∙ n), first-two, p, q, f, g)
 
+-- what a test that passed says of the two counts
+module _ (s v : Bool) (m n : ℕ) (h : (s && v && (leb m 16 && leb n 16)) ≡ true) where
+  first-low : m ≤ 16
+  first-low = leb-true m 16 (and-first (leb m 16) (leb n 16) (and-last (s && v) (leb m 16 && leb n 16) h))
+
+  second-low : n ≤ 16
+  second-low = leb-true n 16 (and-last (leb m 16) (leb n 16) (and-last (s && v) (leb m 16 && leb n 16) h))
+
 vars-long : (s : tie.Start) → length (s .args .t3 .vars) ≡ 16
 vars-long s = search (long, needs)
 
@@ -43,21 +53,25 @@ returns : tie.Need-returns
 returns c =
     let s = c .before .before .before .before .before .before .before .before .before .before .before .before .before in
     let t = s .args .t3 in
+    let e = c .before .before .before .before .before .before .before .before .extent-of in
+    let f = c .before .before .before .before .before .before .before .extent-of2 in
+    let x = c .before .before .before .before .before .site-ok in
+    let y = c .before .before .before .before .vars-ok in
     λ ds h.
     and-go
-    (parts-are t (vars-long s) (relations-long s) (c .before .before .before .before .before .before .before .site-ok .ensures) (c .before .before .before .before .before .before .vars-ok .ensures) (c .before .before .before .before .before .table-variable-ok .ensures) (c .before .before .before .before .table-variable-ok2 .ensures))
-    (c .before .before .before .if1 .taken)
+    (parts-are t (vars-long s) (relations-long s) (x .ensures) (y .ensures) (e .ensures .0) (f .ensures .0))
+    (c .before .if1 .taken)
     (c .stack-ok .ensures ds (map variableOf (t .relations)) h
     (extents-are (t .relations) (relations-long s)
-    (extent-is (getD (t .relations) 0 noVariable) (c .before .before .extent-of .result) (c .before .before .extent-of .ensures .0) (c .before .before .extent-of .ensures .1))
-    (extent-is (getD (t .relations) 1 noVariable) (c .before .extent-of2 .result) (c .before .extent-of2 .ensures .0) (c .before .extent-of2 .ensures .1))))
+    (e .ensures .1 (first-low (x .result) (y .result) (e .result .rows) (f .result .rows) (c .before .if1 .taken)))
+    (f .ensures .1 (second-low (x .result) (y .result) (e .result .rows) (f .result .rows) (c .before .if1 .taken)))))
 
 returns-2 : tie.Need-returns-2
 returns-2 c =
-    let s = c .before .before .before .before .before .before .before .before .before .before in
+    let s = c .before .before .before .before .before .before .before .before .before .before .before .before in
     λ ds h.
     and-stop
-    (parts-are (s .args .t3) (vars-long s) (relations-long s) (c .before .before .before .before .site-ok .ensures) (c .before .before .before .vars-ok .ensures) (c .before .before .table-variable-ok .ensures) (c .before .table-variable-ok2 .ensures))
+    (parts-are (s .args .t3) (vars-long s) (relations-long s) (c .before .before .before .before .site-ok .ensures) (c .before .before .before .vars-ok .ensures) (c .before .before .before .before .before .before .before .extent-of .ensures .0) (c .before .before .before .before .before .before .extent-of2 .ensures .0))
     _ (c .if1 .left)
 
 pub thread-ok-spec : {M : Type 1} → statement M
@@ -66,8 +80,6 @@ thread-ok-spec =
     (tie.spec
     (λ c. search needs)
     (λ c. search needs)
-    (λ c κs. search needs)
-    (λ c κs. search needs)
     (λ c κs. search needs)
     (λ c κs. search needs)
     (λ c κs. search needs)

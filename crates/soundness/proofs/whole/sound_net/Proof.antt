@@ -46,11 +46,8 @@ module _ (xs : List Alias) (ts : List Table) (ds : List Node) (hs : List Thread)
       rw p
       (stopped (leb (length ts) 8) (leb n 128) (leb (length hs) 8) (all tableOk ts) (all rowsFit ts) (distinct ts) (all aliasOk xs) (aliasesDiffer xs) (nodesOk n 0 ds) (all (threadOk ds) hs) (sym e ∙ t))
 
-shapes-of-requires : tie.Need-shapes-of-requires
-shapes-of-requires c κs = size-is 128 _ refl (c .before .nodes-ok .ensures) (c .if1 .taken)
-
 threads-ok-requires : tie.Need-threads-ok-requires
-threads-ok-requires c κs = size-is 128 _ refl (c .before .before .before .before .nodes-ok .ensures) (c .before .before .before .if1 .taken)
+threads-ok-requires c κs = size-is 128 _ refl (c .before .before .before .before .nodes-ok .ensures .0) (c .before .before .if1 .taken)
 
 returns : tie.Need-returns
 unfolding view
@@ -59,22 +56,21 @@ returns c =
     let ds = nodesOf (net .nodecount) (net .nodes) in
     all-tested (aliasesOf (net .aliascount) (net .aliases)) (tablesOf (net .tablecount) (net .tables)) ds (threadsOf (net .threadcount) (net .threads))
     (length-firsts nodeOf noNode (net .nodecount) (net .nodes)) (length-firsts threadOf noThread (net .threadcount) (net .threads))
-    (c .before .before .before .before .before .nodes-ok .ensures) (c .before .before .before .before .if1 .taken) (c .before .before .tables-ok .ensures) (c .before .aliases-ok .ensures) (c .threads-ok .ensures ds (c .before .before .before .shapes-of .ensures))
+    (c .before .before .before .before .before .nodes-ok .ensures .0) (c .before .before .before .if1 .taken) (c .before .before .tables-ok .ensures) (c .before .aliases-ok .ensures) (c .threads-ok .ensures ds (c .before .before .before .before .before .nodes-ok .ensures .1 (c .before .before .before .if1 .taken)))
 
 returns-2 : tie.Need-returns-2
 unfolding view
 returns-2 c =
-    let net = c .before .before .before .before .before .before .args .net in
+    let net = c .before .before .before .before .before .before .before .args .net in
     nodes-fail (aliasesOf (net .aliascount) (net .aliases)) (tablesOf (net .tablecount) (net .tables)) (nodesOf (net .nodecount) (net .nodes)) (threadsOf (net .threadcount) (net .threads))
     (length-firsts nodeOf noNode (net .nodecount) (net .nodes)) (length-firsts threadOf noThread (net .threadcount) (net .threads))
-    (c .before .nodes-ok .ensures) (c .if1 .left)
+    (c .before .before .nodes-ok .ensures .0) (c .if1 .left)
 
 pub sound-net-spec : {M : Type 1} → statement M
 sound-net-spec =
     tie.close
     (tie.spec
     (λ c κs. search needs)
-    shapes-of-requires
     (λ c κs. search needs)
     (λ c κs. search needs)
     threads-ok-requires

@@ -1,11 +1,11 @@
--- `soundness::threads::shape_of` meets its contract: its test is that of `shapeOf`.
+-- `soundness::nodes::shape_of` meets its contract: its test is that of `shapeOf`.
 use Prim.Native.Nat.{ℕ}
 use mathlib.Core.Path.{_≡_, sym, ap, _∙_}
 use mathlib.Core.Bool.{Bool, cond, _&&_}
 use lib.Dec.{ltb}
 use borrow.Author.Needs.{needs}
-use Rattle.soundness.proofs.threads.shape_of.Statement.{statement}
-use Rattle.soundness.proofs.threads.shape_of.Tie as tie
+use Rattle.soundness.proofs.nodes.shape_of.Statement.{statement}
+use Rattle.soundness.proofs.nodes.shape_of.Tie as tie
 
 module _ (r : ℕ) {l m : Bool} (e : l ≡ m) where
   shape-is : {t : Bool} → (l && ltb r 2) ≡ t → cond t r 2 ≡ cond (m && ltb r 2) r 2
