@@ -1,3 +1,2 @@
 -- The state of a run.
-pub mod Totals
 pub mod States

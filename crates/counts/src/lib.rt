@@ -1,21 +1,9 @@
 // The state of a run: a net, whether it is sound, and the sums of the counts reported so far.
-use crate::totals::added_in;
-use crate::totals::plus;
-use crate::totals::taken_in;
-use crate::totals::zero;
 use nets::Net;
-use nets::Stepped;
 use soundness::whole::sound_net;
-ghost use Prim.Native.Nat.{_<_, _^_};
-ghost use Rattle.counts.specs.States.{Begun, Tallied};
-
-pub mod totals;
-
-// A sum in two halves: no list of picks makes it wrap.
-pub struct Total {
-    pub high: u64,
-    pub low: u64,
-}
+use totals::Total;
+use totals::zero;
+ghost use Rattle.counts.specs.States.{Begun};
 
 pub struct Ran {
     pub net: Net,
@@ -33,22 +21,5 @@ pub fn begin(net: Net) -> Ran
         sound: sound_net(net),
         added: zero(),
         taken: zero(),
-    }
-}
-
-// The net that a step left, and its counts with those before.
-pub fn tally(s: Ran, stepped: Stepped) -> Ran
-    requires { ⌜ (s .added .high < 2 ^ 63) × (s .taken .high < 2 ^ 63) ⌝ }
-    ensures { λ r. ⌜ Tallied s stepped r ⌝ }
-{
-    let answer = stepped.answer;
-    let net = stepped.net;
-    let added = s.added;
-    let taken = s.taken;
-    Ran {
-        net,
-        sound: s.sound,
-        added: plus(added, added_in(answer)),
-        taken: plus(taken, taken_in(answer)),
     }
 }

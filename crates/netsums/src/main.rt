@@ -1,6 +1,5 @@
 // Reads a file of records on standard input, runs its picks as one run, and prints the sums of the counts and then the tables left.
 use counts::Ran;
-use counts::Total;
 use files::Loaded;
 use files::Verdict;
 use libc::STDIN_FILENO;
@@ -14,6 +13,7 @@ use printing::pages::put_decimal;
 use printing::pages::write_page;
 use records::loading::load;
 use runs::lending::run_first;
+use totals::Total;
 ghost use Prim.Native.Nat.{_≤_};
 
 // The high half of a sum, where it counts.

@@ -1,7 +1,7 @@
 -- Turns of a run, one after another, are a run. Assumes nothing.
 use Prim.Native.Nat.{ℕ, _+_, _*_, _<_, _≤_, _^_}
 use mathlib.Core.Path.{_≡_, refl, ap, sym, _∙_, subst}
-use mathlib.Core.Bool.{Bool, true, false, not, _&&_}
+use mathlib.Core.Bool.{Bool, true, false, not}
 use mathlib.Core.List.{List, [], _∷_, _++_, append-assoc, append-nil}
 use native.Mathlib.Omega.{arith}
 use native.Mathlib.Numerals.{add-one}
@@ -11,28 +11,25 @@ use lib.ListN.{length, take, getD, length-append}
 use lib.Seq.{take-suc, take-all, length-take-le}
 use Rattle.nets.specs.declared.Pick.{Pick}
 use Rattle.nets.specs.declared.Net.{Net}
-use Rattle.nets.specs.declared.Answer.{Answer}
-use Rattle.nets.specs.declared.Answer.the-variants.{Done, Refused}
-use Rattle.nets.specs.declared.Stepped.{Stepped}
 use Rattle.nets.specs.Nets as M
-use Rattle.nets.specs.Nets.{Outcome, refused, done}
+use Rattle.nets.specs.Nets.{refused}
 use Rattle.nets.specs.Sound.{sound}
 use Rattle.nets.specs.Steps.{step}
-use Rattle.nets.specs.Accounts.{netLeft, nextNet, after, answers, addedIn, takenIn, isDone, reportedAdded, reportedTaken}
+use Rattle.nets.specs.Accounts.{netLeft, nextNet, after, answers, addedIn, takenIn, reportedAdded, reportedTaken}
 use Rattle.nets.specs.View.{view}
-use Rattle.nets.specs.Answers.{answerOf, saidOf, isRefused, StepIs}
 use Rattle.values.proofs.Bools.{is-true}
 use Rattle.nets.proofs.AnswerLaws.{refuses-10}
-use Rattle.files.specs.EngineDemand3.{addedSaid, takenSaid}
-use Rattle.files.proofs.EngineLaws.{said-added, said-taken, demand3-of, verdict-accepts}
-use Rattle.counts.specs.declared.Total.{Total}
+use Rattle.files.proofs.EngineLaws.{demand3-of, verdict-accepts}
+use Rattle.totals.specs.declared.Total.{Total}
 use Rattle.counts.specs.declared.Ran.{Ran}
-use Rattle.counts.specs.Totals.{totalOf}
-use Rattle.runs.specs.Runs.{allRefused, RunIs}
-use Rattle.counts.specs.States.{Begun, Tallied}
+use Rattle.totals.specs.Totals.{totalOf}
+use Rattle.runs.specs.Runs.{RunIs}
+use Rattle.picking.specs.declared.Gone.{Gone}
+use Rattle.picking.specs.Turns.{allRefused, GoneIs}
+use Rattle.counts.specs.States.{Begun}
 use Rattle.runs.specs.declared.Batch.{Batch}
 use Rattle.runs.specs.Batches.{picksOf, Empty, OneMore}
-use Rattle.runs.specs.Turns.{Ready, ReadyForAll, Turned}
+use Rattle.runs.specs.Turns.{Ready, Turned}
 use Rattle.runs.proofs.ListLaws.{after-both, added-both, taken-both, refused-both}
 
 -- ── any number of picks ──
@@ -70,20 +67,18 @@ turned-both s m r ps qs a b = record {
   takenRoom = let l = length-append ps qs in omega (arith, a .takenRoom, b .takenRoom, l);
 }
 
--- one pick of a list further
-pub turned-next :
-    (s m r : Ran) (ps : List Pick) (i : ℕ) (d : Pick) → i < length ps → Turned s (take i ps) m → Turned m (getD ps i d ∷ []) r → Turned s (take (i + 1) ps) r
-turned-next s m r ps i d l a b = rw (add-one, take-suc ps i d) (turned-both s m r (take i ps) (getD ps i d ∷ []) a b)
-
--- the sums that have room for a batch have room for each of its picks
-pub ready-within : (s m : Ran) (ps : List Pick) (i : ℕ) → ReadyForAll s → i < 64 → i ≤ length ps → Turned s (take i ps) m → Ready m
-ready-within s m ps i h l few t =
-    let n = length-take-le i ps few in
-    record {
-      flag = t .flag;
-      added = omega (arith, t .addedRoom, h .added, n, l);
-      taken = omega (arith, t .takenRoom, h .taken, n, l);
-    }
+-- a refused pick
+refuses : (s : Ran) (p : Pick) {n : ℕ} → s .sound ≡ sound (view (s .net)) → step (view (s .net)) p ≡ refused n [] → Turned s (p ∷ []) s
+unfolding after nextNet answers
+refuses s p f no = record {
+  after = ap (netLeft (view (s .net))) (sym no);
+  added = let n = ap addedIn no in omega (arith, n);
+  taken = let n = ap takenIn no in omega (arith, n);
+  kept = λ k. refl;
+  flag = f;
+  addedRoom = omega arith;
+  takenRoom = omega arith;
+}
 
 -- ── the loop over the slice ──
 
@@ -144,7 +139,7 @@ room-left b true e h l = absurd h
 room-left b false e h l = omega (arith, l, eqb-false (b .count) 64 (sym e))
 
 -- a list in memory is so short that the sums have room
-pub so-far-ready : (net : Net) (ys : List Pick) (i : ℕ) (s : Ran) (b : Batch) → length ys * 2 < 2 ^ 63 → SoFar net ys i s b → ReadyForAll s × (b .count ≤ 64)
+pub so-far-ready : (net : Net) (ys : List Pick) (i : ℕ) (s : Ran) (b : Batch) → length ys * 2 < 2 ^ 63 → SoFar net ys i s b → Ready s × (b .count ≤ 64)
 so-far-ready net ys i s b room g =
     let n = length-take-le i ys (g .upto) in
     let both = sym (length-append (g .done) (picksOf b)) ∙ ap length (g .both) in (
@@ -181,40 +176,28 @@ run-is net ys f s b t = record {
 pub so-far-all : (net : Net) (ys : List Pick) (i : ℕ) (s r : Ran) (b : Batch) → length ys ≤ i → SoFar net ys i s b → Turned s (picksOf b) r → RunIs net ys r
 so-far-all net ys i s r b l g t = run-is net ys (g .first) r (g .begun) (rw (← take-all i ys l) (turned-all net ys i s r b g t))
 
--- ── one pick ──
+-- ── the picks of a batch ──
 
 -- an unsound net refuses every pick
-pub turned-unsound : (s : Ran) (p : Pick) → Ready s → s .sound ≡ false → Turned s (p ∷ []) s
-unfolding after nextNet answers
-turned-unsound s p h e = record {
-  after = ap (netLeft (view (s .net))) (sym no);
-  added = let n = ap addedIn no in omega (arith, n);
-  taken = let n = ap takenIn no in omega (arith, n);
-  kept = λ k. refl;
-  flag = h .flag;
-  addedRoom = omega arith;
-  takenRoom = omega arith;
-}
+pub turned-unsound : (s : Ran) (ps : List Pick) → Ready s → s .sound ≡ false → Turned s ps s
+turned-unsound s ps h e = go ps
   where
-    no : step (view (s .net)) p ≡ refused 10 []
-    no = refuses-10 (view (s .net)) p (sym (h .flag) ∙ e)
+    one : (p : Pick) → Turned s (p ∷ []) s
+    one p = refuses s p (h .flag) (refuses-10 (view (s .net)) p (sym (h .flag) ∙ e))
 
--- an answer that says no more than a refusal is one
-refused-said : (a : Answer) (o : Outcome) → saidOf a ≡ answerOf o → T (not (isDone o) && true) → T (isRefused a)
-refused-said (Refused r) o e h = tt
-refused-said (Done a t) (refused n vs) e h = let z : _≡_ {A = ℕ} 0 1 = cc in absurd (omega arith)
-refused-said (Done a t) (done b u net) e h = absurd h
+    go : (ps : List Pick) → Turned s ps s
+    go [] = turned-none s (h .flag)
+    go (p ∷ ps) = turned-both s s s (p ∷ []) ps (one p) (go ps)
 
--- a sound one is stepped, and the counts of the answer are added
-pub turned-sound :
-    (s r : Ran) (p : Pick) (o : Stepped) → s .sound ≡ true → StepIs (s .net) p o → T (sound (view (o .net))) → Tallied s o r → Turned s (p ∷ []) r
-unfolding after nextNet answers
-turned-sound s r p o ready is fine t = record {
-  after = ap view (t .net) ∙ is .after;
-  added = let e = ap addedSaid (is .answer) ∙ said-added (step (view (s .net)) p) in omega (arith, t .added, e);
-  taken = let e = ap takenSaid (is .answer) ∙ said-taken (step (view (s .net)) p) in omega (arith, t .taken, e);
-  kept = λ h. t .net ∙ is .kept (refused-said (o .answer) (step (view (s .net)) p) (is .answer) h);
-  flag = t .flag ∙ ready ∙ sym (is-true (sound (view (o .net))) fine) ∙ ap (λ (m : Net). sound (view m)) (sym (t .net));
-  addedRoom = t .addedRoom;
-  takenRoom = t .takenRoom;
-}
+-- picks in turn on a sound one
+pub turned-sound : (s r : Ran) (ps : List Pick) (g : Gone) → GoneIs (s .net) ps (s .added) (s .taken) g → r ≡ record { net = g .net; sound = true; added = g .added; taken = g .taken } → Turned s ps r
+turned-sound s r ps g h e = subst (Turned s ps) (sym e)
+    (record {
+      after = h .left;
+      added = h .added;
+      taken = h .taken;
+      kept = h .kept;
+      flag = sym (is-true (sound (view (g .net))) (h .sound));
+      addedRoom = h .addedRoom;
+      takenRoom = h .takenRoom;
+    })

@@ -1,27 +1,20 @@
 -- The contract of a run: what comes back after a list of picks, by the rules.
 use Prim.Native.Nat.{ℕ}
 use mathlib.Core.Path.{_≡_}
-use mathlib.Core.Bool.{Bool, not}
 use mathlib.Core.List.{List}
 use lib.Dec.{T}
-use Rattle.values.specs.Lists.{all}
 use Rattle.nets.specs.declared.Pick.{Pick}
 use Rattle.nets.specs.declared.Net.{Net}
-use Rattle.nets.specs.Nets as M
-use Rattle.nets.specs.Nets.{Outcome}
 use Rattle.nets.specs.Sound.{sound}
-use Rattle.nets.specs.Accounts.{after, answers, isDone, reportedAdded, reportedTaken}
+use Rattle.nets.specs.Accounts.{after, reportedAdded, reportedTaken}
 use Rattle.nets.specs.View.{view}
 use Rattle.files.specs.declared.Verdict.the-variants.{Accepted}
 use Rattle.files.specs.declared.Loaded.{Loaded}
 use Rattle.files.specs.FileDemand3.{FileDemand3}
 use Rattle.files.specs.Engine.{LoadIs}
+use Rattle.picking.specs.Turns.{allRefused}
 use Rattle.counts.specs.declared.Ran.{Ran}
-use Rattle.counts.specs.Totals.{totalOf}
-
--- no pick of the list is carried out
-abbrev pub allRefused : M.Net → List Pick → Bool
-allRefused net ps = all (λ (o : Outcome). not (isDone o)) (answers net ps)
+use Rattle.totals.specs.Totals.{totalOf}
 
 pub record RunIs (net : Net) (ps : List Pick) (r : Ran) : Type 0 where
   -- the net given back is the one that the rules leave after the picks

@@ -9,17 +9,11 @@ use Rattle.nets.specs.Sound.{sound}
 use Rattle.nets.specs.Accounts.{after, reportedAdded, reportedTaken}
 use Rattle.nets.specs.View.{view}
 use Rattle.counts.specs.declared.Ran.{Ran}
-use Rattle.counts.specs.Totals.{totalOf}
-use Rattle.runs.specs.Runs.{allRefused}
+use Rattle.totals.specs.Totals.{totalOf}
+use Rattle.picking.specs.Turns.{allRefused}
 
--- the flag is right, and the sums have room
+-- the flag is right, and the sums have room for a batch
 pub record Ready (s : Ran) : Type 0 where
-  pub flag : s .sound ≡ sound (view (s .net))
-  pub added : s .added .high < 2 ^ 63
-  pub taken : s .taken .high < 2 ^ 63
-
--- the same for every pick of a batch
-pub record ReadyForAll (s : Ran) : Type 0 where
   pub flag : s .sound ≡ sound (view (s .net))
   pub added : s .added .high + 64 < 2 ^ 63
   pub taken : s .taken .high + 64 < 2 ^ 63

@@ -5,39 +5,34 @@ use crate::gathering::no_picks;
 use crate::gathering::with_pick;
 use counts::Ran;
 use counts::begin;
-use counts::tally;
 use nets::Net;
 use nets::Pick;
-use steps::stepping::step_sound;
-ghost use mathlib.Core.List.{[], _∷_};
+use picking::turning::turns_sound;
 ghost use Prim.Native.Nat.{_≤_};
 ghost use Rattle.runs.specs.Batches.{picksOf};
 ghost use Rattle.runs.specs.Runs.{RunIs};
-ghost use Rattle.runs.specs.Turns.{Ready, ReadyForAll, Turned};
+ghost use Rattle.runs.specs.Turns.{Ready, Turned};
 
-// One pick of a run. An unsound net refuses it, and stands as it is.
-pub fn turn(s: Ran, pick: Pick) -> Ran
-    requires { ⌜ Ready s ⌝ }
-    ensures { λ r. ⌜ Turned s (pick ∷ []) r ⌝ }
+// The picks of a batch, in order. An unsound net refuses them, and stands as it is.
+pub fn turns(s: Ran, b: Batch) -> Ran
+    requires { ⌜ Ready s × (b .count ≤ 64) ⌝ }
+    ensures { λ r. ⌜ Turned s (picksOf b) r ⌝ }
 {
     if s.sound {
         let net = s.net;
-        return tally(s, step_sound(net, pick));
-    }
-    s
-}
-
-// The picks of a batch, in order.
-pub fn turns(mut s: Ran, b: Batch) -> Ran
-    requires { ⌜ ReadyForAll s × (b .count ≤ 64) ⌝ }
-    ensures { λ r. ⌜ Turned s (picksOf b) r ⌝ }
-{
-    let count = b.count;
-    let mut i: usize = 0;
-    while i < count {
-        let p = b.picks[i];
-        s = turn(s, p);
-        i += 1;
+        let picks = b.picks;
+        let added = s.added;
+        let taken = s.taken;
+        let g = turns_sound(net, picks, b.count, added, taken);
+        let next = g.net;
+        let more = g.added;
+        let gone = g.taken;
+        return Ran {
+            net: next,
+            sound: true,
+            added: more,
+            taken: gone,
+        };
     }
     s
 }

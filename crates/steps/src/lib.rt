@@ -1,16 +1,2 @@
-// Steps on a net, one or several in turn.
-use nets::Answer;
-use nets::Net;
-use totals::Total;
-
-pub mod reading;
+// The single step.
 pub mod stepping;
-pub mod turning;
-
-// The net after some picks, the answer to the last of them, and the sums of rows added and taken.
-pub struct Gone {
-    pub net: Net,
-    pub answer: Answer,
-    pub added: Total,
-    pub taken: Total,
-}

@@ -1,10 +1,10 @@
 // The single step.
-use crate::turning::turns_sound;
 use nets::Answer;
 use nets::Net;
 use nets::Pick;
 use nets::Refusal;
 use nets::Stepped;
+use picking::turning::turns_sound;
 use soundness::whole::sound_net;
 use totals::zero;
 ghost use mathlib.Core.Path.{_≡_};

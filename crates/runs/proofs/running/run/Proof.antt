@@ -51,7 +51,7 @@ use denote.Exit.{yes}
 use Rattle.runs.specs.Runs.{RunIs}
 use Rattle.counts.specs.States.{Begun}
 use Rattle.runs.specs.Batches.{picksOf, Empty, OneMore}
-use Rattle.runs.specs.Turns.{ReadyForAll, Turned}
+use Rattle.runs.specs.Turns.{Ready, Turned}
 use Rattle.runs.proofs.TurnLaws.{SoFar, so-far-start, so-far-more, so-far-turned, so-far-all, so-far-ready, room-left}
 use Rattle.nets.specs.declared.Pick.{Pick}
 use Rattle.nets.specs.declared.Net.{Net}
@@ -192,7 +192,7 @@ module _ {M : Type 1} (𝓤 : URA M) (H : Heap 𝓤) (A : Atoms 𝓤) (W : Given
   abbrev to-turns : Ran → Batch → Val → Val → Turns 𝓤 H A mem run .Ghost
   to-turns s g u w = ((tt, tt, tt, (s, (g, tt)), (u ∷ [], (w ∷ [], tt))), tt)
 
-  goes-turns : (s : Ran) (g : Batch) (u w : Val) → ReadyForAll s × (g .count ≤ 64) → ent 𝓤 (⋆ 𝓤 H A (‵ (R.the-row .own s (u ∷ [])) ∷ ‵ (B.the-row .own g (w ∷ [])) ∷ [])) (Turns 𝓤 H A mem run .pre (to-turns s g u w))
+  goes-turns : (s : Ran) (g : Batch) (u w : Val) → Ready s × (g .count ≤ 64) → ent 𝓤 (⋆ 𝓤 H A (‵ (R.the-row .own s (u ∷ [])) ∷ ‵ (B.the-row .own g (w ∷ [])) ∷ [])) (Turns 𝓤 H A mem run .pre (to-turns s g u w))
   goes-turns s g u w f =
       qed W (‵ (R.the-row .own s (u ∷ [])) ∷ ‵ (B.the-row .own g (w ∷ [])) ∷ []) ∵ says ! f $
       nothing ! $ frame ! $ nothing ! $ move ! (2 ∷ 0 ∷ []) $ fjoin ! $ move ! (1 ∷ 0 ∷ []) $ fjoin ! $ done !

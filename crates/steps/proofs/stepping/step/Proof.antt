@@ -6,7 +6,7 @@ use Rattle.nets.specs.Sound.{sound}
 use Rattle.nets.specs.View.{view}
 use Rattle.nets.specs.Answers.{answerOf}
 use Rattle.nets.proofs.AnswerLaws.{refuses-10}
-use Rattle.steps.proofs.StoreTies.{refused-is}
+use Rattle.picking.proofs.StoreTies.{refused-is}
 use Rattle.steps.proofs.stepping.step.Statement.{statement}
 use Rattle.steps.proofs.stepping.step.Tie as tie
 

@@ -3,7 +3,7 @@ use mathlib.Core.Path.{refl, ap}
 use native.Mathlib.Omega.{arith}
 use borrow.Author.Needs.{needs}
 use Rattle.totals.specs.declared.Total.{Total}
-use Rattle.steps.proofs.TurnLaws.{gone-step}
+use Rattle.picking.proofs.TurnLaws.{gone-step}
 use Rattle.steps.proofs.stepping.step_sound.Statement.{statement}
 use Rattle.steps.proofs.stepping.step_sound.Tie as tie
 

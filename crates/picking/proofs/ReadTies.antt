@@ -36,7 +36,7 @@ use Rattle.threads.specs.Contracts.{Stacked}
 use Rattle.threads.proofs.ThreadLaws.{stack-top}
 use Rattle.nets.proofs.SureLaws.{entry-node}
 use Rattle.nets.proofs.TablePlaces.{placeAt}
-use Rattle.steps.proofs.SceneTies.{threadAt, few-nodes, few-threads, node-below, pick-there, scene-thread, thread-ok, thread-entries, situation-fine, table-found, table-read}
+use Rattle.picking.proofs.SceneTies.{threadAt, few-nodes, few-threads, node-below, pick-there, scene-thread, thread-ok, thread-entries, situation-fine, table-found, table-read}
 
 abbrev pub nodeRead : Net → ℕ → Node
 nodeRead net k = getD (net .nodes) k noNode

@@ -25,10 +25,10 @@ use Rattle.nets.specs.Answers.{Said, refusing, doing, numberOf, answerOf, saidO
 use Rattle.nets.specs.View.{view}
 use Rattle.totals.specs.declared.Total.{Total}
 use Rattle.totals.specs.Totals.{totalOf}
-use Rattle.steps.specs.declared.Gone.{Gone}
-use Rattle.steps.specs.Turns.{allRefused, lastSaid, GoneIs}
-use Rattle.steps.proofs.KeepStep.{kept-sound}
-use Rattle.steps.proofs.StoreTies.{refused-is}
+use Rattle.picking.specs.declared.Gone.{Gone}
+use Rattle.picking.specs.Turns.{allRefused, lastSaid, GoneIs}
+use Rattle.picking.proofs.KeepStep.{kept-sound}
+use Rattle.picking.proofs.StoreTies.{refused-is}
 
 -- ── lists of picks, the last one by itself ──
 

@@ -43,9 +43,9 @@ use Rattle.nets.proofs.StepLaws.{Passed}
 use Rattle.nets.proofs.AnswerLaws.{refuses-11}
 use Rattle.nets.proofs.RoundLaws.{given}
 use Rattle.nets.proofs.TablePlaces.{placeAt, place-below}
-use Rattle.steps.proofs.ListTies.{tablePlace, puts-tables, drop-tables, net-after, done-left, refused-left}
-use Rattle.steps.proofs.SceneTies.{few-tables, few-threads, step-is}
-use Rattle.steps.proofs.ReadTies.{nodeRead, Read, node-read, site-read}
+use Rattle.picking.proofs.ListTies.{tablePlace, puts-tables, drop-tables, net-after, done-left, refused-left}
+use Rattle.picking.proofs.SceneTies.{few-tables, few-threads, step-is}
+use Rattle.picking.proofs.ReadTies.{nodeRead, Read, node-read, site-read}
 
 -- ── a refused step ──
 

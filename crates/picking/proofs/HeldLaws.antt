@@ -19,7 +19,7 @@ use Rattle.nets.specs.Sound as S
 use Rattle.nets.specs.Sound.{entryNode}
 use Rattle.nets.specs.Steps.{holds}
 use Rattle.nets.specs.View.{noFrame, noNode, nodeOf, entryWith, entryOf, stackOf, nodesOf}
-use Rattle.steps.proofs.SceneTies.{stack-all}
+use Rattle.picking.proofs.SceneTies.{stack-all}
 
 -- ── a test of the frames in use, from the last ──
 

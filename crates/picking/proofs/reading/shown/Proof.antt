@@ -1,10 +1,10 @@
--- `steps::reading::shown` meets its contract. Assumes nothing.
+-- `picking::reading::shown` meets its contract. Assumes nothing.
 use mathlib.Core.Path.{_≡_, refl, ap, sym}
 use mathlib.Core.Bool.{Bool, true, false, cond}
 use Rattle.rows.specs.Relations.{Relation, noRelation}
 use Rattle.rows.specs.View.{relationOf}
-use Rattle.steps.proofs.reading.shown.Statement.{statement}
-use Rattle.steps.proofs.reading.shown.Tie as tie
+use Rattle.picking.proofs.reading.shown.Statement.{statement}
+use Rattle.picking.proofs.reading.shown.Tie as tie
 
 as-found : {b c : Bool} (x y : Relation) → b ≡ c → cond c x y ≡ cond b x y
 as-found x y e = ap (λ (z : Bool). cond z x y) (sym e)

@@ -1,11 +1,11 @@
--- `steps::reading::over` meets its contract. Assumes nothing.
+-- `picking::reading::slot_at` meets its contract. Assumes nothing.
 use Prim.Native.Nat.{ℕ, _<_, _≤_}
 use mathlib.Core.Path.{_≡_, ap, sym}
 use mathlib.Core.Bool.{Bool, cond}
 use borrow.Author.Tests.{lt-ltb, le-ltb}
 use lib.Dec.{ltb}
-use Rattle.steps.proofs.reading.over.Statement.{statement}
-use Rattle.steps.proofs.reading.over.Tie as tie
+use Rattle.picking.proofs.reading.slot_at.Statement.{statement}
+use Rattle.picking.proofs.reading.slot_at.Tie as tie
 
 below : (a b x y : ℕ) → a < b → x ≡ cond (ltb a b) x y
 below a b x y h = sym (ap (λ (c : Bool). cond c x y) (lt-ltb a b h))
@@ -17,7 +17,7 @@ returns : tie.Need-returns
 returns c = below _ _ _ _ (c .if1 .taken)
 
 returns-2 : tie.Need-returns-2
-returns-2 c = past _ _ (c .before .args .depth) _ (c .if1 .left)
+returns-2 c = past _ _ (c .before .args .at) _ (c .if1 .left)
 
-pub over-spec : {M : Type 1} → statement M
-over-spec = tie.close (tie.spec returns returns-2)
+pub slot-at-spec : {M : Type 1} → statement M
+slot-at-spec = tie.close (tie.spec returns returns-2)

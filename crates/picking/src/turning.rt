@@ -32,7 +32,7 @@ ghost use lib.Dec.{T};
 ghost use lib.ListN.{take};
 ghost use Rattle.nets.specs.Sound.{sound};
 ghost use Rattle.nets.specs.View.{view};
-ghost use Rattle.steps.specs.Turns.{GoneIs};
+ghost use Rattle.picking.specs.Turns.{GoneIs};
 
 pub fn turns_sound(from: Net, picks: [Pick; 64], count: usize, before: Total, gone: Total) -> Gone
     requires { ⌜ T (sound (view from)) × (count ≤ 64) × (before .high + 64 < 2 ^ 63) × (gone .high + 64 < 2 ^ 63) ⌝ }

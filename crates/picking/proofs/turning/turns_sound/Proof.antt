@@ -1,4 +1,4 @@
--- `steps::turning::turns_sound` meets its contract. Of each pick: what it reads is what the scene of the pick has (`read`), `decide` says what the pick comes to
+-- `picking::turning::turns_sound` meets its contract. Of each pick: what it reads is what the scene of the pick has (`read`), `decide` says what the pick comes to
 -- there, and what is stored is the net after the step. Assumes nothing.
 use Prim.Native.Nat.{ℕ, _+_, _-_, _<_, _≤_, _^_}
 use mathlib.Core.Path.{_≡_, refl, sym, ap, subst, _∙_}
@@ -34,16 +34,16 @@ use Rattle.lists.specs.declared.TableList.{TableList}
 use Rattle.lists.specs.declared.ThreadList.{ThreadList}
 use Rattle.lists.specs.Contracts.{tablesWith}
 use Rattle.lists.proofs.KindTies.{either}
-use Rattle.steps.specs.declared.Gone.{Gone}
-use Rattle.steps.specs.Turns.{GoneIs}
-use Rattle.steps.proofs.SceneTies.{threadAt, few-tables, few-nodes, few-threads, few-aliases, thread-stacked}
-use Rattle.steps.proofs.ReadTies.{nodeRead, Read, situationIn, shown-content, thread-below, entries-there, number-below, read-meets, read-fine, frame-top, variable-read, slot-below, over-below}
+use Rattle.picking.specs.declared.Gone.{Gone}
+use Rattle.picking.specs.Turns.{GoneIs}
+use Rattle.picking.proofs.SceneTies.{threadAt, few-tables, few-nodes, few-threads, few-aliases, thread-stacked}
+use Rattle.picking.proofs.ReadTies.{nodeRead, Read, situationIn, shown-content, thread-below, entries-there, number-below, read-meets, read-fine, frame-top, variable-read, slot-below, over-below}
 use Rattle.values.proofs.Bools.{T-of}
-use Rattle.steps.proofs.PlainTies.{puts-step, binds-step, plain-tables, plain-threads, none-of, some-depth, as-moved, bound-set, bound-none}
-use Rattle.steps.proofs.StoreTies.{past-refused, change-refused, tables-ready, threads-ready, netWith, done-is}
-use Rattle.steps.proofs.TurnLaws.{gone-none, gone-again, gone-room, turned-refused, turned-done}
-use Rattle.steps.proofs.turning.turns_sound.Statement.{statement}
-use Rattle.steps.proofs.turning.turns_sound.Tie as tie
+use Rattle.picking.proofs.PlainTies.{puts-step, binds-step, plain-tables, plain-threads, none-of, some-depth, as-moved, bound-set, bound-none}
+use Rattle.picking.proofs.StoreTies.{past-refused, change-refused, tables-ready, threads-ready, netWith, done-is}
+use Rattle.picking.proofs.TurnLaws.{gone-none, gone-again, gone-room, turned-refused, turned-done}
+use Rattle.picking.proofs.turning.turns_sound.Statement.{statement}
+use Rattle.picking.proofs.turning.turns_sound.Tie as tie
 
 -- the lengths of arrays that are stored to on the way
 record Sized (net : Net) : Type 0 where

@@ -17,7 +17,7 @@ use Rattle.nets.specs.Answers.{Said, refusing, answerOf, saidOf}
 use Rattle.nets.specs.View.{view}
 use Rattle.totals.specs.declared.Total.{Total}
 use Rattle.totals.specs.Totals.{totalOf}
-use Rattle.steps.specs.declared.Gone.{Gone}
+use Rattle.picking.specs.declared.Gone.{Gone}
 
 -- no pick of the list is carried out
 abbrev pub allRefused : M.Net → List Pick → Bool

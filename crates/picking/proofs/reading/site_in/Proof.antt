@@ -1,12 +1,12 @@
--- `steps::reading::site_in` meets its contract. Assumes nothing.
+-- `picking::reading::site_in` meets its contract. Assumes nothing.
 use mathlib.Core.Path.{sym, ap}
 use borrow.Author.Needs.{needs}
 use Rattle.values.specs.Lists.{orElse}
 use Rattle.turns.specs.declared.Located.{Located}
 use Rattle.nets.specs.View.{noSite}
 use Rattle.turns.specs.Contracts.{locatedOf}
-use Rattle.steps.proofs.reading.site_in.Statement.{statement}
-use Rattle.steps.proofs.reading.site_in.Tie as tie
+use Rattle.picking.proofs.reading.site_in.Statement.{statement}
+use Rattle.picking.proofs.reading.site_in.Tie as tie
 
 returns : tie.Need-returns
 returns c = sym (ap (λ (l : Located). orElse noSite (locatedOf l)) (c .enum-told .given .1))

@@ -1,4 +1,4 @@
--- `steps::reading::is_held` meets its contract. The invariant: of the frames below `i` none holds the table variable. Assumes nothing.
+-- `picking::reading::is_held` meets its contract. The invariant: of the frames below `i` none holds the table variable. Assumes nothing.
 use Prim.Native.Nat.{ℕ, _≤_, _<_, _-_}
 use mathlib.Core.Path.{_≡_, sym, subst}
 use mathlib.Core.Bool.{false}
@@ -7,9 +7,9 @@ use borrow.Author.Needs.{needs}
 use Rattle.values.specs.Lists.{any}
 use Rattle.nets.specs.Steps.{holds}
 use Rattle.nets.specs.View.{nodesOf, stackOf}
-use Rattle.steps.proofs.HeldLaws.{any-frame, no-frame, run-holds, loop-holds, loop-free, loop-there}
-use Rattle.steps.proofs.reading.is_held.Statement.{statement}
-use Rattle.steps.proofs.reading.is_held.Tie as tie
+use Rattle.picking.proofs.HeldLaws.{any-frame, no-frame, run-holds, loop-holds, loop-free, loop-there}
+use Rattle.picking.proofs.reading.is_held.Statement.{statement}
+use Rattle.picking.proofs.reading.is_held.Tie as tie
 
 abbrev Inv-loop : tie.InvT-loop
 Inv-loop count v nodes t depth i₀ i = (i ≤ t .depth) × (any (holds (nodesOf count nodes) v) (stackOf i (t .stack)) ≡ false)
