@@ -2,9 +2,10 @@
 use Prim.Native.Nat.{ℕ}
 use mathlib.Core.Path.{_≡_}
 use mathlib.Core.Bool.{Bool, true, false, not, _&&_}
-use mathlib.Core.List.{List}
+use mathlib.Core.List.{List, [], _∷_}
 use lib.Dec.{T, eqb}
 use lib.ListN.{getD}
+use Rattle.values.specs.Lists.{among}
 use Rattle.values.specs.declared.Slot.{Slot}
 use Rattle.values.specs.Operands.{varsOf}
 use Rattle.rows.specs.declared.Relation as Code
@@ -12,6 +13,7 @@ use Rattle.rows.specs.View.{relationOf, operandsOf, Shaped, Short}
 use Rattle.changes.specs.Contracts.{Holds, Complete}
 use Rattle.nets.specs.declared.Node.{Node}
 use Rattle.acts.specs.declared.Effect.{Effect}
+use Rattle.acts.specs.declared.Judged.{Judged}
 use Rattle.nets.specs.Nets.{Kind, code, isSelect, isLoop}
 use Rattle.nets.specs.View.{kindAt, nodeOf}
 use Rattle.nets.specs.Answers.{Said, refusing, doing, saidOf}
@@ -49,3 +51,15 @@ pub record EffectIs (k : Kind) (p : Parts) (e : Effect) : Type 0 where
   pub content : T (isDoing (saidBy k p)) → Holds (e .content) (contentBy k p .columns) (contentBy k p .rows)
   pub bound : T (isDoing (saidBy k p)) → Holds (e .bound) (boundBy k p .columns) (boundBy k p .rows)
   pub vars : T (isDoing (saidBy k p)) → varsOf (e .vars) ≡ varsBy k p
+
+-- the step changes the rows of a table that stays
+abbrev pub putsRows : Kind → Bool
+putsRows k = among (code k) (16 ∷ 17 ∷ 18 ∷ 21 ∷ [])
+
+-- the step is done where nothing holds the table variable and there is room for a table
+abbrev pub Doing : Node → Code.Relation → Code.Relation → List Slot → Type 0
+Doing d r q vs = T (isDoing (saidBy (kindAt (d .kind)) (partsOf d r q vs false 0)))
+
+-- the rows judged
+pub record JudgedIs (d : Node) (q : Code.Relation) (vs : List Slot) (j : Judged) : Type 0 where
+  pub columns : j .columns ≡ j .columns

@@ -141,7 +141,7 @@ pub fn none_of(t: Operands) -> Operands
 }
 
 // L, T and T' read bound variables; the predicate and t also formals of T.
-pub fn reads_ok(node: Node, flags: [bool; 16], tables: [bool; 2]) -> bool
+pub fn reads_flagged(node: Node, flags: [bool; 16], tables: [bool; 2]) -> bool
     requires { ⌜ Short (node .selector .template) × Short (node .tuple) ⌝ }
     ensures { λ r. ⌜ r ≡ readsOk (flagAt flags) (flagAt tables) (nodeOf node) ⌝ }
 {
@@ -162,4 +162,11 @@ pub fn reads_ok(node: Node, flags: [bool; 16], tables: [bool; 2]) -> bool
         & operand_known(right, flags, template)
         & operands_known(tuple, flags, template);
     own & rest & (!reads_relation(kind) | bound_table_in(tables, read))
+}
+
+pub fn reads_ok(node: Node, vars: [Slot; 16], tables: [bool; 2]) -> bool
+    requires { ⌜ Short (node .selector .template) × Short (node .tuple) ⌝ }
+    ensures { λ r. ⌜ r ≡ readsOk (isBound (varsOf vars)) (flagAt tables) (nodeOf node) ⌝ }
+{
+    reads_flagged(node, bound_flags(vars), tables)
 }

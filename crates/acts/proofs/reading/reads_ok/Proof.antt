@@ -1,31 +1,16 @@
--- `acts::reading::reads_ok` meets its contract: part by part. Assumes nothing.
+-- `acts::reading::reads_ok` meets its contract: the flags are the variables that hold something. Assumes nothing.
+use mathlib.Core.Path.{_∙_}
 use borrow.Author.Needs.{needs}
-use Rattle.acts.specs.Contracts.{flagAt}
+use Rattle.nets.specs.Steps.{readsOk}
 use Rattle.nets.specs.View.{nodeOf}
-use Rattle.acts.proofs.ReadingLaws.{reads-ok}
+use Rattle.acts.specs.Contracts.{flagAt}
 use Rattle.acts.proofs.reading.reads_ok.Statement.{statement}
 use Rattle.acts.proofs.reading.reads_ok.Tie as tie
 
 returns : tie.Need-returns
 returns c =
-    let a = c .before .before .before .before .before .before .before .before .before .before .before .before .args in
-    reads-ok (flagAt (a .flags)) (flagAt (a .tables)) (nodeOf (a .node)) (c .before .before .before .before .before .before .before .before .none-of .ensures .0)
-    (c .before .before .before .before .before .before .before .operand-known .ensures) (c .before .before .before .before .before .before .operand-known2 .ensures)
-    (c .before .before .before .before .before .operands-known .ensures)
-    (c .before .before .before .before .operand-known3 .ensures) (c .before .before .before .operand-known4 .ensures) (c .before .before .operands-known2 .ensures)
-    (c .before .reads-relation .ensures) (c .bound-table-in .ensures)
+    let a = c .before .before .args in
+    c .reads-flagged .ensures ∙ (λ i. readsOk (λ n. c .before .bound-flags .ensures n i) (flagAt (a .tables)) (nodeOf (a .node)))
 
 pub reads-ok-spec : {M : Type 1} → statement M
-reads-ok-spec =
-    tie.close
-    (tie.spec
-    (λ c κs. search needs)
-    (λ c κs. search needs)
-    (λ c κs. search needs)
-    (λ c κs. search needs)
-    (λ c κs. search needs)
-    (λ c κs. search needs)
-    (λ c κs. search needs)
-    (λ c κs. search needs)
-    (λ c κs. search needs)
-    returns)
+reads-ok-spec = tie.close (tie.spec (λ c κs. search needs) (λ c κs. search needs) returns)
