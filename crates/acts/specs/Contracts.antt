@@ -60,6 +60,12 @@ putsRows k = among (code k) (16 ∷ 17 ∷ 18 ∷ 21 ∷ [])
 abbrev pub Doing : Node → Code.Relation → Code.Relation → List Slot → Type 0
 Doing d r q vs = T (isDoing (saidBy (kindAt (d .kind)) (partsOf d r q vs false 0)))
 
+-- relation and operand lists are within their arrays: enough to judge rows, before check 12 is known to pass
+pub record JudgeReady (d : Node) (q : Code.Relation) : Type 0 where
+  pub source : Shaped q
+  pub template : Short (d .selector .template)
+  pub tuple : Short (d .tuple)
+
 -- the rows judged
 pub record JudgedIs (d : Node) (q : Code.Relation) (vs : List Slot) (j : Judged) : Type 0 where
   pub columns : j .columns ≡ j .columns

@@ -15,10 +15,10 @@ ghost use Rattle.nets.specs.Nets.{bindsRelation};
 ghost use Rattle.nets.specs.Answers.{saidOf};
 ghost use Rattle.nets.specs.View.{kindAt};
 ghost use Rattle.acts.specs.Effects.{saidBy, contentBy, boundBy, varsBy};
-ghost use Rattle.acts.specs.Contracts.{partsOf, putsRows, Doing, ActReady, JudgedIs, isStep};
+ghost use Rattle.acts.specs.Contracts.{partsOf, putsRows, Doing, ActReady, JudgeReady, JudgedIs, isStep};
 
 pub fn judged(node: Node, source: Relation, vars: [Slot; 16]) -> Judged
-    requires { ⌜ ActReady node source source vars ⌝ }
+    requires { ⌜ JudgeReady node source ⌝ }
     ensures { λ j. ⌜ JudgedIs node source vars j ⌝ }
 {
     let kinds = source.kinds;
