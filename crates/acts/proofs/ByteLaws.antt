@@ -1,55 +1,55 @@
--- The kinds of steps that are no loops, by their bytes, and what comes to the same for two kinds. Assumes nothing.
+-- The kinds of steps that are no loops, by their bytes. Assumes nothing.
 use Prim.Native.Nat.{ℕ, _<_, _≤_}
-use mathlib.Core.Path.{_≡_, refl, sym, subst, _∙_}
+use mathlib.Core.Path.{_≡_, refl, sym, ap, subst, _∙_}
 use mathlib.Core.Bool.{Bool, true, false}
 use mathlib.Core.Logic.{_⊎_, inl, inr}
 use native.Mathlib.Omega.{arith}
-use borrow.Author.Tests.{eqb-true, eqb-false, ltb-true, ltb-false}
+use borrow.Author.Tests.{eqb-true, eqb-false, ne-eqb, ltb-true, ltb-false}
 use lib.Dec.{T, eqb, ltb}
-use Rattle.rows.specs.Relations.{Relation}
+use Rattle.values.specs.Operands.{Vars}
+use Rattle.rows.specs.declared.Relation as Code
 use Rattle.changes.specs.Contracts.{Holds}
-use Rattle.acts.specs.declared.Effect.{Effect}
-use Rattle.nets.specs.Nets.{Kind, isSelect}
+use Rattle.nets.specs.Nets.{Kind, acting, other, select, selectRelation, aggregate, sequential, parallel, badKind, isAggregate, isSelect, readsRelation, bindsRelation}
 use Rattle.nets.specs.View.{kindAt}
 use Rattle.nets.specs.Answers.{Said}
 use Rattle.acts.specs.Effects.{Parts, saidBy, contentBy, boundBy, varsBy}
-use Rattle.acts.specs.Contracts.{isStep, isDoing, EffectIs}
-use Rattle.nets.proofs.KindLaws.{in-range}
+use Rattle.acts.specs.Contracts.{isStep, isDoing, putsRows}
+use Rattle.nets.proofs.KindLaws.{in-range, at-one}
 
--- ── one effect, two kinds ──
+-- ── one kind for another ──
 
--- what a step comes to for two kinds, each with its parts
-abbrev Alike : Kind → Parts → Kind → Parts → Type 0
-Alike k p l q = (saidBy k p ≡ saidBy l q) × (contentBy k p ≡ contentBy l q) × (boundBy k p ≡ boundBy l q) × (varsBy k p ≡ varsBy l q)
-
-module _ {k : Kind} {p q : Parts} {e : Effect} (is : EffectIs k p e) where
-  alike-is : (l : Kind) → Alike k p l q → EffectIs l q e
-  alike-is l (said, content, bound, vars) =
-      record {
-        answer = is .answer ∙ said;
-        content = λ h. subst (λ (r : Relation). Holds (e .content) (r .columns) (r .rows)) content (is .content (back h));
-        bound = λ h. subst (λ (r : Relation). Holds (e .bound) (r .columns) (r .rows)) bound (is .bound (back h));
-        vars = λ h. is .vars (back h) ∙ vars;
-      }
-    where
-      back : T (isDoing (saidBy l q)) → T (isDoing (saidBy k p))
-      back = subst (λ (x : Said). T (isDoing x)) (sym said)
-
+module _ (n : ℕ) {b : ℕ} (same : b ≡ n) (p : Parts) where
   -- as for byte `n`, so for a byte equal to it
-  pub as-byte : (n : ℕ) {b : ℕ} → b ≡ n → Alike k p (kindAt n) q → EffectIs (kindAt b) q e
-  as-byte n same alike = subst (λ (i : ℕ). EffectIs (kindAt i) q e) (sym same) (alike-is (kindAt n) alike)
+  pub said-at : {s : Said} → s ≡ saidBy (kindAt n) p → s ≡ saidBy (kindAt b) p
+  said-at {s} h = subst (λ (i : ℕ). s ≡ saidBy (kindAt i) p) (sym same) h
 
-  -- for one of two bytes
-  pub as-either : (m n : ℕ) {b : ℕ} → (b ≡ m) ⊎ (b ≡ n) → Alike k p (kindAt m) q → Alike k p (kindAt n) q → EffectIs (kindAt b) q e
-  as-either m n (inl same) x y = as-byte m same x
-  as-either m n (inr same) x y = as-byte n same y
+  pub content-at : {o : Code.Relation} → Holds o (contentBy (kindAt n) p .columns) (contentBy (kindAt n) p .rows) → Holds o (contentBy (kindAt b) p .columns) (contentBy (kindAt b) p .rows)
+  content-at {o} h = subst (λ (i : ℕ). Holds o (contentBy (kindAt i) p .columns) (contentBy (kindAt i) p .rows)) (sym same) h
+
+  pub bound-at : {o : Code.Relation} → Holds o (boundBy (kindAt n) p .columns) (boundBy (kindAt n) p .rows) → Holds o (boundBy (kindAt b) p .columns) (boundBy (kindAt b) p .rows)
+  bound-at {o} h = subst (λ (i : ℕ). Holds o (boundBy (kindAt i) p .columns) (boundBy (kindAt i) p .rows)) (sym same) h
+
+  pub vars-at : {v : Vars} → v ≡ varsBy (kindAt n) p → v ≡ varsBy (kindAt b) p
+  vars-at {v} h = subst (λ (i : ℕ). v ≡ varsBy (kindAt i) p) (sym same) h
+
+  pub doing-at : T (isDoing (saidBy (kindAt b) p)) → T (isDoing (saidBy (kindAt n) p))
+  doing-at h = subst (λ (i : ℕ). T (isDoing (saidBy (kindAt i) p))) same h
+
+-- only an aggregate binds a variable
+pub other-vars : (b : ℕ) → (b ≡ 22 → ⊥) → (p : Parts) → p .vars ≡ varsBy (kindAt b) p
+unfolding kindAt
+other-vars b no-aggregate p = go (kindAt b) (sym (at-one isAggregate 22 tt tt b) ∙ ne-eqb b 22 no-aggregate)
+  where
+    go : (k : Kind) → isAggregate k ≡ false → p .vars ≡ varsBy k p
+    go (acting a) e = refl
+    go (other select) e = refl
+    go (other selectRelation) e = refl
+    go (other aggregate) e = cc
+    go (other sequential) e = refl
+    go (other parallel) e = refl
+    go (other badKind) e = refl
 
 -- ── which byte it is ──
-
-pub is-select : {b : ℕ} → (b ≡ 19) ⊎ (b ≡ 20) → T (isSelect (kindAt b))
-unfolding kindAt
-is-select (inl e) = subst (λ (i : ℕ). T (isSelect (kindAt i))) (sym e) tt
-is-select (inr e) = subst (λ (i : ℕ). T (isSelect (kindAt i))) (sym e) tt
 
 pub select-byte : (b : ℕ) → (b ≡ 16 → ⊥) → (b ≡ 17 → ⊥) → (b ≡ 18 → ⊥) → 16 ≤ b → b < 21 → (b ≡ 19) ⊎ (b ≡ 20)
 select-byte b x y z low high = go (eqb b 19) refl
@@ -70,3 +70,66 @@ step-byte b h = (low (ltb b 16) refl, high (ltb b 25) refl)
     high : (t : Bool) → ltb b 25 ≡ t → b < 25
     high true e = ltb-true b 25 e
     high false e = let l : 25 ≤ b = ltb-false b 25 e in absurd (subst T (sym (in-range isStep false 25 3 tt b (omega arith) (omega arith))) h)
+
+-- no table variable is read at byte `n`
+pub reads-none : (n : ℕ) {b : ℕ} → b ≡ n → readsRelation (kindAt n) ≡ false → readsRelation (kindAt b) ≡ false
+reads-none n e h = ap (λ (i : ℕ). readsRelation (kindAt i)) e ∙ h
+
+never : {A : Type 0} {b : Bool} → false ≡ b → T b → A
+never e h = absurd (subst T (sym e) h)
+
+-- a step that changes the rows of a table and is no update or insert is a delete
+pub puts-byte : (b : ℕ) → T (isStep (kindAt b)) → T (putsRows (kindAt b)) → (b ≡ 21 → ⊥) → (b ≡ 16 → ⊥) → (b ≡ 17 → ⊥) → b ≡ 18
+unfolding kindAt
+puts-byte b step h x y z = go (ltb b 19) refl (ltb b 21) refl
+  where
+    go : (t : Bool) → ltb b 19 ≡ t → (u : Bool) → ltb b 21 ≡ u → b ≡ 18
+    go true e u f = omega (arith, ltb-true b 19 e, step-byte b step .0, y, z)
+    go false e true f = let l = ltb-false b 19 e in let m = ltb-true b 21 f in never (in-range putsRows false 19 2 tt b (omega arith) (omega arith)) h
+    go false e false f =
+        let l = ltb-false b 21 f in let m = step-byte b step .1 in let k : 22 ≤ b = omega (arith, x) in never (in-range putsRows false 22 3 tt b (omega arith) (omega arith)) h
+
+-- the bytes of a select
+pub select-bytes : (b : ℕ) → isSelect (kindAt b) ≡ true → (b ≡ 19) ⊎ (b ≡ 20)
+unfolding kindAt
+select-bytes b h = go (ltb b 19) refl (ltb b 21) refl
+  where
+    go : (t : Bool) → ltb b 19 ≡ t → (u : Bool) → ltb b 21 ≡ u → (b ≡ 19) ⊎ (b ≡ 20)
+    go true e u f = let l = ltb-true b 19 e in never (in-range isSelect false 0 19 tt b (omega arith) (omega arith)) (subst T (sym h) tt)
+    go false e false f = let l = ltb-false b 21 f in never (in-range isSelect false 21 7 tt b (omega arith) (omega arith)) (subst T (sym h) tt)
+    go false e true f = here (eqb b 19) refl
+      where
+        here : (v : Bool) → eqb b 19 ≡ v → (b ≡ 19) ⊎ (b ≡ 20)
+        here true w = inl (eqb-true b 19 w)
+        here false w = inr (omega (arith, eqb-false b 19 w, ltb-false b 19 e, ltb-true b 21 f))
+
+-- a step that binds a table variable and is no select is a delete
+pub binds-byte : (b : ℕ) → T (bindsRelation (kindAt b)) → isSelect (kindAt b) ≡ false → b ≡ 18
+unfolding kindAt
+binds-byte b h no-select = go (ltb b 18) refl (ltb b 19) refl (ltb b 21) refl
+  where
+    go : (t : Bool) → ltb b 18 ≡ t → (u : Bool) → ltb b 19 ≡ u → (v : Bool) → ltb b 21 ≡ v → b ≡ 18
+    go true e u f v g = let l = ltb-true b 18 e in never (in-range bindsRelation false 0 18 tt b (omega arith) (omega arith)) h
+    go false e true f v g = omega (arith, ltb-false b 18 e, ltb-true b 19 f)
+    go false e false f true g =
+        let l = ltb-false b 19 f in let m = ltb-true b 21 g in
+        absurd (subst T (in-range isSelect true 19 2 tt b (omega arith) (omega arith) ∙ no-select) tt)
+    go false e false f false g = let l = ltb-false b 21 g in never (in-range bindsRelation false 21 7 tt b (omega arith) (omega arith)) h
+
+-- both selects come to the same
+module _ {b : ℕ} (p : Parts) where
+  pub select-said-at : (b ≡ 19) ⊎ (b ≡ 20) → {s : Said} → s ≡ saidBy (other select) p → s ≡ saidBy (kindAt b) p
+  unfolding kindAt
+  select-said-at (inl e) h = said-at 19 e p h
+  select-said-at (inr e) h = said-at 20 e p h
+
+  pub select-doing : (b ≡ 19) ⊎ (b ≡ 20) → T (isDoing (saidBy (kindAt b) p)) → T (isDoing (saidBy (other select) p))
+  unfolding kindAt
+  select-doing (inl e) h = doing-at 19 e p h
+  select-doing (inr e) h = doing-at 20 e p h
+
+  pub select-bound-at : (b ≡ 19) ⊎ (b ≡ 20) → {o : Code.Relation} → Holds o (boundBy (other select) p .columns) (boundBy (other select) p .rows) →
+      Holds o (boundBy (kindAt b) p .columns) (boundBy (kindAt b) p .rows)
+  unfolding kindAt
+  select-bound-at (inl e) h = bound-at 19 e p h
+  select-bound-at (inr e) h = bound-at 20 e p h

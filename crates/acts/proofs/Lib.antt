@@ -1,5 +1,5 @@
--- Laws that belong to no one function: effects of the kinds, and sets held by flags.
-pub mod ActLaws
+-- Laws that belong to no one function.
+pub mod JudgeLaws
 pub mod ByteLaws
-pub mod FlagLaws
 pub mod ReadingLaws
+pub mod SweptLaws

@@ -1,27 +1,45 @@
 -- What the functions of a step that is no loop, and of check 12, require and give back.
-use Prim.Native.Nat.{ℕ}
+use Prim.Native.Nat.{ℕ, suc, _≤_}
 use mathlib.Core.Path.{_≡_}
-use mathlib.Core.Bool.{Bool, true, false, not, _&&_}
-use mathlib.Core.List.{List, [], _∷_}
-use lib.Dec.{T, eqb}
+use mathlib.Core.Bool.{Bool, true, false, not, _&&_, _||_}
+use mathlib.Core.Logic.{_⊎_}
+use mathlib.Core.List.{List, [], _∷_, map}
+use lib.Dec.{T, eqb, leb}
 use lib.ListN.{getD}
-use Rattle.values.specs.Lists.{among}
+use Rattle.values.specs.declared.Operand.{Operand}
+use Rattle.values.specs.Lists.{all, among, count, firsts}
 use Rattle.values.specs.declared.Slot.{Slot}
-use Rattle.values.specs.Operands.{varsOf}
+use Rattle.values.specs.Operands.{varsOf, formals, reads}
+use Rattle.rows.specs.declared.Field.{Field}
 use Rattle.rows.specs.declared.Relation as Code
-use Rattle.rows.specs.View.{relationOf, operandsOf, Shaped, Short}
-use Rattle.changes.specs.Contracts.{Holds, Complete}
+use Rattle.rows.specs.Relations.{Row}
+use Rattle.rows.specs.Matching.{hits, selected}
+use Rattle.rows.specs.View.{noRow, valuesOf, columnsOf, relationOf, operandsOf, selectorOf, Shaped, Short}
+use Rattle.changes.specs.Changes.{changes, updated, selectedColumns, selection}
+use Rattle.changes.specs.Aggregates.{aggregated, columnFits}
+use Rattle.changes.specs.Contracts.{Complete, marks, sift}
 use Rattle.nets.specs.declared.Node.{Node}
-use Rattle.acts.specs.declared.Effect.{Effect}
 use Rattle.acts.specs.declared.Judged.{Judged}
-use Rattle.nets.specs.Nets.{Kind, code, isSelect, isLoop}
+use Rattle.acts.specs.declared.Shape.{Shape}
+use Rattle.nets.specs.Nets.{Kind, code, hasTest, isSelect, readsRelation, isLoop}
 use Rattle.nets.specs.View.{kindAt, nodeOf}
-use Rattle.nets.specs.Answers.{Said, refusing, doing, saidOf}
-use Rattle.acts.specs.Effects.{Parts, saidBy, contentBy, boundBy, varsBy}
+use Rattle.nets.specs.Answers.{Said, refusing, doing}
+use Rattle.acts.specs.Effects.{Parts, saidBy}
 
 -- a set of numbers by flags
 abbrev pub flagAt : List Bool → ℕ → Bool
 flagAt l i = getD l i false
+
+-- ── check 12 ──
+
+-- an operand at place `n` of those that a node reads: it reads bound variables, and from place 6 on also formals of T
+abbrev pub knownAt : (ℕ → Bool) → List Operand → ℕ → Operand → Bool
+knownAt v t n o = all (λ i. v i || (leb 6 n && among i (formals t))) (reads o)
+
+-- so do all from place `n` on
+abbrev pub knownFrom : (ℕ → Bool) → List Operand → ℕ → List Field → Bool
+knownFrom v t n [] = true
+knownFrom v t n (f ∷ fs) = knownAt v t n (f .operand) && knownFrom v t (suc n) fs
 
 -- ── steps that are no loops ──
 
@@ -37,20 +55,15 @@ abbrev pub partsOf : Node → Code.Relation → Code.Relation → List Slot → 
 partsOf d content source vars held tables =
     record { node = nodeOf d; content = relationOf content; source = relationOf source; vars = varsOf vars; held = held; tables = tables }
 
--- the table's content `r`, the source of rows `q` and the operand lists are within their arrays, and a select's t gives a value for each component
+-- the table's content `r`, the source of rows `q` and the operand lists are within their arrays, a step that reads no table variable has the content as
+-- its source, and a select's t gives a value for each component
 pub record ActReady (d : Node) (r q : Code.Relation) (vs : List Slot) : Type 0 where
   pub content : Shaped r
   pub source : Shaped q
   pub template : Short (d .selector .template)
   pub tuple : Short (d .tuple)
+  pub own : readsRelation (kindAt (d .kind)) ≡ false → relationOf q ≡ relationOf r
   pub complete : T (isSelect (kindAt (d .kind))) → Complete (varsOf vs) (operandsOf (d .selector .template)) (operandsOf (d .tuple))
-
--- the answer; and where it is done, content, binding and variables
-pub record EffectIs (k : Kind) (p : Parts) (e : Effect) : Type 0 where
-  pub answer : saidOf (e .answer) ≡ saidBy k p
-  pub content : T (isDoing (saidBy k p)) → Holds (e .content) (contentBy k p .columns) (contentBy k p .rows)
-  pub bound : T (isDoing (saidBy k p)) → Holds (e .bound) (boundBy k p .columns) (boundBy k p .rows)
-  pub vars : T (isDoing (saidBy k p)) → varsOf (e .vars) ≡ varsBy k p
 
 -- the step changes the rows of a table that stays
 abbrev pub putsRows : Kind → Bool
@@ -66,6 +79,41 @@ pub record JudgeReady (d : Node) (q : Code.Relation) : Type 0 where
   pub template : Short (d .selector .template)
   pub tuple : Short (d .tuple)
 
--- the rows judged
+-- ── the rows judged ──
+
+-- T is as long as the columns
+abbrev pub Long : Node → Code.Relation → Type 0
+Long d q = d .selector .template .count ≡ q .columns
+
+-- the rows that T and the predicate select, and those that an update changes
+abbrev pub hitIn : Node → List Slot → Row → Bool
+hitIn d vs = hits (varsOf vs) (selectorOf (d .selector))
+
+abbrev pub changedIn : Node → Code.Relation → List Slot → Row → Bool
+changedIn d q vs = changes (varsOf vs) (selectorOf (d .selector)) (operandsOf (d .tuple)) (relationOf q .columns)
+
+-- columns of what a step makes of a row
+pub record ShapeIs (d : Node) (q : Code.Relation) (vs : List Slot) (s : Shape) : Type 0 where
+  pub short : s .columns ≤ 4
+  pub select : isSelect (kindAt (d .kind)) ≡ true →
+      (s .columns ≡ d .tuple .count) × (columnsOf (s .columns) (s .kinds) ≡ selectedColumns (varsOf vs) (operandsOf (d .selector .template)) (operandsOf (d .tuple)) (columnsOf (d .selector .template .count) (q .kinds)))
+  pub own : isSelect (kindAt (d .kind)) ≡ false → (s .columns ≡ q .columns) × (s .kinds ≡ q .kinds)
+
+-- how many rows are looked at
+pub record LookedAt (d : Node) (q : Code.Relation) (n : ℕ) : Type 0 where
+  pub few : n ≤ 16
+  pub all-rows : hasTest (kindAt (d .kind)) ≡ true → Long d q → n ≡ q .count
+
+-- what was judged, kind by kind
 pub record JudgedIs (d : Node) (q : Code.Relation) (vs : List Slot) (j : Judged) : Type 0 where
-  pub columns : j .columns ≡ j .columns
+  pub short : j .columns ≤ 4
+  pub hit : (d .kind ≡ 18) ⊎ (d .kind ≡ 22) → Long d q →
+      (marks (q .count) (j .flags) ≡ map (hitIn d vs) (relationOf q .rows)) × (count (λ (b : Bool). b) (j .flags) ≡ count (hitIn d vs) (relationOf q .rows))
+  pub update : d .kind ≡ 21 → Long d q →
+      (firsts (valuesOf (q .columns)) noRow (q .count) (j .rows) ≡ updated (varsOf vs) (selectorOf (d .selector)) (operandsOf (d .tuple)) (relationOf q .columns) (relationOf q .rows))
+      × (count (λ (b : Bool). b) (j .flags) ≡ count (changedIn d q vs) (relationOf q .rows))
+  pub select : isSelect (kindAt (d .kind)) ≡ true → Long d q → Complete (varsOf vs) (operandsOf (d .selector .template)) (operandsOf (d .tuple)) →
+      (columnsOf (j .columns) (j .kinds) ≡ selection (varsOf vs) (selectorOf (d .selector)) (operandsOf (d .tuple)) (relationOf q) .columns)
+      × (sift true (marks (q .count) (j .flags)) (firsts (valuesOf (j .columns)) noRow (q .count) (j .rows)) ≡ selection (varsOf vs) (selectorOf (d .selector)) (operandsOf (d .tuple)) (relationOf q) .rows)
+  pub result : d .kind ≡ 22 → Long d q → T (columnFits (d .function) (d .column) (relationOf q .columns)) →
+      j .result ≡ aggregated (d .function) (d .column) (selected (varsOf vs) (selectorOf (d .selector)) (relationOf q .rows))

@@ -2,21 +2,25 @@
 use nets::Node;
 use nets::TableVariable;
 use nets::kinds::reads_relation;
+use rows::Field;
 use rows::Operands;
 use rows::plans::is_formal_of;
 use values::Got;
 use values::Operand;
 use values::Slot;
 ghost use mathlib.Core.Path.{_≡_};
-ghost use mathlib.Core.Bool.{_||_};
-ghost use mathlib.Core.List.{[], map};
-ghost use Prim.Native.Nat.{ℕ};
+ghost use mathlib.Core.Bool.{cond, _&&_, _||_};
+ghost use mathlib.Core.List.{[], _∷_, map};
+ghost use Prim.Native.Nat.{ℕ, _<_};
+ghost use lib.Dec.{ltb};
+ghost use lib.ListN.{getD};
 ghost use Rattle.values.specs.Lists.{all, among};
+ghost use Rattle.values.specs.declared.Operand.the-variants.{Absent};
 ghost use Rattle.values.specs.Operands.{isGot, reads, formals, varsOf};
 ghost use Rattle.rows.specs.View.{operandsOf, Short};
-ghost use Rattle.nets.specs.Steps.{isBound, isBoundTable, known, readsOk};
+ghost use Rattle.nets.specs.Steps.{isBound, isBoundTable, readsOk};
 ghost use Rattle.nets.specs.View.{nodeOf, variableOf};
-ghost use Rattle.acts.specs.Contracts.{flagAt};
+ghost use Rattle.acts.specs.Contracts.{flagAt, knownFrom};
 
 // ---- flags
 
@@ -27,21 +31,6 @@ pub fn is_got(g: Got) -> bool
         Got::Nothing => false,
         Got::One(_) => true,
     }
-}
-
-// The variables that hold something.
-pub fn bound_flags(vars: [Slot; 16]) -> [bool; 16]
-    ensures { λ r. ⌜ ((i : ℕ) → flagAt r i ≡ isBound (varsOf vars) i) ⌝ }
-{
-    let mut flags = [false; 16];
-    let mut i: usize = 0;
-    while i < 16 {
-        let s = vars[i];
-        let g = s.held;
-        flags[i] = is_got(g);
-        i += 1;
-    }
-    flags
 }
 
 // The table variables that are bound.
@@ -92,39 +81,61 @@ pub fn is_formal_in(i: u8, template: Operands) -> bool
     false
 }
 
-pub fn is_known(i: u8, flags: [bool; 16], template: Operands) -> bool
-    requires { ⌜ Short template ⌝ }
-    ensures { λ r. ⌜ r ≡ (flagAt flags i || among i (formals (operandsOf template))) ⌝ }
-{
-    flag_in(flags, i) | is_formal_in(i, template)
-}
-
-// What an operand reads is flagged, or a formal of T.
-pub fn operand_known(op: Operand, flags: [bool; 16], template: Operands) -> bool
-    requires { ⌜ Short template ⌝ }
-    ensures { λ r. ⌜ r ≡ all (λ (i : ℕ). flagAt flags i || among i (formals (operandsOf template))) (reads op) ⌝ }
+// The variable that an operand reads; 256, which is none, where it reads none.
+pub fn variable_of(op: Operand) -> usize
+    ensures { λ r. ⌜ reads op ≡ cond (ltb r 256) (r ∷ []) [] ⌝ }
 {
     match op {
-        Operand::Absent => true,
-        Operand::ConstInt(_) => true,
-        Operand::ConstText(_) => true,
-        Operand::ConstLoc(_) => true,
-        Operand::Var(i) => is_known(i, flags, template),
-        Operand::Plus(i, _) => is_known(i, flags, template),
-        Operand::Formal(_) => true,
+        Operand::Absent => 256,
+        Operand::ConstInt(_) => 256,
+        Operand::ConstText(_) => 256,
+        Operand::ConstLoc(_) => 256,
+        Operand::Var(i) => i as usize,
+        Operand::Plus(i, _) => i as usize,
+        Operand::Formal(_) => 256,
     }
 }
 
-pub fn operands_known(t: Operands, flags: [bool; 16], template: Operands) -> bool
-    requires { ⌜ Short t × Short template ⌝ }
-    ensures { λ r. ⌜ r ≡ known (λ (i : ℕ). flagAt flags i || among i (formals (operandsOf template))) (operandsOf t) ⌝ }
+// Variable k, where g is what it holds if it is one of the 16: it is bound, or, where `also` says so, a formal of T. No variable is known.
+pub fn is_known(k: usize, g: Got, also: bool, template: Operands) -> bool
+    requires { ⌜ Short template ⌝ }
+    ensures { λ r. ⌜ r ≡ all (λ (i : ℕ). (ltb i 16 && isGot g) || (also && among i (formals (operandsOf template)))) (cond (ltb k 256) (k ∷ []) []) ⌝ }
 {
-    let count = t.count;
+    if 256 <= k {
+        return true;
+    }
+    if (k < 16) & is_got(g) {
+        return true;
+    }
+    also & is_formal_in((k % 256) as u8, template)
+}
+
+// The operand at a place of T or t; past its end none.
+pub fn field_in(t: Operands, i: usize) -> Field
+    requires { ⌜ Short t × (i < 4) ⌝ }
+    ensures { λ r. ⌜ r .operand ≡ getD (operandsOf t) i Absent ⌝ }
+{
+    if t.count <= i {
+        let operand = Operand::Absent;
+        return Field { operand };
+    }
+    t.fields[i]
+}
+
+// The operands that a node reads: for the first six only bound variables count, for the others also formals of T.
+pub fn all_known(ops: [Field; 12], template: Operands, vars: [Slot; 16]) -> bool
+    requires { ⌜ Short template ⌝ }
+    ensures { λ r. ⌜ r ≡ knownFrom (isBound (varsOf vars)) (operandsOf template) 0 ops ⌝ }
+{
     let mut i: usize = 0;
-    while i < count {
-        let f = t.fields[i];
+    while i < 12 {
+        let f = ops[i];
         let op = f.operand;
-        if operand_known(op, flags, template) {
+        let k = variable_of(op);
+        let at = k % 16;
+        let s = vars[at];
+        let g = s.held;
+        if is_known(k, g, 6 <= i, template) {
             i += 1;
         } else {
             return false;
@@ -133,40 +144,33 @@ pub fn operands_known(t: Operands, flags: [bool; 16], template: Operands) -> boo
     true
 }
 
-pub fn none_of(t: Operands) -> Operands
-    ensures { λ r. ⌜ (operandsOf r ≡ []) × Short r ⌝ }
-{
-    let fields = t.fields;
-    Operands { fields, count: 0 }
-}
-
-// L, T and T' read bound variables; the predicate and t also formals of T.
-pub fn reads_flagged(node: Node, flags: [bool; 16], tables: [bool; 2]) -> bool
-    requires { ⌜ Short (node .selector .template) × Short (node .tuple) ⌝ }
-    ensures { λ r. ⌜ r ≡ readsOk (flagAt flags) (flagAt tables) (nodeOf node) ⌝ }
-{
-    let kind = node.kind;
-    let read = node.read;
-    let place = node.place;
-    let result = node.result;
-    let selector = node.selector;
-    let template = selector.template;
-    let left = selector.left;
-    let right = selector.right;
-    let tuple = node.tuple;
-    let none = none_of(template);
-    let own = operand_known(place, flags, none)
-        & operand_known(result, flags, none)
-        & operands_known(template, flags, none);
-    let rest = operand_known(left, flags, template)
-        & operand_known(right, flags, template)
-        & operands_known(tuple, flags, template);
-    own & rest & (!reads_relation(kind) | bound_table_in(tables, read))
-}
-
+// L, T' and T read bound variables; the predicate and t also formals of T.
 pub fn reads_ok(node: Node, vars: [Slot; 16], tables: [bool; 2]) -> bool
     requires { ⌜ Short (node .selector .template) × Short (node .tuple) ⌝ }
     ensures { λ r. ⌜ r ≡ readsOk (isBound (varsOf vars)) (flagAt tables) (nodeOf node) ⌝ }
 {
-    reads_flagged(node, bound_flags(vars), tables)
+    let kind = node.kind;
+    let read = node.read;
+    let selector = node.selector;
+    let template = selector.template;
+    let tuple = node.tuple;
+    let place = node.place;
+    let result = node.result;
+    let left = selector.left;
+    let right = selector.right;
+    let ops = [
+        Field { operand: place },
+        Field { operand: result },
+        field_in(template, 0),
+        field_in(template, 1),
+        field_in(template, 2),
+        field_in(template, 3),
+        Field { operand: left },
+        Field { operand: right },
+        field_in(tuple, 0),
+        field_in(tuple, 1),
+        field_in(tuple, 2),
+        field_in(tuple, 3),
+    ];
+    all_known(ops, template, vars) & (!reads_relation(kind) | bound_table_in(tables, read))
 }

@@ -1,10 +1,12 @@
 // The row layer on the worked cases of the Klaim-DB paper (its Figure 3 and Examples 2 to 6): the table KLD of one branch, in texts of four bytes.
 // Columns: shoe, colour, size, sales.
+use changes::Swept;
 use changes::aggregates::aggregate;
-use changes::changes::project;
 use changes::changes::push;
-use changes::changes::split;
-use changes::changes::update;
+use changes::changes::selected_kinds;
+use changes::sweeping::number_of;
+use changes::sweeping::sifted;
+use changes::sweeping::swept;
 use libc::STDOUT_FILENO;
 use printing::cells::put_rows;
 use printing::cells::put_value;
@@ -18,6 +20,8 @@ use rows::Relation;
 use rows::Row;
 use rows::Selector;
 use rows::Test;
+use rows::fit::terms_of;
+use rows::plans::plan_of;
 use values::Got;
 use values::Operand;
 use values::Slot;
@@ -27,6 +31,7 @@ ghost use mathlib.Core.List.{[], _∷_};
 ghost use lib.ListN.{replicate};
 ghost use Rattle.values.specs.declared.Got.the-variants.{Nothing};
 ghost use Rattle.values.specs.Operands.{varsOf};
+ghost use Rattle.rows.specs.View.{Shaped, Short};
 ghost use Rattle.cases.specs.Kld.{Kld};
 
 const SHOE1: u32 = 0x30303120;
@@ -118,6 +123,47 @@ fn nothing_bound() -> [Slot; 16]
     [s; 16]
 }
 
+// ---- passes over a relation
+
+fn none_given() -> Operands
+    ensures { λ r. ⌜ Short r ⌝ }
+{
+    operands(
+        Operand::Absent,
+        Operand::Absent,
+        Operand::Absent,
+        Operand::Absent,
+        0,
+    )
+}
+
+// Which rows s selects.
+fn marked(r: Relation, s: Selector) -> [bool; 16]
+    requires { ⌜ Shaped r × Short (s .template) ⌝ }
+{
+    let vars = nothing_bound();
+    let template = s.template;
+    let columns = r.columns;
+    let kinds = r.kinds;
+    let plan = plan_of(s, vars);
+    let terms = terms_of(none_given(), template, vars);
+    let o = swept(r, r.count, plan, false, false, terms, columns, kinds);
+    let flags = o.flags;
+    flags
+}
+
+// The rows that s selects, with what t gives for them in columns of these kinds; only where it fits, or any.
+fn replaced(r: Relation, s: Selector, t: Operands, any: bool, kinds: [u8; 4]) -> Swept
+    requires { ⌜ Shaped r × Short (s .template) × Short t ⌝ }
+{
+    let vars = nothing_bound();
+    let template = s.template;
+    let columns = t.count;
+    let plan = plan_of(s, vars);
+    let terms = terms_of(t, template, vars);
+    swept(r, r.count, plan, true, any, terms, columns, kinds)
+}
+
 // ---- printing
 
 fn print_rows(r: Relation) {
@@ -172,7 +218,18 @@ fn not_red(r: Relation)
         Operand::Absent,
         3,
     );
-    print_rows(project(r, s, t, nothing_bound()));
+    let own = r.kinds;
+    let kinds = selected_kinds(t, template, own, nothing_bound());
+    let o = replaced(r, s, t, true, kinds);
+    let rows = o.rows;
+    let flags = o.flags;
+    let made = Relation {
+        columns: 3,
+        kinds,
+        rows,
+        count: r.count,
+    };
+    print_rows(sifted(made, flags, true));
 }
 
 // Example 6: the sum of the sales of shoe 001.
@@ -188,8 +245,7 @@ fn sales(r: Relation)
         4,
     );
     let s = selector(template, Test::Always, Operand::Absent, Operand::Absent);
-    let parts = split(r, s, nothing_bound());
-    let taken = parts.taken;
+    let taken = sifted(r, marked(r, s), true);
     print_got(aggregate(Function::Sum, 3, taken));
 }
 
@@ -208,9 +264,9 @@ fn white(r: Relation)
         4,
     );
     let s = selector(template, Test::Always, Operand::Absent, Operand::Absent);
-    let parts = split(more, s, nothing_bound());
-    let kept = parts.kept;
-    let taken = parts.taken;
+    let flags = marked(more, s);
+    let kept = sifted(more, flags, false);
+    let taken = sifted(more, flags, true);
     io::write_all(STDOUT_FILENO, b"deleted by White\n");
     print_rows(taken);
     io::write_all(STDOUT_FILENO, b"left\n");
@@ -236,10 +292,19 @@ fn sold(r: Relation)
         Operand::Plus(3, 2),
         4,
     );
-    let u = update(r, s, t, nothing_bound());
-    let next = u.relation;
+    let columns = r.columns;
+    let kinds = r.kinds;
+    let o = replaced(r, s, t, false, kinds);
+    let rows = o.rows;
+    let flags = o.flags;
+    let next = Relation {
+        columns,
+        kinds,
+        rows,
+        count: r.count,
+    };
     io::write_all(STDOUT_FILENO, b"two red 37 sold, rows replaced ");
-    io::print_decimal(STDOUT_FILENO, u.number as u64);
+    io::print_decimal(STDOUT_FILENO, number_of(flags) as u64);
     io::write_all(STDOUT_FILENO, b"\n");
     print_rows(next);
 }

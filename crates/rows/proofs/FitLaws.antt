@@ -1,9 +1,11 @@
 -- A draft that fits gives a row that fits; columns that agree are equal. Assumes nothing.
-use mathlib.Core.Path.{_≡_}
-use mathlib.Core.List.{[], _∷_}
+use mathlib.Core.Path.{_≡_, refl, ap}
+use mathlib.Core.List.{List, [], _∷_, map}
 use lib.Dec.{T, eqb, eqb→eq}
+use Rattle.values.specs.declared.Got.{Got}
 use Rattle.values.specs.declared.Got.the-variants.{Nothing, One}
-use Rattle.values.specs.Operands.{valuesIn}
+use Rattle.values.specs.Lists.{all}
+use Rattle.values.specs.Operands.{isGot, valuesIn, valueIn}
 use Rattle.values.proofs.Bools.{and-l, and-r, and-in}
 use Rattle.values.proofs.AgreeLaws.{agree-eq}
 use Rattle.rows.specs.Relations.{Columns}
@@ -19,3 +21,9 @@ fits-row (c ∷ cs) (One v ∷ d) h =
 
 pub same-columns : (cs ds : Columns) → T (sameColumns cs ds) → cs ≡ ds
 same-columns cs ds h = agree-eq eqb eqb→eq cs ds h
+
+-- values that are all there
+pub all-there : (d : List Got) → T (all isGot d) → map valueIn d ≡ valuesIn d
+all-there [] h = refl
+all-there (Nothing ∷ d) h = absurd h
+all-there (One v ∷ d) h = ap (v ∷_) (all-there d h)

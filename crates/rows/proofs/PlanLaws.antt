@@ -1,7 +1,7 @@
 -- Plans and rules: what a template's formals bind, and that sources, terms and wants give for a row what operands and templates give. Assumes nothing.
 use Prim.Native.Nat.{ℕ, zero, suc, _+_, _≤_, _<_}
 use mathlib.Core.Path.{_≡_, refl, ap, ap₂, sym, _∙_, subst}
-use mathlib.Core.Bool.{Bool, true, false, cond, _&&_}
+use mathlib.Core.Bool.{Bool, true, false, cond, _&&_, _||_}
 use mathlib.Core.List.{List, [], _∷_, map}
 use mathlib.Core.Option.{Option, none, some}
 use native.Mathlib.Omega.{arith}
@@ -23,11 +23,12 @@ use Rattle.rows.specs.declared.Row.{Row}
 use Rattle.rows.specs.declared.Field.{Field}
 use Rattle.rows.specs.declared.Source.{Source}
 use Rattle.rows.specs.declared.Source.the-variants.{Fixed, Column}
-use Rattle.rows.specs.declared.Want.the-variants.{Anything}
+use Rattle.rows.specs.declared.Want.{Want}
+use Rattle.rows.specs.declared.Want.the-variants.{Anything, Like}
 use Rattle.rows.specs.declared.Wanted.{Wanted}
 use Rattle.rows.specs.Matching.{matches, matches1, rowVars}
 use Rattle.rows.specs.View.{noCell, noField, valuesOf}
-use Rattle.rows.specs.Plans.{isFormalOf, formalPlace, sourceOf, termOf, gotAt, sourceGot, termGot, wantOf, meets, wantsMet}
+use Rattle.rows.specs.Plans.{isFormalOf, formalPlace, sourceOf, termOf, gotAt, sourceGot, termGot, wantOf, meets, isAnything, wantsMet}
 
 -- ── what formals bind ──
 
@@ -119,6 +120,39 @@ want-meets e (Formal i) v = refl
 -- what the logic reads past an array's end
 abbrev pub noWanted : Wanted
 noWanted = record { want = Anything }
+
+-- wants of anything are met by any row
+any-meets : (w : Want) (v : Value) → isAnything w ≡ true → meets w v ≡ true
+any-meets Anything v h = refl
+any-meets (Like g) v h = cc
+
+all-meet : (ws : List Wanted) (cs : List Cell) → length ws ≡ length cs → ((k : ℕ) → k < length ws → isAnything (getD ws k noWanted .want) ≡ true) → wantsMet ws cs ≡ true
+all-meet [] [] same any = refl
+all-meet [] (c ∷ cs) same any = absurd (omega arith)
+all-meet (w ∷ ws) [] same any = absurd (omega arith)
+all-meet (w ∷ ws) (c ∷ cs) same any = ap₂ _&&_ (any-meets (w .want) (c .value) (any 0 (omega arith))) (all-meet ws cs (omega arith) (λ k h. any (suc k) (omega arith)))
+
+pub free-met : (ws : List Wanted) (cs : List Cell) → length ws ≡ 4 → length cs ≡ 4 → {a b c d : Bool} → a ≡ isAnything (getD ws 0 noWanted .want) →
+    b ≡ isAnything (getD ws 1 noWanted .want) → c ≡ isAnything (getD ws 2 noWanted .want) → d ≡ isAnything (getD ws 3 noWanted .want) →
+    ((a && b && c && d) || wantsMet ws cs) ≡ wantsMet ws cs
+free-met ws cs hw hc {a} {b} {c} {d} p q r s = go a p b q c r d s
+  where
+    at : true ≡ isAnything (getD ws 0 noWanted .want) → true ≡ isAnything (getD ws 1 noWanted .want) → true ≡ isAnything (getD ws 2 noWanted .want) →
+        true ≡ isAnything (getD ws 3 noWanted .want) → (k : ℕ) → k < length ws → isAnything (getD ws k noWanted .want) ≡ true
+    at p q r s zero h = sym p
+    at p q r s (suc zero) h = sym q
+    at p q r s (suc (suc zero)) h = sym r
+    at p q r s (suc (suc (suc zero))) h = sym s
+    at p q r s (suc (suc (suc (suc k)))) h = absurd (omega arith)
+
+    go : (a : Bool) → a ≡ isAnything (getD ws 0 noWanted .want) → (b : Bool) → b ≡ isAnything (getD ws 1 noWanted .want) →
+        (c : Bool) → c ≡ isAnything (getD ws 2 noWanted .want) → (d : Bool) → d ≡ isAnything (getD ws 3 noWanted .want) →
+        ((a && b && c && d) || wantsMet ws cs) ≡ wantsMet ws cs
+    go true p true q true r true s = sym (all-meet ws cs (omega arith) (at p q r s))
+    go true p true q true r false s = refl
+    go true p true q false r d s = refl
+    go true p false q c r d s = refl
+    go false p b q c r d s = refl
 
 -- wants of T's places, and of anything past them, are met exactly by the rows that T matches
 module _ (e : Vars) where

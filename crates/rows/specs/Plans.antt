@@ -1,6 +1,6 @@
 -- Selectors and tuples prepared for one relation. Only the code speaks of plans: the rules are `hits` and `draftFor`, and laws tie the two.
 use Prim.Native.Nat.{ℕ, suc}
-use mathlib.Core.Bool.{Bool, true, false, cond, _&&_}
+use mathlib.Core.Bool.{Bool, true, false, cond, _&&_, _||_}
 use mathlib.Core.List.{List, [], _∷_}
 use mathlib.Core.Option.{Option, none, some}
 use lib.Dec.{eqb, ltb}
@@ -91,12 +91,16 @@ abbrev pub meets : Want → Value → Bool
 meets Anything v = true
 meets (Like g) v = isSame (compared g (One v))
 
+abbrev pub isAnything : Want → Bool
+isAnything Anything = true
+isAnything (Like g) = false
+
 abbrev pub wantsMet : List Wanted → List Cell → Bool
 wantsMet ws cs = agree (λ (w : Wanted) (c : Cell). meets (w .want) (c .value)) ws cs
 
 -- the row's cells are as the plan wants them
 unfoldable pub planHits : Plan → Row → Bool
-planHits p r = wantsMet (p .wants) (r .cells) && agrees (p .test) (compared (termGot (p .left) (r .cells)) (termGot (p .right) (r .cells)))
+planHits p r = (p .free || wantsMet (p .wants) (r .cells)) && agrees (p .test) (compared (termGot (p .left) (r .cells)) (termGot (p .right) (r .cells)))
 
 -- ── tuples ──
 

@@ -5,9 +5,7 @@ use crate::Operands;
 use crate::Place;
 use crate::Relation;
 use crate::Row;
-use crate::Term;
 use crate::Terms;
-use crate::plans::term_got;
 use crate::plans::term_of;
 use values::Got;
 use values::Slot;
@@ -24,7 +22,7 @@ ghost use Rattle.values.specs.Operands.{varsOf, isGot, valuesIn, valueIn, eval}
 ghost use Rattle.values.specs.declared.Got.the-variants.{One};
 ghost use Rattle.rows.specs.Fit.{draft, ofKind, fits, fitsRow, relationFits, sameColumns};
 ghost use Rattle.rows.specs.View.{noCell, noField, operandsOf, valuesOf, columnsOf, relationOf, draftOf, Short, Shaped};
-ghost use Rattle.rows.specs.Plans.{termOf, termGot, noPlace, termsIn};
+ghost use Rattle.rows.specs.Plans.{termOf, noPlace, termsIn};
 
 // ---- tuples prepared for rows that match T
 
@@ -73,31 +71,6 @@ pub fn draft_of(t: Operands, vars: [Slot; 16]) -> Draft
     let b = slot_of(t, 1, vars);
     let c = slot_of(t, 2, vars);
     let d = slot_of(t, 3, vars);
-    Draft {
-        slots: [a, b, c, d],
-        count: t.count,
-    }
-}
-
-pub fn slot_for(t: Terms, i: usize, row: Row) -> Slot
-    requires { ⌜ i < 4 ⌝ }
-    ensures { λ r. ⌜ r .held ≡ termGot (getD (t .places) i noPlace .term) (row .cells) ⌝ }
-{
-    let p = t.places[i];
-    let term = p.term;
-    let held = term_got(term, row);
-    Slot { held }
-}
-
-// What a prepared t gives for a row.
-pub fn draft_for(t: Terms, row: Row) -> Draft
-    requires { ⌜ t .count ≤ 4 ⌝ }
-    ensures { λ o. ⌜ (draftOf o ≡ map (λ (x : Term). termGot x (row .cells)) (termsIn t)) × (o .count ≡ t .count) ⌝ }
-{
-    let a = slot_for(t, 0, row);
-    let b = slot_for(t, 1, row);
-    let c = slot_for(t, 2, row);
-    let d = slot_for(t, 3, row);
     Draft {
         slots: [a, b, c, d],
         count: t.count,

@@ -93,9 +93,10 @@ pub struct Wanted {
     pub want: Want,
 }
 
-// A selector prepared for one relation: its operands read the thread's variables once, and not for each row.
+// A selector prepared for one relation: its operands read the thread's variables once, and not for each row. It is free where any row matches T.
 pub struct Plan {
     pub wants: [Wanted; 4],
+    pub free: bool,
     pub test: Test,
     pub left: Term,
     pub right: Term,

@@ -18,12 +18,13 @@ use values::eval::eval_in;
 use values::eval::held_in;
 use values::eval::plus;
 ghost use mathlib.Core.Path.{_≡_};
+ghost use mathlib.Core.Bool.{_||_};
 ghost use Prim.Native.Nat.{_<_};
 ghost use lib.ListN.{length};
 ghost use Rattle.values.specs.Operands.{varsOf, formalOf};
 ghost use Rattle.rows.specs.Matching.{isSame, agrees, hits, matches};
 ghost use Rattle.rows.specs.View.{operandsOf, selectorOf, valuesOf, Short};
-ghost use Rattle.rows.specs.Plans.{isFormalOf, formalPlace, sourceOf, termOf, gotAt, sourceGot, termGot, wantOf, wantAt, meets, wantsMet, planHits};
+ghost use Rattle.rows.specs.Plans.{isFormalOf, formalPlace, sourceOf, termOf, gotAt, sourceGot, termGot, wantOf, wantAt, meets, isAnything, wantsMet, planHits};
 
 // ---- sources and terms
 
@@ -200,6 +201,36 @@ pub fn row_matches(wants: [Wanted; 4], row: Row) -> bool
     true
 }
 
+pub fn takes_any(w: Wanted) -> bool
+    ensures { λ r. ⌜ r ≡ isAnything (w .want) ⌝ }
+{
+    let want = w.want;
+    match want {
+        Want::Anything => true,
+        Want::Like(_) => false,
+    }
+}
+
+// Every row matches.
+pub fn free_wants(wants: [Wanted; 4]) -> bool
+    ensures { λ r. ⌜ ((row : Row) → length (row .cells) ≡ 4 → (r || wantsMet wants (row .cells)) ≡ wantsMet wants (row .cells)) ⌝ }
+{
+    let a = wants[0];
+    let b = wants[1];
+    let c = wants[2];
+    let d = wants[3];
+    takes_any(a) & takes_any(b) & takes_any(c) & takes_any(d)
+}
+
+pub fn row_meets(free: bool, wants: [Wanted; 4], row: Row) -> bool
+    ensures { λ r. ⌜ r ≡ (free || wantsMet wants (row .cells)) ⌝ }
+{
+    if free {
+        return true;
+    }
+    row_matches(wants, row)
+}
+
 // ---- the predicate, and the rows selected
 
 pub fn test_holds(t: Test, o: Order) -> bool
@@ -240,6 +271,7 @@ pub fn plan_of(s: Selector, vars: [Slot; 16]) -> Plan
     let right = s.right;
     Plan {
         wants,
+        free: free_wants(wants),
         test,
         left: term_of(left, template, vars),
         right: term_of(right, template, vars),
@@ -250,7 +282,7 @@ pub fn row_hits(p: Plan, row: Row) -> bool
     ensures { λ r. ⌜ r ≡ planHits p row ⌝ }
 {
     let wants = p.wants;
-    if row_matches(wants, row) {
+    if row_meets(p.free, wants, row) {
         let test = p.test;
         let left = p.left;
         let right = p.right;

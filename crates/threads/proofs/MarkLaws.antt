@@ -11,7 +11,7 @@ use Rattle.values.specs.Lists.{all, any, among, filter, places}
 use Rattle.values.proofs.Bools.{and-l, and-r, is-true}
 use Rattle.nets.specs.View.{marked}
 use Rattle.acts.specs.Contracts.{flagAt}
-use Rattle.acts.proofs.FlagLaws.{Flagged}
+use Rattle.values.proofs.FlagLaws.{Flagged}
 
 -- ── what is marked ──
 

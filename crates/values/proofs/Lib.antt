@@ -4,6 +4,7 @@ pub mod Arrays
 pub mod BindLaws
 pub mod Bools
 pub mod Firsts
+pub mod FlagLaws
 pub mod Ints
 pub mod ListLaws
 pub mod Loops

@@ -1,11 +1,11 @@
 -- `cases::white` meets what it calls: with a row more the table has the same columns.
-use Rattle.cases.proofs.Tables.{ready, like}
+use Rattle.cases.proofs.Tables.{short}
 use borrow.Author.Needs.{needs}
 use Rattle.cases.proofs.white.Statement.{statement}
 use Rattle.cases.proofs.white.Tie as tie
 
-split-requires : tie.Need-split-requires
-split-requires c κs = ready _ _ _ (like (c .before .before .before .before .before .before .before .before .pre .0) (c .before .before .before .before .push .ensures)) (c .before .selector .ensures) (c .before .before .operands .ensures .1)
+marked-requires : tie.Need-marked-requires
+marked-requires c κs = (c .before .before .before .push .ensures .shaped, short (c .selector .ensures) (c .before .operands .ensures .1))
 
 pub white-spec : {M : Type 1} → statement M
 white-spec =
@@ -18,8 +18,9 @@ white-spec =
     (λ c κs. search needs)
     (λ c κs. search needs)
     (λ c κs. search needs)
+    marked-requires
     (λ c κs. search needs)
-    split-requires
+    (λ c κs. search needs)
     (λ c. search needs)
     (λ c κs. search needs)
     (λ c κs. search needs)

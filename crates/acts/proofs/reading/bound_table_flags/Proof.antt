@@ -15,7 +15,7 @@ use Rattle.rows.specs.Relations.{Relation}
 use Rattle.nets.specs.declared.TableVariable.{TableVariable}
 use Rattle.nets.specs.View.{noVariable, variableOf}
 use Rattle.acts.specs.Contracts.{flagAt}
-use Rattle.acts.proofs.FlagLaws.{Flagged, flags-all}
+use Rattle.values.proofs.FlagLaws.{Flagged, flags-all}
 use Rattle.acts.proofs.reading.bound_table_flags.Statement.{statement}
 use Rattle.acts.proofs.reading.bound_table_flags.Tie as tie
 

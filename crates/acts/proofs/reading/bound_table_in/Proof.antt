@@ -1,6 +1,6 @@
 -- `acts::reading::bound_table_in` meets its contract: past the flags there is none. Assumes nothing.
 use borrow.Author.Needs.{needs}
-use Rattle.acts.proofs.FlagLaws.{flag-past}
+use Rattle.values.proofs.FlagLaws.{flag-past}
 use Rattle.acts.proofs.reading.bound_table_in.Statement.{statement}
 use Rattle.acts.proofs.reading.bound_table_in.Tie as tie
 

@@ -1,7 +1,7 @@
 -- `rows::plans::plan_of` meets its contract: its wants match as the template does, and its terms give what the predicate's operands give.
 use Prim.Native.Nat.{_≤_}
 use mathlib.Core.Path.{_≡_, ap, ap₂, _∙_}
-use mathlib.Core.Bool.{_&&_}
+use mathlib.Core.Bool.{Bool, _&&_, _||_}
 use mathlib.Core.List.{List}
 use lib.ListN.{length, length-map}
 use borrow.Author.Needs.{needs}
@@ -29,19 +29,20 @@ module _ (e : Vars) (s : Selector) (sixteen : length e ≡ 16) (short : s .templ
       ap (λ x. termGot x (row .cells)) q
       ∙ term-got e (operandsOf (s .template)) (s .template .count) sixteen short (length-firsts (λ (f : Field). f .operand) noField (s .template .count) (s .template .fields)) row o
 
-  plan-is : (ws : List Wanted) {l r : Term} →
+  plan-is : (ws : List Wanted) (o : Bool) {l r : Term} →
       ((row : Row) → length (row .cells) ≡ 4 → wantsMet ws (row .cells) ≡ matches e (operandsOf (s .template)) (valuesOf (s .template .count) row)) →
+      ((row : Row) → length (row .cells) ≡ 4 → (o || wantsMet ws (row .cells)) ≡ wantsMet ws (row .cells)) →
       l ≡ termOf e (operandsOf (s .template)) (s .left) → r ≡ termOf e (operandsOf (s .template)) (s .right) → (row : Row) → length (row .cells) ≡ 4 →
-      planHits (record { wants = ws; test = s .test; left = l; right = r }) row ≡ hits e (selectorOf s) (valuesOf (s .template .count) row)
+      planHits (record { wants = ws; free = o; test = s .test; left = l; right = r }) row ≡ hits e (selectorOf s) (valuesOf (s .template .count) row)
   unfolding planHits hits
-  plan-is ws ew el er row n = ap₂ _&&_ (ew row n) (ap₂ (λ x y. agrees (s .test) (compared x y)) (gives row (s .left) el) (gives row (s .right) er))
+  plan-is ws o ew eo el er row n = ap₂ _&&_ (eo row n ∙ ew row n) (ap₂ (λ x y. agrees (s .test) (compared x y)) (gives row (s .left) el) (gives row (s .right) er))
 
 returns : tie.Need-returns
 returns c =
-    let s = c .before .before .before .before in
+    let s = c .before .before .before .before .before in
     let n : length (s .args .vars) ≡ 16 = search (long, needs) in
-    plan-is (varsOf (s .args .vars)) (s .args .s) (length-map (s .args .vars) (λ (x : Slot). x .held) ∙ n) (s .pre .count) _ (c .before .before .wants-of .ensures)
+    plan-is (varsOf (s .args .vars)) (s .args .s) (length-map (s .args .vars) (λ (x : Slot). x .held) ∙ n) (s .pre .count) _ (c .before .before .free-wants .result) (c .before .before .before .wants-of .ensures) (c .before .before .free-wants .ensures)
     (c .before .term-of .ensures) (c .term-of2 .ensures)
 
 pub plan-of-spec : {M : Type 1} → statement M
-plan-of-spec = tie.close (tie.spec (λ c κs. search needs) (λ c κs. search needs) (λ c κs. search needs) returns)
+plan-of-spec = tie.close (tie.spec (λ c κs. search needs) (λ c κs. search needs) (λ c κs. search needs) (λ c κs. search needs) returns)

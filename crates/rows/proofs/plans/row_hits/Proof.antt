@@ -1,6 +1,6 @@
 -- `rows::plans::row_hits` meets its contract: the row is matched first, and the test judges what the two terms give.
 use mathlib.Core.Path.{_≡_, sym, ap, ap₂, _∙_}
-use mathlib.Core.Bool.{Bool, true, false}
+use mathlib.Core.Bool.{Bool, true, false, _||_}
 use Rattle.values.specs.declared.Got.{Got}
 use Rattle.values.specs.declared.Order.{Order}
 use Rattle.values.specs.Operands.{compared}
@@ -12,7 +12,7 @@ use borrow.Author.Needs.{needs}
 use Rattle.rows.proofs.plans.row_hits.Statement.{statement}
 use Rattle.rows.proofs.plans.row_hits.Tie as tie
 
-module _ (p : Plan) (row : Row) {m : Bool} (is : m ≡ wantsMet (p .wants) (row .cells)) where
+module _ (p : Plan) (row : Row) {m : Bool} (is : m ≡ (p .free || wantsMet (p .wants) (row .cells))) where
   plan-judges : m ≡ true → {l r : Got} {o : Order} {b : Bool} → l ≡ termGot (p .left) (row .cells) → r ≡ termGot (p .right) (row .cells) → o ≡ compared l r →
       b ≡ agrees (p .test) o → b ≡ planHits p row
   unfolding planHits
@@ -25,11 +25,11 @@ module _ (p : Plan) (row : Row) {m : Bool} (is : m ≡ wantsMet (p .wants) (row 
 returns : tie.Need-returns
 returns c =
     let a = c .before .before .before .before .before .before .before .args in
-    plan-judges (a .p) (a .row) (c .before .before .before .before .before .row-matches .ensures) (c .before .before .before .before .if1 .taken)
+    plan-judges (a .p) (a .row) (c .before .before .before .before .before .row-meets .ensures) (c .before .before .before .before .if1 .taken)
     (c .before .before .before .term-got .ensures) (c .before .before .term-got2 .ensures) (c .before .got-order .ensures) (c .test-holds .ensures)
 
 returns-2 : tie.Need-returns-2
-returns-2 c = plan-fails (c .before .before .before .args .p) (c .before .before .before .args .row) (c .before .row-matches .ensures) (c .if1 .left)
+returns-2 c = plan-fails (c .before .before .before .args .p) (c .before .before .before .args .row) (c .before .row-meets .ensures) (c .if1 .left)
 
 pub row-hits-spec : {M : Type 1} → statement M
 row-hits-spec =

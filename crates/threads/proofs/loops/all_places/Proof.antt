@@ -4,7 +4,7 @@ use mathlib.Core.Path.{refl}
 use mathlib.Core.Bool.{true}
 use native.Mathlib.Omega.{arith}
 use borrow.Author.Needs.{needs}
-use Rattle.acts.proofs.FlagLaws.{Flagged, flagged-starts, flagged-more}
+use Rattle.values.proofs.FlagLaws.{Flagged, flagged-starts, flagged-more}
 use Rattle.threads.proofs.MarkLaws.{flagged-first}
 use Rattle.threads.proofs.loops.all_places.Statement.{statement}
 use Rattle.threads.proofs.loops.all_places.Tie as tie

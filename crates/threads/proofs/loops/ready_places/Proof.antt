@@ -13,7 +13,7 @@ use Rattle.rows.specs.View.{noRow, operandsOf}
 use Rattle.rows.specs.Plans.{wantsMet}
 use Rattle.rows.proofs.Lengths.{cells-long}
 use Rattle.acts.specs.Contracts.{flagAt}
-use Rattle.acts.proofs.FlagLaws.{Flagged, flagged-starts, flagged-more}
+use Rattle.values.proofs.FlagLaws.{Flagged, flagged-starts, flagged-more}
 use Rattle.threads.proofs.RowLaws.{row-at}
 use Rattle.threads.proofs.loops.ready_places.Statement.{statement}
 use Rattle.threads.proofs.loops.ready_places.Tie as tie

@@ -1,0 +1,127 @@
+// What a step that is no loop answers, kind by kind. Each check is judged in its order.
+use changes::aggregates::aggregate;
+use changes::sweeping::sifted;
+use nets::Answer;
+use nets::Node;
+use nets::Refusal;
+use rows::Function;
+use rows::Relation;
+use rows::fit::draft_of;
+use rows::fit::fits_columns;
+use rows::fit::same_columns;
+use rows::plans::met;
+use rows::plans::want_of;
+use values::Got;
+use values::Operand;
+use values::Slot;
+ghost use mathlib.Core.Path.{_≡_};
+ghost use mathlib.Core.Bool.{true, false, _&&_};
+ghost use lib.Dec.{T, eqb};
+ghost use lib.ListN.{getD};
+ghost use Rattle.values.specs.Operands.{varsOf, isGot};
+ghost use Rattle.rows.specs.Matching.{matches1};
+ghost use Rattle.rows.specs.View.{relationOf, Shaped, Short};
+ghost use Rattle.changes.specs.Aggregates.{columnFits, aggregated};
+ghost use Rattle.changes.specs.Contracts.{marks, sift};
+ghost use Rattle.nets.specs.Nets.{acting, insert, insertTable};
+ghost use Rattle.nets.specs.Answers.{numberOf, saidOf};
+ghost use Rattle.acts.specs.Effects.{passing, saidBy};
+ghost use Rattle.acts.specs.Contracts.{partsOf};
+
+// A check that fails refuses.
+pub fn checked(ok: bool, why: Refusal, then: Answer) -> Answer
+    ensures { λ r. ⌜ saidOf r ≡ passing ok (numberOf why) (saidOf then) ⌝ }
+{
+    if ok {
+        return then;
+    }
+    Answer::Refused(why)
+}
+
+// ---- inserts
+
+pub fn said_insert(node: Node, content: Relation, vars: [Slot; 16]) -> Answer
+    requires { ⌜ Shaped content × Short (node .tuple) ⌝ }
+    ensures { λ r. ⌜ saidOf r ≡ saidBy (acting insert) (partsOf node content content vars false 0) ⌝ }
+{
+    let columns = content.columns;
+    let kinds = content.kinds;
+    let tuple = node.tuple;
+    let fits = fits_columns(columns, kinds, draft_of(tuple, vars));
+    let room = content.count < 16;
+    checked(
+        fits,
+        Refusal::Misfit,
+        checked(room, Refusal::Full, Answer::Done(1, 0)),
+    )
+}
+
+pub fn said_append(node: Node, content: Relation, source: Relation, vars: [Slot; 16]) -> Answer
+    requires { ⌜ Shaped content × Shaped source ⌝ }
+    ensures { λ r. ⌜ saidOf r ≡ saidBy (acting insertTable) (partsOf node content source vars false 0) ⌝ }
+{
+    let columns = content.columns;
+    let kinds = content.kinds;
+    let from = source.columns;
+    let others = source.kinds;
+    let more = source.count;
+    let same = same_columns(columns, kinds, from, others);
+    let room = content.count + more <= 16;
+    checked(
+        same,
+        Refusal::Misfit,
+        checked(room, Refusal::Full, Answer::Done(more, 0)),
+    )
+}
+
+// ---- aggregates
+
+pub fn is_int_column(at: u8, r: Relation) -> bool
+    requires { ⌜ Shaped r ⌝ }
+    ensures { λ o. ⌜ o ≡ eqb (getD (relationOf r .columns) at 0) 1 ⌝ }
+{
+    let i = at as usize;
+    if r.columns <= i {
+        return false;
+    }
+    let kinds = r.kinds;
+    kinds[i] == 1
+}
+
+// Functions 2..4 want a column that is there and Int.
+pub fn column_fits(f: Function, at: u8, r: Relation) -> bool
+    requires { ⌜ Shaped r ⌝ }
+    ensures { λ o. ⌜ o ≡ columnFits f at (relationOf r .columns) ⌝ }
+{
+    match f {
+        Function::Unused => false,
+        Function::Count => true,
+        Function::Sum => is_int_column(at, r),
+        Function::Least => is_int_column(at, r),
+        Function::Largest => is_int_column(at, r),
+    }
+}
+
+// T' takes what is given, if anything is.
+pub fn takes(op: Operand, g: Got, vars: [Slot; 16]) -> bool
+    ensures { λ r. ⌜ r ≡ (isGot g && matches1 (varsOf vars) op g) ⌝ }
+{
+    match g {
+        Got::Nothing => false,
+        Got::One(v) => met(want_of(op, vars), v),
+    }
+}
+
+// Over the rows that are marked; nothing where the column does not fit.
+pub fn result_of(node: Node, source: Relation, flags: [bool; 16]) -> Got
+    requires { ⌜ Shaped source ⌝ }
+    ensures { λ r. ⌜ (T (columnFits (node .function) (node .column) (relationOf source .columns)) → r ≡ aggregated (node .function) (node .column) (sift true (marks (source .count) flags) (relationOf source .rows))) ⌝ }
+{
+    let function = node.function;
+    let column = node.column;
+    if column_fits(function, column, source) {
+        let taken = sifted(source, flags, true);
+        return aggregate(function, column, taken);
+    }
+    Got::Nothing
+}
