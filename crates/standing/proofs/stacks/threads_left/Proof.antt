@@ -16,7 +16,7 @@ use Rattle.codec.specs.Encoding.{endToEnd}
 use Rattle.calls.specs.Layouts.{threadBytes, threadsPut}
 use Rattle.calls.specs.Calls.{ifRoom, Gives}
 use Rattle.calls.proofs.CallLaws.{gives-short, gives-put}
-use Rattle.standing.proofs.ThreadLaws.{few-threads, all-stacked, threads-put, threads-size}
+use Rattle.standing.proofs.LeftLaws.{few-threads, all-stacked, threads-put, threads-size}
 use Rattle.standing.proofs.stacks.threads_left.Statement.{statement}
 use Rattle.standing.proofs.stacks.threads_left.Tie as tie
 

@@ -1,0 +1,3 @@
+-- Laws of answers and threads as bytes.
+pub mod AnswerLaws
+pub mod ThreadLaws

@@ -1,0 +1,2 @@
+-- Laws of records put into their bytes.
+pub mod WriteLaws
