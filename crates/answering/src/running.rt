@@ -3,7 +3,6 @@ use calls::picking::pick_at;
 use nets::Net;
 use steps::stepping::step_sound;
 ghost use mathlib.Core.Path.{_≡_};
-ghost use Prim.Native.Nat.{_+_, _<_};
 ghost use lib.Dec.{T};
 ghost use Rattle.nets.specs.Sound.{sound};
 ghost use Rattle.nets.specs.Accounts.{after};

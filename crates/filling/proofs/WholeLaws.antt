@@ -18,7 +18,7 @@ use Rattle.nets.specs.View.{noTable, tableOf, tablesOf}
 use Rattle.codec.specs.Encoding.{endToEnd, tableBytes, rowBytes}
 use Rattle.codec.proofs.Stores.{ends-append, ends-length}
 use Rattle.files.specs.Writing.{rowsBytes, allRows, written}
-use Rattle.puts.proofs.WriteLaws.{row-length, table-length}
+use Rattle.fields.proofs.WriteLaws.{row-length, table-length}
 
 -- ── counts of a table in its ranges ──
 

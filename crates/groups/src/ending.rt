@@ -9,7 +9,6 @@ use nodeforms::tuples::row_form;
 use walks::Reach;
 ghost use mathlib.Core.Path.{_≡_};
 ghost use mathlib.Core.Bool.{cond};
-ghost use Prim.Native.Nat.{_*_};
 ghost use lib.ListN.{length};
 ghost use Rattle.codec.specs.Decoding.{recordIn};
 ghost use Rattle.walks.specs.Walking.{Going, Ends, decodedFault};

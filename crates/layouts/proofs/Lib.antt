@@ -1,3 +1,2 @@
--- Laws of answers and threads as bytes.
+-- Laws of answers as bytes.
 pub mod AnswerLaws
-pub mod ThreadLaws

@@ -2,7 +2,6 @@
 use nets::Answer;
 use nets::Refusal;
 ghost use mathlib.Core.Path.{_≡_};
-ghost use Prim.Native.Nat.{_/_};
 ghost use lib.ListN.{length};
 ghost use Rattle.nets.specs.Answers.{numberOf, saidOf};
 ghost use Rattle.calls.specs.Layouts.{eightBytes, threeBytes, answerBytes};

@@ -18,7 +18,7 @@ use Rattle.codec.specs.Encoding.{endToEnd}
 use Rattle.codec.proofs.Stores.{ends-length}
 use Rattle.calls.specs.Layouts.{threadBytes, threadsPut}
 use Rattle.calls.specs.Openings.{AllStacked}
-use Rattle.layouts.proofs.ThreadLaws.{bytesOf, thread-length, threads-are}
+use Rattle.stacks.proofs.ThreadLaws.{bytesOf, thread-length, threads-are}
 
 threads-of : (net : Net) → view net .threads ≡ threadsOf (net .threadcount) (net .threads)
 unfolding view

@@ -1,4 +1,4 @@
 // The calls: answers, and what stands after all picks, as bytes.
 pub mod answers;
-pub mod stacks;
+pub mod left;
 pub mod tables;

@@ -31,7 +31,6 @@ bench-sound-steps-spec =
     μ-loop
     (λ c κs. search needs)
     (λ c κs. search needs)
-    (λ c κs. search needs)
     (λ c. search needs)
     loop-holds
     (λ c κs. search needs)

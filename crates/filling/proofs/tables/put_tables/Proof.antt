@@ -12,7 +12,7 @@ use Rattle.nets.specs.declared.Table.{Table}
 use Rattle.nets.specs.View.{noTable, tableOf, tablesOf}
 use Rattle.codec.specs.Encoding.{endToEnd, tableBytes}
 use Rattle.codec.proofs.Stores.{kept-length, ends-more, ends-all}
-use Rattle.puts.proofs.WriteLaws.{table-length}
+use Rattle.fields.proofs.WriteLaws.{table-length}
 use Rattle.filling.proofs.tables.put_tables.Statement.{statement}
 use Rattle.filling.proofs.tables.put_tables.Tie as tie
 

@@ -8,7 +8,7 @@ use Rattle.values.specs.declared.Site.{Site}
 use Rattle.rows.specs.declared.Row.{Row}
 use Rattle.rows.specs.View.{valuesOf}
 use Rattle.codec.specs.Encoding.{startBytes, tupleBytes, rowBytes}
-use Rattle.puts.proofs.WriteLaws.{row-parts}
+use Rattle.fields.proofs.WriteLaws.{row-parts}
 use borrow.Author.Needs.{needs}
 use Rattle.puts.proofs.puts.put_row.Statement.{statement}
 use Rattle.puts.proofs.puts.put_row.Tie as tie

@@ -14,7 +14,7 @@ use Rattle.rows.specs.declared.Relation.{Relation}
 use Rattle.rows.specs.View.{noRow, valuesOf, relationOf}
 use Rattle.codec.specs.Encoding.{endToEnd, rowBytes}
 use Rattle.codec.proofs.Stores.{kept-length, ends-more, ends-all}
-use Rattle.puts.proofs.WriteLaws.{row-length}
+use Rattle.fields.proofs.WriteLaws.{row-length}
 use Rattle.puts.proofs.puts.put_rows.Statement.{statement}
 use Rattle.puts.proofs.puts.put_rows.Tie as tie
 

@@ -8,7 +8,7 @@ use Rattle.values.specs.declared.Site.{Site}
 use Rattle.rows.specs.declared.Relation.{Relation}
 use Rattle.rows.specs.View.{columnsOf, relationOf}
 use Rattle.codec.specs.Encoding.{startBytes, columnBytes, tableBytes}
-use Rattle.puts.proofs.WriteLaws.{table-parts}
+use Rattle.fields.proofs.WriteLaws.{table-parts}
 use borrow.Author.Needs.{needs}
 use Rattle.puts.proofs.puts.put_table.Statement.{statement}
 use Rattle.puts.proofs.puts.put_table.Tie as tie

@@ -1,2 +1,0 @@
--- Laws of records put into their bytes.
-pub mod WriteLaws
