@@ -58,6 +58,7 @@ fn testing(node: Node, test: Test, left: Operand, right: Operand) -> Node {
     selecting(node, selector)
 }
 
+// 4 another kind, 5 body, table variables and name, 6 function and column, 7 columns, 8 a drop with another next, 9 L, 10 T, 11 t, 12 the predicate, 13 T'.
 pub fn node_of(node: Node, e: [u8; 24]) -> Node {
     let a = operand_in(&e[8..16]);
     let b = operand_in(&e[16..24]);

@@ -71,6 +71,7 @@ fn stacked(thread: Thread, e: [u8; 24]) -> Thread {
     t
 }
 
+// 14 site and count of entries, 15 a variable, 16 a table variable, 17 entries.
 pub fn thread_of(thread: Thread, e: [u8; 24]) -> Thread {
     let part = e[3];
     match part {
