@@ -1,2 +1,3 @@
-// The answers to picks, as bytes.
+// Runs over picks held as bytes, and their answers as bytes.
 pub mod answers;
+pub mod running;

@@ -1,20 +1,18 @@
-// Nets at the limits and chains of picks on them, one for each kind of step, for the benchmark of `second/bench`, which builds the same nets as files.
-// The calls take and give plain numbers; lists of picks are bytes, two for each. A kind is 16..22, 25 or 26; 23 stands for create and drop in turn, and 0 for loops in loops around updates, for long runs.
+// Nets at the limits and chains of picks on them, one for each kind of step, for the benchmark of `second/bench`, which hands them over as two files, for the second engine and for this crate.
+// The calls take files, lists of picks as bytes, two for each, and plain numbers. A kind says which picks a chain has.
 use nets::Net;
 use soundness::whole::sound_net;
 
-pub mod filling;
 pub mod loads;
 pub mod picking;
-pub mod programs;
 pub mod running;
+pub mod starting;
 pub mod summing;
 pub mod whole;
 
-use filling::start;
 use running::chain;
 use running::chain_sound;
-use running::prepared;
+use starting::start;
 use summing::with_net;
 
 // A net, and the sum over the answers so far.
@@ -25,8 +23,8 @@ pub struct Chained {
 
 // The sum over the answers of a number of chains from the start, soundness tested at each step.
 #[no_mangle]
-pub extern "C" fn bench_steps(kind: u8, turns: u64) -> u64 {
-    let net = prepared(start(kind));
+pub extern "C" fn bench_steps(tables: &[u8], program: &[u8], kind: u8, turns: u64) -> u64 {
+    let net = start(tables, program);
     let mut sum: u64 = 0;
     let mut i: u64 = 0;
     while i < turns {
@@ -39,8 +37,8 @@ pub extern "C" fn bench_steps(kind: u8, turns: u64) -> u64 {
 
 // The same with soundness tested once, at the start.
 #[no_mangle]
-pub extern "C" fn bench_sound_steps(kind: u8, turns: u64) -> u64 {
-    let net = prepared(start(kind));
+pub extern "C" fn bench_sound_steps(tables: &[u8], program: &[u8], kind: u8, turns: u64) -> u64 {
+    let net = start(tables, program);
     if !sound_net(net) {
         return 0;
     }
@@ -56,8 +54,8 @@ pub extern "C" fn bench_sound_steps(kind: u8, turns: u64) -> u64 {
 
 // The sum over the answers of one chain and the net that it leaves.
 #[no_mangle]
-pub extern "C" fn bench_left(kind: u8) -> u64 {
-    let net = prepared(start(kind));
+pub extern "C" fn bench_left(tables: &[u8], program: &[u8], kind: u8) -> u64 {
+    let net = start(tables, program);
     let r = chain(Chained { net, sum: 0 }, kind);
     let left = r.net;
     with_net(r.sum, left)

@@ -3,25 +3,11 @@ use crate::Chained;
 use crate::picking::chain_length;
 use crate::picking::pick_at;
 use crate::summing::with_answer;
-use nets::Net;
-use nets::Pick;
 use steps::stepping::step;
 use steps::stepping::step_sound;
 ghost use lib.Dec.{T};
 ghost use Rattle.nets.specs.Sound.{sound};
 ghost use Rattle.nets.specs.View.{view};
-
-// Every thread has taken node 0, which binds its table variable 0.
-pub fn prepared(start: Net) -> Net {
-    let mut net = start;
-    let mut i: u8 = 0;
-    while i < 8 {
-        let s = step(net, Pick { thread: i, row: 0 });
-        net = s.net;
-        i += 1;
-    }
-    net
-}
 
 // A chain, soundness tested at each step.
 pub fn chain(from: Chained, kind: u8) -> Chained {

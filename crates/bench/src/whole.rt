@@ -1,6 +1,5 @@
 // Whole runs over lists of picks.
-use crate::filling::start;
-use crate::running::prepared;
+use crate::starting::start;
 use crate::summing::with;
 use crate::summing::with_net;
 use counts::Ran;
@@ -57,8 +56,8 @@ pub fn total(sum: u64, r: Ran) -> u64 {
 
 // A number of runs, each over all picks from the start.
 #[no_mangle]
-pub extern "C" fn bench_runs(kind: u8, bytes: &[u8], turns: u64) -> u64 {
-    let net = prepared(start(kind));
+pub extern "C" fn bench_runs(tables: &[u8], program: &[u8], bytes: &[u8], turns: u64) -> u64 {
+    let net = start(tables, program);
     let picks = picks_of(bytes);
     let count = count_of(bytes);
     let mut sum: u64 = 0;
@@ -72,8 +71,8 @@ pub extern "C" fn bench_runs(kind: u8, bytes: &[u8], turns: u64) -> u64 {
 
 // A number of tests of soundness, of which a run has one.
 #[no_mangle]
-pub extern "C" fn bench_tests(kind: u8, turns: u64) -> u64 {
-    let net = prepared(start(kind));
+pub extern "C" fn bench_tests(tables: &[u8], program: &[u8], turns: u64) -> u64 {
+    let net = start(tables, program);
     let mut sum: u64 = 0;
     let mut i: u64 = 0;
     while i < turns {

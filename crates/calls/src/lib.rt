@@ -1,9 +1,8 @@
-// What every call of another program begins with, and what it gives back.
+// What calls of other programs give back, and the picks that they take.
 use files::Verdict;
 use nets::Net;
 
-pub mod opening;
-pub mod running;
+pub mod picking;
 
 // A number, and the place that goes with it.
 pub struct Reply {

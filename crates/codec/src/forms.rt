@@ -1,13 +1,10 @@
-// Records by themselves but for nodes: check 4, and what each kind says. A record is a part of 104 bytes.
+// Records by themselves but for rows and nodes: check 4, and what each kind says. A record is a part of 104 bytes.
 use crate::bytes::before_none;
 use crate::bytes::nones_last;
 use crate::bytes::text_in;
 use crate::bytes::zeros;
-use crate::operands::operands_form;
-use crate::operands::operands_in;
 use nets::Alias;
 use nets::Pick;
-use soundness::operands::operands_ok;
 use soundness::ranges::is_text;
 use soundness::relations::columns_ok;
 use values::Locality;
@@ -17,7 +14,7 @@ ghost use Prim.Native.Nat.{_≤_};
 ghost use lib.ListN.{length};
 ghost use Rattle.rows.specs.View.{columnsOf};
 ghost use Rattle.codec.specs.Bytes.{columnsForm, columnsIn};
-ghost use Rattle.codec.specs.Decoding.{siteAt, nameIn, aliasIn, pickIn, aliasForm, tableForm, rowForm, startForm, pickForm};
+ghost use Rattle.codec.specs.Decoding.{siteAt, nameIn, aliasIn, pickIn, aliasForm, tableForm, startForm, pickForm};
 ghost use Rattle.codec.specs.Judging.{groupAt};
 
 // The group of a kind, in the order in which groups come; 0 for an unknown kind.
@@ -116,20 +113,6 @@ pub fn table_form(r: &[u8]) -> bool
         & columns_form(&r[8..12])
         & columns_ok(columns, kinds)
         & zeros(&r[12..104])
-}
-
-pub fn row_form(r: &[u8]) -> bool
-    requires { ⌜ length (now r) ≡ 104 ⌝ }
-    ensures { λ o. ⌜ o ≡ rowForm (now (r .entry)) ⌝ }
-{
-    let t = operands_in(&r[56..88]);
-    (r[1] < 8)
-        & zeros(&r[2..4])
-        & is_text(text_in(&r[4..8]))
-        & zeros(&r[8..56])
-        & operands_form(&r[56..88])
-        & operands_ok(3, t)
-        & zeros(&r[88..104])
 }
 
 pub fn start_form(r: &[u8]) -> bool

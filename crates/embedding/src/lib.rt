@@ -1,6 +1,6 @@
 // The engine for programs in C and Rust: a net file and picks in, bytes out. Every call answers every input.
-use answering::answers::call_answers;
-use standing::stacks::call_threads;
+use standing::answers::call_answers;
+use standing::left::call_threads;
 use standing::tables::call_tables;
 ghost use Rattle.calls.specs.Calls.{TablesIs, AnswersIs, ThreadsIs};
 

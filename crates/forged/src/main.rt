@@ -1,39 +1,13 @@
 // Nets that no file gives: one clause of soundness broken in each, and sound ones with loop entries, bindings and whatever lies past the counts.
-mod bad_nodes;
-mod bad_operands;
-mod bad_tables;
-mod bad_threads;
-mod sound;
+// Each line of standard input is one net: 24 bytes as hexadecimal digits, a blank, and its name.
+mod lines;
 mod trying;
 
+use libc::STDIN_FILENO;
+use lines::try_lines;
+
 fn main() {
-    sound::tables();
-    sound::others();
-    sound::loops();
-    sound::lists();
-    sound::rounds();
-    sound::nothing();
-    bad_tables::tables();
-    bad_tables::contents();
-    bad_tables::rows();
-    bad_tables::aliases();
-    bad_nodes::kinds();
-    bad_nodes::fields();
-    bad_nodes::functions();
-    bad_nodes::columns();
-    bad_nodes::nexts();
-    bad_nodes::bodies();
-    bad_operands::places();
-    bad_operands::computed_places();
-    bad_operands::templates();
-    bad_operands::template_ranges();
-    bad_operands::tests();
-    bad_operands::tuples();
-    bad_operands::tuple_ranges();
-    bad_operands::results();
-    bad_threads::bindings();
-    bad_threads::relations();
-    bad_threads::rows();
-    bad_threads::stacks();
-    bad_threads::loops();
+    let mut input = io::large_buffer();
+    let n = io::read_full(STDIN_FILENO, &mut input);
+    try_lines(&input[..n]);
 }

@@ -1,17 +1,11 @@
 // A net is handed to a step and to writing, and a line printed: the answers, and whether the net and the buffer stayed as they were.
 use files::Written;
-use forging::base::base;
-use forging::base::with_thread;
-use forging::full::eight_entries;
-use forging::programs::nodes;
-use forging::programs::with_node;
+use forging::exchanged::exchanged;
 use forging::whole::same_net;
 use nets::Answer;
 use nets::Net;
-use nets::Node;
 use nets::Pick;
 use nets::Stepped;
-use nets::Thread;
 use printing::lines::put_answer;
 use printing::pages::put_byte;
 use printing::pages::put_bytes;
@@ -19,7 +13,7 @@ use printing::pages::put_decimal;
 use printing::pages::write_page;
 use steps::stepping::step;
 use writing::writing::write;
-ghost use Prim.Native.Nat.{_<_, _≤_};
+ghost use Prim.Native.Nat.{_≤_};
 
 fn put_same(page: &mut [u8; 4096], at: usize, same: bool) -> usize
     requires { ⌜ at ≤ 4096 ⌝ }
@@ -119,55 +113,7 @@ fn print(name: &[u8], outcome: Outcome) {
     write_page(&page, at);
 }
 
-pub fn try_pick(name: &[u8], net: Net, thread: u8, row: u8) {
-    print(name, run(net, thread, row));
-}
-
-// A net that is to be refused whatever the pick.
-pub fn try_net(name: &[u8], net: Net) {
-    try_pick(name, net, 0, 0);
-}
-
-// The net with these counts of aliases, tables, nodes and threads.
-pub fn try_counts(
-    name: &[u8],
-    net: Net,
-    aliases: usize,
-    tables: usize,
-    nodes: usize,
-    threads: usize,
-) {
-    let mut next = net;
-    next.aliascount = aliases;
-    next.tablecount = tables;
-    next.nodecount = nodes;
-    next.threadcount = threads;
-    try_net(name, next);
-}
-
-// ---- the base net with one part exchanged
-
-pub fn try_node(name: &[u8], at: usize, node: Node)
-    requires { ⌜ at < 128 ⌝ }
-{
-    try_net(name, with_node(base(), at, node));
-}
-
-pub fn try_thread(name: &[u8], thread: Thread) {
-    try_net(name, with_thread(base(), thread));
-}
-
-// ---- the parts that are exchanged
-
-pub fn node_at(at: usize) -> Node
-    requires { ⌜ at < 128 ⌝ }
-{
-    let nodes = nodes();
-    nodes[at]
-}
-
-// The first thread with eight entries.
-pub fn eight_deep() -> Thread {
-    let full = eight_entries(base());
-    full.threads[0]
+// The net that 24 bytes say, with a pick of the first two.
+pub fn try_net(name: &[u8], e: [u8; 24]) {
+    print(name, run(exchanged(e), e[0], e[1]));
 }

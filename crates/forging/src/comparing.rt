@@ -1,13 +1,10 @@
 // Whether two values, operands, rows or relations are the same in every field, also past the counts.
-use rows::Cell;
-use rows::Field;
 use rows::Function;
 use rows::Operands;
 use rows::Relation;
 use rows::Row;
 use rows::Selector;
 use rows::Test;
-use soundness::operands::is_absent;
 use values::Got;
 use values::Operand;
 use values::Slot;
@@ -38,18 +35,16 @@ fn same_value(a: Value, b: Value) -> bool {
     }
 }
 
-fn is_nothing(g: Got) -> bool {
-    match g {
-        Got::Nothing => true,
-        Got::One(_) => false,
-    }
-}
-
 pub fn same_slot(a: Slot, b: Slot) -> bool {
     let g = a.held;
     let h = b.held;
     match g {
-        Got::Nothing => is_nothing(h),
+        Got::Nothing => {
+            let Got::Nothing = h else {
+                return false;
+            };
+            true
+        }
         Got::One(v) => {
             let Got::One(w) = h else {
                 return false;
@@ -61,7 +56,12 @@ pub fn same_slot(a: Slot, b: Slot) -> bool {
 
 pub fn same_operand(a: Operand, b: Operand) -> bool {
     match a {
-        Operand::Absent => is_absent(b),
+        Operand::Absent => {
+            let Operand::Absent = b else {
+                return false;
+            };
+            true
+        }
         Operand::ConstInt(i) => {
             let Operand::ConstInt(j) = b else {
                 return false;
@@ -103,26 +103,28 @@ pub fn same_operand(a: Operand, b: Operand) -> bool {
 
 // ---- operands of nodes
 
-fn same_fields(a: [Field; 4], b: [Field; 4]) -> bool {
-    let mut i: usize = 0;
-    while i < 4 {
-        let f = a[i];
-        let g = b[i];
-        let x = f.operand;
-        let y = g.operand;
-        if same_operand(x, y) {
-            i += 1;
-        } else {
-            return false;
-        }
-    }
-    true
-}
-
 pub fn same_operands(a: Operands, b: Operands) -> bool {
-    let x = a.fields;
-    let y = b.fields;
-    (a.count == b.count) & same_fields(x, y)
+    let f = a.fields[0];
+    let g = a.fields[1];
+    let h = a.fields[2];
+    let i = a.fields[3];
+    let k = b.fields[0];
+    let l = b.fields[1];
+    let m = b.fields[2];
+    let n = b.fields[3];
+    let o = f.operand;
+    let p = g.operand;
+    let q = h.operand;
+    let r = i.operand;
+    let s = k.operand;
+    let t = l.operand;
+    let u = m.operand;
+    let v = n.operand;
+    (a.count == b.count)
+        & same_operand(o, s)
+        & same_operand(p, t)
+        & same_operand(q, u)
+        & same_operand(r, v)
 }
 
 fn test_number(t: Test) -> u8 {
@@ -162,40 +164,40 @@ pub fn same_selector(a: Selector, b: Selector) -> bool {
 
 // ---- relations
 
-pub fn same_kinds(a: [u8; 4], b: [u8; 4]) -> bool {
-    (a[0] == b[0]) & (a[1] == b[1]) & (a[2] == b[2]) & (a[3] == b[3])
-}
-
-fn same_cells(a: [Cell; 4], b: [Cell; 4]) -> bool {
-    let mut i: usize = 0;
-    while i < 4 {
-        let f = a[i];
-        let g = b[i];
-        let v = f.value;
-        let w = g.value;
-        if same_value(v, w) {
-            i += 1;
-        } else {
-            return false;
-        }
-    }
-    true
+fn same_row(a: Row, b: Row) -> bool {
+    let f = a.cells[0];
+    let g = a.cells[1];
+    let h = a.cells[2];
+    let i = a.cells[3];
+    let k = b.cells[0];
+    let l = b.cells[1];
+    let m = b.cells[2];
+    let n = b.cells[3];
+    let o = f.value;
+    let p = g.value;
+    let q = h.value;
+    let r = i.value;
+    let s = k.value;
+    let t = l.value;
+    let u = m.value;
+    let v = n.value;
+    same_value(o, s) & same_value(p, t) & same_value(q, u) & same_value(r, v)
 }
 
 fn same_rows(a: [Row; 16], b: [Row; 16]) -> bool {
     let mut i: usize = 0;
     while i < 16 {
-        let r = a[i];
-        let s = b[i];
-        let x = r.cells;
-        let y = s.cells;
-        if same_cells(x, y) {
+        if same_row(a[i], b[i]) {
             i += 1;
         } else {
             return false;
         }
     }
     true
+}
+
+pub fn same_kinds(a: [u8; 4], b: [u8; 4]) -> bool {
+    (a[0] == b[0]) & (a[1] == b[1]) & (a[2] == b[2]) & (a[3] == b[3])
 }
 
 pub fn same_relation(a: Relation, b: Relation) -> bool {

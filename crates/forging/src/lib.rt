@@ -1,6 +1,9 @@
-// Nets made by hand, for tests: a sound one with a node of each kind, others at their limits, and a comparison of every field.
-pub mod base;
+// Nets made by hand, for tests, and a comparison of every field.
 pub mod comparing;
-pub mod full;
+pub mod contents;
+pub mod exchanged;
+pub mod nodes;
 pub mod programs;
+pub mod stacks;
+pub mod threads;
 pub mod whole;

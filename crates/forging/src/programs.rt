@@ -1,6 +1,5 @@
 // The nodes of the net: node i is of kind 16 + i, and node 11 is a drop that the loops have as their body.
-use crate::base::CARD;
-use nets::Net;
+use crate::contents::CARD;
 use nets::Node;
 use rows::Field;
 use rows::Function;
@@ -9,7 +8,6 @@ use rows::Selector;
 use rows::Test;
 use values::Locality;
 use values::Operand;
-ghost use Prim.Native.Nat.{_<_};
 
 // ---- operands
 
@@ -182,14 +180,4 @@ pub fn nodes() -> [Node; 128] {
     nodes[10] = looping(26, 255);
     nodes[11] = placed(24, 255);
     nodes
-}
-
-// ---- one part exchanged
-
-pub fn with_node(net: Net, at: usize, node: Node) -> Net
-    requires { ⌜ at < 128 ⌝ }
-{
-    let mut next = net;
-    next.nodes[at] = node;
-    next
 }

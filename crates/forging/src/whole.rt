@@ -14,27 +14,16 @@ use nets::Node;
 use nets::Table;
 use nets::TableVariable;
 use nets::Thread;
-use values::Site;
 use values::Slot;
 
 // ---- aliases, tables, nodes
-
-fn same_site(a: Site, b: Site) -> bool {
-    a.0 == b.0
-}
-
-fn same_alias(a: Alias, b: Alias) -> bool {
-    let l = a.locality;
-    let m = b.locality;
-    same_site(a.site, b.site) & (l.0 == m.0) & same_site(a.means, b.means)
-}
 
 fn same_aliases(a: [Alias; 56], b: [Alias; 56]) -> bool {
     let mut i: usize = 0;
     while i < 56 {
         let x = a[i];
         let y = b[i];
-        if same_alias(x, y) {
+        if (x.site.0 == y.site.0) & (x.locality.0 == y.locality.0) & (x.means.0 == y.means.0) {
             i += 1;
         } else {
             return false;
@@ -43,18 +32,14 @@ fn same_aliases(a: [Alias; 56], b: [Alias; 56]) -> bool {
     true
 }
 
-fn same_table(a: Table, b: Table) -> bool {
-    let r = a.content;
-    let s = b.content;
-    same_site(a.site, b.site) & (a.name == b.name) & same_relation(r, s)
-}
-
 fn same_tables(a: [Table; 8], b: [Table; 8]) -> bool {
     let mut i: usize = 0;
     while i < 8 {
         let x = a[i];
         let y = b[i];
-        if same_table(x, y) {
+        let r = x.content;
+        let s = y.content;
+        if (x.site.0 == y.site.0) & (x.name == y.name) & same_relation(r, s) {
             i += 1;
         } else {
             return false;
@@ -113,20 +98,10 @@ fn same_nodes(a: [Node; 128], b: [Node; 128]) -> bool {
 
 // ---- threads
 
-fn same_entry(a: Entry, b: Entry) -> bool {
-    match a {
-        Entry::Run(i) => {
-            let Entry::Run(j) = b else {
-                return false;
-            };
-            i == j
-        }
-        Entry::Loop(i) => {
-            let Entry::Loop(j) = b else {
-                return false;
-            };
-            i == j
-        }
+fn entry_number(e: Entry) -> usize {
+    match e {
+        Entry::Run(i) => i as usize,
+        Entry::Loop(i) => 256 + (i as usize),
     }
 }
 
@@ -147,7 +122,7 @@ fn same_frame(a: Frame, b: Frame) -> bool {
     let f = b.entry;
     let v = a.visit;
     let w = b.visit;
-    same_entry(e, f) & same_visit(v, w)
+    (entry_number(e) == entry_number(f)) & same_visit(v, w)
 }
 
 fn same_stack(a: [Frame; 8], b: [Frame; 8]) -> bool {
@@ -189,7 +164,7 @@ fn same_thread(a: Thread, b: Thread) -> bool {
     let w = b.vars;
     let s = a.stack;
     let t = b.stack;
-    same_site(a.site, b.site)
+    (a.site.0 == b.site.0)
         & (a.depth == b.depth)
         & same_vars(v, w)
         & same_variable(a.relations[0], b.relations[0])

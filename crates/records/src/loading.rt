@@ -1,88 +1,28 @@
 // Loading: checks 1 to 9 in order, and the net and picks of a file that passes them.
 use crate::FileRead;
-use crate::Reach;
-use crate::aliases::aliases_from;
-use crate::blanks::blank_net;
-use crate::contents::rows_from;
-use crate::links::bad_link;
-use crate::nodes::nodes_from;
-use crate::picks::picks_from;
-use crate::starts::starts_from;
-use crate::tables::tables_from;
-use codec::forms::alias_form;
-use codec::forms::group_of;
-use codec::forms::pick_form;
-use codec::forms::row_form;
-use codec::forms::start_form;
-use codec::forms::table_form;
-use codec::nodes::node_form;
 use files::Loaded;
 use files::Verdict;
+use groups::aliases::aliases_from;
+use groups::blanks::blank_net;
+use groups::contents::rows_from;
+use groups::ending::reach_end;
+use groups::nodes::nodes_from;
+use groups::picks::picks_from;
+use groups::starts::starts_from;
 use nets::Net;
 use nets::Pick;
+use walks::Reach;
+use walks::links::bad_link;
+use walks::tables::tables_from;
 ghost use mathlib.Core.Path.{_≡_};
-ghost use mathlib.Core.Bool.{cond};
 ghost use Prim.Native.Nat.{_≤_, _*_};
 ghost use lib.ListN.{length};
 ghost use Rattle.nets.specs.View.{view};
-ghost use Rattle.codec.specs.Decoding.{recordIn, wholeRecords, recordsIn};
+ghost use Rattle.codec.specs.Decoding.{wholeRecords, recordsIn};
 ghost use Rattle.files.specs.Empty.{blankNet};
 ghost use Rattle.files.specs.Engine.{LoadIs, picksOf};
 ghost use Rattle.files.specs.Loading.{nothingRead, readAll};
-ghost use Rattle.records.specs.Walking.{Going, Ends, ending, decodedFault};
-
-fn formed(ok: bool) -> u8
-    ensures { λ r. ⌜ r ≡ cond ok 0 4 ⌝ }
-{
-    if ok {
-        return 0;
-    }
-    4
-}
-
-// Checks 3 and 4 of any record: the number of the one that fails, 0 for none.
-pub fn form_fault(r: &[u8]) -> u8
-    requires { ⌜ length (now r) ≡ 104 ⌝ }
-    ensures { λ o. ⌜ o ≡ decodedFault (recordIn (now (r .entry))) ⌝ }
-{
-    let group = group_of(r[0]);
-    match group {
-        1 => formed(alias_form(r)),
-        2 => formed(table_form(r)),
-        3 => formed(row_form(r)),
-        4 => formed(node_form(r)),
-        5 => formed(start_form(r)),
-        6 => formed(pick_form(r)),
-        _ => 3,
-    }
-}
-
-// A record that is left when all groups are past has a fault: 3 or 4, or it is of a group that is past.
-pub fn reach_end(file: &[u8], from: Reach) -> Reach
-    requires { ⌜ Going (now file) 7 from ⌝ }
-    ensures { λ r. ⌜ Ends (now (file .entry)) from r ⌝ }
-{
-    let i = from.place * 104;
-    if from.fault != 0 {
-        return from;
-    }
-    if file.len() <= i {
-        return from;
-    }
-    let fault = form_fault(&file[i..i + 104]);
-    if fault == 0 {
-        return Reach {
-            place: from.place,
-            group: from.group,
-            fault: 5,
-        };
-    }
-    Reach {
-        place: from.place,
-        group: from.group,
-        fault,
-    }
-}
+ghost use Rattle.walks.specs.Walking.{ending};
 
 // Checks 3 to 8, group after group.
 pub fn read_all(file: &[u8]) -> FileRead

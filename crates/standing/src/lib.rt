@@ -1,3 +1,4 @@
-// What stands after all picks, as bytes: tables and threads.
-pub mod stacks;
+// The calls: answers, and what stands after all picks, as bytes.
+pub mod answers;
+pub mod left;
 pub mod tables;

@@ -1,37 +1,16 @@
-// The tables left after all picks.
+// The tables left after all picks, and the call for them.
+use answering::running::run_picks;
 use calls::Reply;
-use calls::opening::open_file;
-use calls::running::run_picks;
 use files::Verdict;
-use files::Written;
+use layouts::replies::reply_to;
 use nets::Net;
+use opening::opening::open_file;
 use writing::writing::write;
-ghost use mathlib.Core.Path.{_≡_};
 ghost use lib.Dec.{T};
 ghost use Rattle.nets.specs.Sound.{sound};
 ghost use Rattle.nets.specs.View.{view};
 ghost use Rattle.calls.specs.Layouts.{tablesPut};
 ghost use Rattle.calls.specs.Calls.{picksIn, ifRoom, Gives, TablesIs};
-ghost use Rattle.calls.specs.Openings.{replyTo};
-
-fn reply_to(written: Written) -> Reply
-    ensures { λ r. ⌜ r ≡ replyTo written ⌝ }
-{
-    match written {
-        Written::Length(n) => Reply {
-            number: 0,
-            place: n,
-        },
-        Written::Unsound => Reply {
-            number: 10,
-            place: 0,
-        },
-        Written::Short => Reply {
-            number: 21,
-            place: 0,
-        },
-    }
-}
 
 fn tables_left(net: Net, picks: &[u8], out: &mut [u8]) -> Reply
     requires { ⌜ T (sound (view net)) ⌝ }

@@ -1,3 +1,2 @@
-// Tables written as 104-byte records: one record, and those of a whole net.
-pub mod puts;
+// Tables of a net written as 104-byte records.
 pub mod writing;

@@ -2,7 +2,7 @@
 
 use crate::chain::{preparing, with, with_net};
 use crate::nets::{net, Kind, NESTED};
-use crate::proved;
+use crate::proved::Start;
 use crate::timing::{best, timed};
 use engine::{run, sound, step_sound, Entry, Fault, Net, Pick, Thread};
 use std::time::Duration;
@@ -71,16 +71,17 @@ fn summed(net: &mut Net, picks: &[Pick]) -> (usize, usize) {
     done.fold((0, 0), |(added, taken), done| (added + done.added, taken + done.taken))
 }
 
-/// A call of the proved code builds its net and its list first, and sums over the net at the end. That time is had from runs over no picks, but for the test of soundness,
+/// A call of the proved code loads its net and makes its list first, and sums over the net at the end. That time is had from runs over no picks, but for the test of soundness,
 /// which those have too: it is measured by itself.
 fn proved_time(start: &Net, picks: &[Pick], turns: u64, rounds: usize) -> Option<Duration> {
     let mut net = start.clone();
     let (added, taken) = summed(&mut net, picks);
     let expected = with_net(with(with(0, added as u64), taken as u64), &net);
-    assert_eq!(proved::runs(NESTED, picks, 1)?, expected, "the runs differ");
-    let all = best(rounds, || timed(|| proved::runs(NESTED, picks, turns)).1);
-    let none = best(rounds, || timed(|| proved::runs(NESTED, &[], turns)).1);
-    let tests = best(rounds, || timed(|| proved::tests(NESTED, turns)).1);
-    let building = best(rounds, || timed(|| proved::tests(NESTED, 0)).1);
-    Some((all - none + (tests - building)) / turns as u32)
+    let proved = Start::new(NESTED);
+    assert_eq!(proved.runs(picks, 1)?, expected, "the runs differ");
+    let all = best(rounds, || timed(|| proved.runs(picks, turns)).1);
+    let none = best(rounds, || timed(|| proved.runs(&[], turns)).1);
+    let tests = best(rounds, || timed(|| proved.tests(turns)).1);
+    let loading = best(rounds, || timed(|| proved.tests(0)).1);
+    Some((all - none + (tests - loading)) / turns as u32)
 }

@@ -13,6 +13,7 @@ mod tests;
 mod timing;
 
 use nets::KINDS;
+use proved::Start;
 use second::Second;
 use std::time::Duration;
 use timing::timed;
@@ -31,12 +32,12 @@ fn main() {
     println!("{HEAD}");
     for kind in KINDS {
         let second = Second::new(kind).expect("files that load");
-        if let Some(sum) = proved::left(kind) {
+        let proved = Start::new(kind);
+        if let Some(sum) = proved.left() {
             assert_eq!(sum, second.left(), "{}: the nets left differ", kind.name);
         }
-        let steps = compared(|| second.steps(TURNS), |turns| proved::steps(kind, turns));
-        let sound =
-            compared(|| second.sound_steps(TURNS), |turns| proved::sound_steps(kind, turns));
+        let steps = compared(|| second.steps(TURNS), |turns| proved.steps(turns));
+        let sound = compared(|| second.sound_steps(TURNS), |turns| proved.sound_steps(turns));
         let picks = second.picks() as f64 * TURNS as f64;
         println!("| {} | {} | {} |", kind.name, columns(steps, picks), columns(sound, picks));
     }
@@ -62,7 +63,7 @@ fn main() {
 }
 
 /// The best times of the second engine and of the proved code, measured in turn, with equal sums.
-/// A call of the proved code builds its net first: that time, of no chains, is taken off.
+/// A call of the proved code loads its net first: that time, of no chains, is taken off.
 fn compared(
     second: impl Fn() -> (u64, Duration),
     proved: impl Fn(u64) -> Option<u64>,

@@ -1,4 +1,4 @@
-//! A net at the limits for each kind of step, as files. Crate `bench` builds the same nets by code.
+//! A net at the limits for each kind of step, as files, which both engines load.
 
 use engine::{load, Fault, Net};
 use generate::record::{self, *};
@@ -30,7 +30,7 @@ pub const NODES: u8 = 128;
 
 const COLUMNS: [u8; 4] = [INT, TEXT, INT, LOC];
 
-/// A file has at most 256 records, which is too few for all of such a net, so there are two.
+/// A file has at most 256 records, which is too few for all of such a net, so there are two. Crate `bench` puts the net together in the same way.
 pub fn net(kind: Kind) -> Result<Net, Fault> {
     let [(_, tables), (_, program)] = files(kind);
     let (tables, _) = load(&tables)?;

@@ -15,10 +15,10 @@ tested true e h = subst T e tt
 tested false e h = absurd (subst T h tt)
 
 abbrev Inv-loop : tie.InvT-loop
-Inv-loop kind turns net sum₀ i₀ sum i = T (sound (view net))
+Inv-loop tables program kind turns net sum₀ i₀ sum i = T (sound (view net))
 
 abbrev μ-loop : tie.MeasureT-loop
-μ-loop kind turns net sum₀ i₀ sum i = turns - i
+μ-loop tables program kind turns net sum₀ i₀ sum i = turns - i
 
 loop-holds : tie.Need-loop-holds Inv-loop μ-loop
 loop-holds c = tested (c .before .sound-net .result) (c .before .sound-net .ensures) (c .if1 .left)
@@ -29,7 +29,6 @@ bench-sound-steps-spec =
     (tie.spec
     Inv-loop
     μ-loop
-    (λ c κs. search needs)
     (λ c κs. search needs)
     (λ c κs. search needs)
     (λ c. search needs)

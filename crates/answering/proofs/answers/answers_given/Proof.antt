@@ -9,7 +9,7 @@ use Rattle.nets.specs.Nets.{Net}
 use Rattle.calls.specs.Layouts.{answersPut}
 use Rattle.calls.specs.Calls.{picksIn, ifRoom, Gives}
 use Rattle.calls.proofs.CallLaws.{gives-short, gives-put}
-use Rattle.answering.proofs.AnswerLaws.{answers-size}
+use Rattle.layouts.proofs.AnswerLaws.{answers-size}
 use Rattle.answering.proofs.answers.answers_given.Statement.{statement}
 use Rattle.answering.proofs.answers.answers_given.Tie as tie
 

@@ -13,7 +13,7 @@ use Rattle.nets.specs.View.{view}
 use Rattle.codec.specs.Encoding.{endToEnd}
 use Rattle.codec.proofs.Stores.{kept-length}
 use Rattle.calls.specs.Calls.{picksIn}
-use Rattle.answering.proofs.AnswerLaws.{bytesOf, noOutcome, answers-on, answer-more, answers-over}
+use Rattle.layouts.proofs.AnswerLaws.{bytesOf, noOutcome, answers-on, answer-more, answers-over}
 use Rattle.answering.proofs.answers.put_answers.Statement.{statement}
 use Rattle.answering.proofs.answers.put_answers.Tie as tie
 

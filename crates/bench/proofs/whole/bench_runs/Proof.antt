@@ -5,10 +5,10 @@ use Rattle.bench.proofs.whole.bench_runs.Statement.{statement}
 use Rattle.bench.proofs.whole.bench_runs.Tie as tie
 
 abbrev Inv-loop : tie.InvT-loop
-Inv-loop kind bytes turns net picks count sum₀ i₀ sum i = (count ≤ 100000)
+Inv-loop tables program bytes turns net picks count sum₀ i₀ sum i = (count ≤ 100000)
 
 abbrev μ-loop : tie.MeasureT-loop
-μ-loop kind bytes turns net picks count sum₀ i₀ sum i = turns - i
+μ-loop tables program bytes turns net picks count sum₀ i₀ sum i = turns - i
 
 pub bench-runs-spec : {M : Type 1} → statement M
 bench-runs-spec =
@@ -16,7 +16,6 @@ bench-runs-spec =
     (tie.spec
     Inv-loop
     μ-loop
-    (λ c κs. search needs)
     (λ c κs. search needs)
     (λ c κs. search needs)
     (λ c κs. search needs)

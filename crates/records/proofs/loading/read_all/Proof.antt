@@ -7,9 +7,9 @@ use Rattle.nets.specs.declared.Pick.{Pick}
 use Rattle.nets.specs.Nets.{Table, Node, Thread}
 use Rattle.nets.specs.View.{view}
 use Rattle.codec.specs.Decoding.{recordsIn}
-use Rattle.records.specs.declared.Reach.{Reach}
+use Rattle.walks.specs.declared.Reach.{Reach}
 use Rattle.files.specs.Loading.{nothingRead, readAll}
-use Rattle.records.specs.Walking.{putAliases, putTables, putNodes, putThreads, putPicks, rest, Leads, Ends, ending}
+use Rattle.walks.specs.Walking.{putAliases, putTables, putNodes, putThreads, putPicks, rest, Leads, Ends, ending}
 use borrow.Author.Needs.{needs}
 use Rattle.records.proofs.loading.read_all.Statement.{statement}
 use Rattle.records.proofs.loading.read_all.Tie as tie

@@ -17,7 +17,7 @@ use Rattle.nets.proofs.SoundLaws.{clauses}
 use Rattle.files.specs.declared.Written.{Written}
 use Rattle.files.specs.Writing.{notWritten, refusing, write, written, writtenAnswer, bufferAfter}
 use Rattle.files.specs.Engine.{saidWritten}
-use Rattle.writing.specs.WriteCall.{ifRoom}
+use Rattle.filling.specs.WriteCall.{ifRoom}
 use borrow.Author.Needs.{needs}
 use Rattle.writing.proofs.writing.write.Statement.{statement}
 use Rattle.writing.proofs.writing.write.Tie as tie

@@ -1,0 +1,17 @@
+// Picks held as bytes, two each.
+use nets::Pick;
+ghost use mathlib.Core.Path.{_≡_};
+ghost use Prim.Native.Nat.{_+_, _*_, _<_};
+ghost use lib.ListN.{length, getD};
+ghost use Rattle.files.specs.Engine.{noPick};
+ghost use Rattle.calls.specs.Calls.{picksIn};
+
+pub fn pick_at(picks: &[u8], i: usize) -> Pick
+    requires { ⌜ i * 2 + 1 < length (now picks) ⌝ }
+    ensures { λ r. ⌜ r ≡ getD (picksIn (now (picks .entry))) i noPick ⌝ }
+{
+    Pick {
+        thread: picks[i * 2],
+        row: picks[i * 2 + 1],
+    }
+}

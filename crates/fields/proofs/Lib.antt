@@ -1,0 +1,2 @@
+-- Laws of fields and records put into their bytes.
+pub mod WriteLaws

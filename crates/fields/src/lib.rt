@@ -1,0 +1,2 @@
+// Fields of a record put into their bytes.
+pub mod fields;

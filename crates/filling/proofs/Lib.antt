@@ -1,0 +1,2 @@
+-- Laws of all tables put into their bytes.
+pub mod WholeLaws

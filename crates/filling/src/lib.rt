@@ -1,0 +1,2 @@
+// All tables written into a lent buffer.
+pub mod tables;

@@ -1,0 +1,2 @@
+-- Laws of answers as bytes.
+pub mod AnswerLaws

@@ -1,0 +1,66 @@
+// One answer as 24 bytes.
+use nets::Answer;
+use nets::Refusal;
+ghost use mathlib.Core.Path.{_≡_};
+ghost use lib.ListN.{length};
+ghost use Rattle.nets.specs.Answers.{numberOf, saidOf};
+ghost use Rattle.calls.specs.Layouts.{eightBytes, threeBytes, answerBytes};
+
+// ---- one answer
+
+fn number_of(why: Refusal) -> usize
+    ensures { λ r. ⌜ r ≡ numberOf why ⌝ }
+{
+    match why {
+        Refusal::Unsound => 10,
+        Refusal::NoThread => 11,
+        Refusal::Unbound => 12,
+        Refusal::NoPlace => 13,
+        Refusal::NoTable => 14,
+        Refusal::TableThere => 15,
+        Refusal::Misfit => 16,
+        Refusal::Held => 17,
+        Refusal::NoResult => 18,
+        Refusal::NotReady => 19,
+        Refusal::Full => 20,
+    }
+}
+
+// Eight bytes, little endian.
+fn put_number(out: &mut [u8], n: usize)
+    requires { ⌜ length (now out) ≡ 8 ⌝ }
+    ensures { λ _. ⌜ now (out .exit) ≡ eightBytes n ⌝ }
+{
+    let high = n / 4294967296;
+    out[0] = (n % 256) as u8;
+    out[1] = (n / 256 % 256) as u8;
+    out[2] = (n / 65536 % 256) as u8;
+    out[3] = (n / 16777216 % 256) as u8;
+    out[4] = (high % 256) as u8;
+    out[5] = (high / 256 % 256) as u8;
+    out[6] = (high / 65536 % 256) as u8;
+    out[7] = (high / 16777216 % 256) as u8;
+}
+
+fn put_three(out: &mut [u8], number: usize, added: usize, taken: usize)
+    requires { ⌜ length (now out) ≡ 24 ⌝ }
+    ensures { λ _. ⌜ now (out .exit) ≡ threeBytes number added taken ⌝ }
+{
+    put_number(&mut out[0..8], number);
+    put_number(&mut out[8..16], added);
+    put_number(&mut out[16..24], taken);
+}
+
+pub fn put_answer(out: &mut [u8], answer: Answer)
+    requires { ⌜ length (now out) ≡ 24 ⌝ }
+    ensures { λ _. ⌜ now (out .exit) ≡ answerBytes (saidOf answer) ⌝ }
+{
+    match answer {
+        Answer::Done(added, taken) => {
+            put_three(out, 0, added, taken);
+        }
+        Answer::Refused(why) => {
+            put_three(out, number_of(why), 0, 0);
+        }
+    }
+}

@@ -1,0 +1,3 @@
+// Answers and replies as a call hands them out.
+pub mod answers;
+pub mod replies;

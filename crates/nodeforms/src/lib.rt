@@ -1,0 +1,4 @@
+// Records with operands: rows and nodes.
+pub mod nodes;
+pub mod operands;
+pub mod tuples;

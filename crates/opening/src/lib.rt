@@ -1,0 +1,2 @@
+// What every call of another program begins with.
+pub mod opening;

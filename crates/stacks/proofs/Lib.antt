@@ -1,0 +1,2 @@
+-- Laws of threads as bytes.
+pub mod ThreadLaws

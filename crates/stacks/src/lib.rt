@@ -1,0 +1,2 @@
+// Threads put into their bytes.
+pub mod stacks;

@@ -1,3 +1,0 @@
--- Laws for the code of writing.
-pub mod WholeLaws
-pub mod WriteLaws
