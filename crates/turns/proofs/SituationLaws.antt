@@ -236,5 +236,6 @@ module _ (s : Situation) (q : Code.Relation) (i : SourceIs s q) where
         source = i .shaped;
         template = fine-template s f;
         tuple = fine-tuple s f;
+        own = i .own;
         complete = known-complete s k f;
       }
