@@ -70,10 +70,10 @@ turned-both s m r ps qs a b = record {
 -- a refused pick
 refuses : (s : Ran) (p : Pick) {n : ℕ} → s .sound ≡ sound (view (s .net)) → step (view (s .net)) p ≡ refused n [] → Turned s (p ∷ []) s
 unfolding after nextNet answers
-refuses s p f no = record {
-  after = ap (netLeft (view (s .net))) (sym no);
-  added = let n = ap addedIn no in omega (arith, n);
-  taken = let n = ap takenIn no in omega (arith, n);
+refuses s p f said = record {
+  after = ap (netLeft (view (s .net))) (sym said);
+  added = let n = ap addedIn said in omega (arith, n);
+  taken = let n = ap takenIn said in omega (arith, n);
   kept = λ k. refl;
   flag = f;
   addedRoom = omega arith;

@@ -13,7 +13,7 @@ use Rattle.nets.specs.Sound.{sound}
 use Rattle.nets.specs.Accounts.{after}
 use Rattle.nets.specs.View.{noThread, threadOf, threadsOf, view}
 use Rattle.nets.proofs.SoundLaws.{clauses}
-use Rattle.steps.proofs.SceneTies.{thread-stacked}
+use Rattle.picking.proofs.SceneTies.{thread-stacked}
 use Rattle.codec.specs.Encoding.{endToEnd}
 use Rattle.codec.proofs.Stores.{ends-length}
 use Rattle.calls.specs.Layouts.{threadBytes, threadsPut}
