@@ -1,6 +1,5 @@
 // Check 12: what a node reads is bound.
 use nets::Node;
-use nets::TableVariable;
 use nets::kinds::reads_relation;
 use rows::Field;
 use rows::Operands;
@@ -10,7 +9,7 @@ use values::Operand;
 use values::Slot;
 ghost use mathlib.Core.Path.{_≡_};
 ghost use mathlib.Core.Bool.{cond, _&&_, _||_};
-ghost use mathlib.Core.List.{[], _∷_, map};
+ghost use mathlib.Core.List.{[], _∷_};
 ghost use Prim.Native.Nat.{ℕ, _<_};
 ghost use lib.Dec.{ltb};
 ghost use lib.ListN.{getD};
@@ -18,8 +17,8 @@ ghost use Rattle.values.specs.Lists.{all, among};
 ghost use Rattle.values.specs.declared.Operand.the-variants.{Absent};
 ghost use Rattle.values.specs.Operands.{isGot, reads, formals, varsOf};
 ghost use Rattle.rows.specs.View.{operandsOf, Short};
-ghost use Rattle.nets.specs.Steps.{isBound, isBoundTable, readsOk};
-ghost use Rattle.nets.specs.View.{nodeOf, variableOf};
+ghost use Rattle.nets.specs.Steps.{isBound, readsOk};
+ghost use Rattle.nets.specs.View.{nodeOf};
 ghost use Rattle.acts.specs.Contracts.{flagAt, knownFrom};
 
 // ---- flags
@@ -31,15 +30,6 @@ pub fn is_got(g: Got) -> bool
         Got::Nothing => false,
         Got::One(_) => true,
     }
-}
-
-// The table variables that are bound.
-pub fn bound_table_flags(relations: [TableVariable; 2]) -> [bool; 2]
-    ensures { λ r. ⌜ ((i : ℕ) → flagAt r i ≡ isBoundTable (map variableOf relations) i) ⌝ }
-{
-    let a = relations[0];
-    let b = relations[1];
-    [a.bound, b.bound]
 }
 
 pub fn flag_in(flags: [bool; 16], i: u8) -> bool

@@ -1,8 +1,6 @@
 // Classes of node kinds, by the kind byte.
 ghost use mathlib.Core.Path.{_≡_};
-ghost use mathlib.Core.Bool.{not};
-ghost use lib.Dec.{eqb};
-ghost use Rattle.nets.specs.Nets.{code, hasPlace, needsTable, hasTemplate, hasTest, hasTuple, isSelect, readsRelation, bindsRelation, isLoop};
+ghost use Rattle.nets.specs.Nets.{hasPlace, needsTable, hasTest, hasTuple, isSelect, readsRelation, bindsRelation, isLoop};
 ghost use Rattle.nets.specs.View.{kindAt};
 
 // The step has an L and a name.
@@ -21,16 +19,6 @@ pub fn needs_table(kind: u8) -> bool
 {
     match kind {
         16 | 17 | 18 | 19 | 21 | 22 | 24 => true,
-        _ => false,
-    }
-}
-
-// The step has a T.
-pub fn has_template(kind: u8) -> bool
-    ensures { λ r. ⌜ r ≡ hasTemplate (kindAt kind) ⌝ }
-{
-    match kind {
-        18 | 19 | 20 | 21 | 22 | 25 | 26 => true,
         _ => false,
     }
 }
@@ -89,16 +77,6 @@ pub fn is_loop(kind: u8) -> bool
 {
     match kind {
         25 | 26 => true,
-        _ => false,
-    }
-}
-
-// One of the eleven.
-pub fn is_known(kind: u8) -> bool
-    ensures { λ r. ⌜ r ≡ not (eqb (code (kindAt kind)) 0) ⌝ }
-{
-    match kind {
-        16..=26 => true,
         _ => false,
     }
 }

@@ -3,7 +3,6 @@ use crate::Cell;
 use crate::Draft;
 use crate::Operands;
 use crate::Place;
-use crate::Relation;
 use crate::Row;
 use crate::Terms;
 use crate::plans::term_of;
@@ -20,9 +19,9 @@ ghost use lib.ListN.{getD};
 ghost use Rattle.values.specs.Lists.{all};
 ghost use Rattle.values.specs.Operands.{varsOf, isGot, valuesIn, valueIn, eval};
 ghost use Rattle.values.specs.declared.Got.the-variants.{One};
-ghost use Rattle.rows.specs.Fit.{draft, ofKind, fits, fitsRow, relationFits, sameColumns};
-ghost use Rattle.rows.specs.View.{noCell, noField, operandsOf, valuesOf, columnsOf, relationOf, draftOf, Short, Shaped};
-ghost use Rattle.rows.specs.Plans.{termOf, noPlace, termsIn};
+ghost use Rattle.rows.specs.Fit.{draft, ofKind, fits, sameColumns};
+ghost use Rattle.rows.specs.View.{noField, operandsOf, valuesOf, columnsOf, draftOf, Short};
+ghost use Rattle.rows.specs.Plans.{termOf, termsIn};
 
 // ---- tuples prepared for rows that match T
 
@@ -77,31 +76,6 @@ pub fn draft_of(t: Operands, vars: [Slot; 16]) -> Draft
     }
 }
 
-pub fn slot_in(row: Row, i: usize) -> Slot
-    requires { ⌜ i < 4 ⌝ }
-    ensures { λ r. ⌜ r .held ≡ One (getD (row .cells) i noCell .value) ⌝ }
-{
-    let c = row.cells[i];
-    let v = c.value;
-    let held = Got::One(v);
-    Slot { held }
-}
-
-// A stored row as a draft, so that its fit is judged like any other.
-pub fn draft_in(row: Row, columns: usize) -> Draft
-    requires { ⌜ columns ≤ 4 ⌝ }
-    ensures { λ o. ⌜ (draftOf o ≡ map One (valuesOf columns row)) × (o .count ≡ columns) ⌝ }
-{
-    let a = slot_in(row, 0);
-    let b = slot_in(row, 1);
-    let c = slot_in(row, 2);
-    let d = slot_in(row, 3);
-    Draft {
-        slots: [a, b, c, d],
-        count: columns,
-    }
-}
-
 pub fn cell_of(s: Slot) -> Cell
     ensures { λ r. ⌜ r .value ≡ valueIn (s .held) ⌝ }
 {
@@ -152,33 +126,6 @@ pub fn fits_columns(columns: usize, kinds: [u8; 4], d: Draft) -> bool
         let s = d.slots[i];
         let g = s.held;
         if of_kind(k, g) {
-            i += 1;
-        } else {
-            return false;
-        }
-    }
-    true
-}
-
-pub fn row_fits(row: Row, columns: usize, kinds: [u8; 4]) -> bool
-    requires { ⌜ columns ≤ 4 ⌝ }
-    ensures { λ r. ⌜ r ≡ fitsRow (columnsOf columns kinds) (valuesOf columns row) ⌝ }
-{
-    fits_columns(columns, kinds, draft_in(row, columns))
-}
-
-// Every row of a relation fits its columns.
-pub fn rows_fit(r: Relation) -> bool
-    requires { ⌜ Shaped r ⌝ }
-    ensures { λ o. ⌜ o ≡ relationFits (relationOf r) ⌝ }
-{
-    let columns = r.columns;
-    let kinds = r.kinds;
-    let count = r.count;
-    let mut i: usize = 0;
-    while i < count {
-        let row = r.rows[i];
-        if row_fits(row, columns, kinds) {
             i += 1;
         } else {
             return false;
