@@ -53,14 +53,14 @@ record Sized (net : Net) : Type 0 where
 
 abbrev Inv-loop : tie.InvT-loop
 Inv-loop count picks net₀ added₀ taken₀ answer₀ i₀ net added taken answer i =
-    Sized net × (i ≤ count) × GoneIs net₀ (take i picks) added₀ taken₀ (record { net = net; answer = answer; added = added; taken = taken })
+    (i ≤ count) × GoneIs net₀ (take i picks) added₀ taken₀ (record { net = net; answer = answer; added = added; taken = taken }) × Sized net
 
 abbrev μ-loop : tie.MeasureT-loop
 μ-loop count picks net₀ added₀ taken₀ answer₀ i₀ net added taken answer i = count - i
 
 loop-holds : tie.Need-loop-holds Inv-loop μ-loop
 loop-holds c =
-    (record { aliases = search (long, needs); tables = search (long, needs); threads = search (long, needs) }, omega arith, gone-none (c .args .from) (c .args .before) (c .args .gone) (c .pre .0))
+    (omega arith, gone-none (c .args .from) (c .args .before) (c .args .gone) (c .pre .0), record { aliases = search (long, needs); tables = search (long, needs); threads = search (long, needs) })
 
 -- ── where a pick begins ──
 
@@ -78,7 +78,7 @@ abbrev goneAt : tie.At-loop Inv-loop μ-loop → Gone
 goneAt l = record { net = l .loop .net; answer = l .loop .answer; added = l .loop .added; taken = l .loop .taken }
 
 ok : (l : tie.At-loop Inv-loop μ-loop) → T (sound (view (netAt l)))
-ok l = l .loop .inv .2 .sound
+ok l = l .loop .inv .1 .sound
 
 picks-long : (l : tie.At-loop Inv-loop μ-loop) → length (l .before .args .t2) ≡ 64
 picks-long l = search (long, needs)
@@ -88,9 +88,9 @@ loop-again c =
     let l = c .before .before .before .before in
     let a = l .before .args in
     let x =
-    gone-again (a .from) (a .t2) (l .loop .i) (a .count) noPick (a .before) (a .gone) (goneAt l) _ (c .before .before .before .loop-test .taken) (omega (arith, picks-long l, l .before .pre .1)) (l .loop .inv .2)
+    gone-again (a .from) (a .t2) (l .loop .i) (a .count) noPick (a .before) (a .gone) (goneAt l) _ (c .before .before .before .loop-test .taken) (omega (arith, picks-long l, l .before .pre .1)) (l .loop .inv .1)
     (turned-refused (goneAt l) (pickAt l) _ refl (past-refused (netAt l) (pickAt l) (ok l) (c .if1 .taken))) in
-    (l .loop .inv .0, x .0, x .1)
+    (x .0, x .1, l .loop .inv .2)
 
 -- ── the thread and its node ──
 
@@ -142,7 +142,7 @@ held-at j h = either (j .if2 .came) (λ x. x .3 ∙ x .2 .ensures) (λ x. absurd
 -- ── where L leads, and the table there ──
 
 site-of-requires : tie.Need-site-of-requires Inv-loop μ-loop
-site-of-requires c κs = let l = loopOf (elseOf (c .before .before .before .before .before)) in few-aliases (netAt l) (ok l) (l .loop .inv .0 .aliases)
+site-of-requires c κs = let l = loopOf (elseOf (c .before .before .before .before .before)) in few-aliases (netAt l) (ok l) (l .loop .inv .2 .aliases)
 
 find-table-requires : tie.Need-find-table-requires Inv-loop μ-loop
 find-table-requires c κs = let l = loopOf (elseOf (c .before .before .before .before .before .before .before .before)) in few-tables (netAt l) (ok l)
@@ -218,10 +218,10 @@ loop-again-2 c =
     let l = loopOf e in
     let a = l .before .args in
     let x =
-    gone-again (a .from) (a .t2) (l .loop .i) (a .count) noPick (a .before) (a .gone) (goneAt l) _ (e .before .before .before .loop-test .taken) (omega (arith, picks-long l, l .before .pre .1)) (l .loop .inv .2)
+    gone-again (a .from) (a .t2) (l .loop .i) (a .count) noPick (a .before) (a .gone) (goneAt l) _ (e .before .before .before .loop-test .taken) (omega (arith, picks-long l, l .before .pre .1)) (l .loop .inv .1)
     (turned-refused (goneAt l) (pickAt l) (o .decide .result .answer) (c .enum-told .given .1)
     (change-refused (netAt l) (pickAt l) (ok l) (there e) (decided o .at _ (meets (shownOf o)) .answer) (c .enum-told .given .1))) in
-    (l .loop .inv .0, x .0, x .1)
+    (x .0, x .1, l .loop .inv .2)
 
 -- ── a done step ──
 
@@ -236,7 +236,7 @@ room c =
     let e = begun (shownOf (decideOf c)) in
     let l = loopOf e in
     let a = l .before .args in
-    gone-room (a .from) (a .t2) (l .loop .i) (a .count) (a .before) (a .gone) (goneAt l) (l .loop .inv .2) (e .before .before .before .loop-test .taken) (l .before .pre .1) (picks-long l) (l .before .pre .2) (l .before .pre .3)
+    gone-room (a .from) (a .t2) (l .loop .i) (a .count) (a .before) (a .gone) (goneAt l) (l .loop .inv .1) (e .before .before .before .loop-test .taken) (l .before .pre .1) (picks-long l) (l .before .pre .2) (l .before .pre .3)
 
 plus-requires : tie.Need-plus-requires Inv-loop μ-loop
 plus-requires c κs = room c .0
@@ -354,7 +354,7 @@ change j m = let o = decideOf (toldOf (j .before)) in decided o .at _ (meets (sh
 -- one pick more
 again :
     (j : tie.Joined3 Inv-loop μ-loop) (n : Net) → Sized n → StepIs (netAt (loopOf (elseIn j))) (pickAt (loopOf (elseIn j))) (record { answer = decideOf (toldOf (j .before)) .decide .result .answer; net = n }) →
-    Sized n × (loopOf (elseIn j) .loop .i + 1 ≤ loopOf (elseIn j) .before .args .count)
+    (loopOf (elseIn j) .loop .i + 1 ≤ loopOf (elseIn j) .before .args .count)
     × GoneIs (loopOf (elseIn j) .before .args .from) (take (loopOf (elseIn j) .loop .i + 1) (loopOf (elseIn j) .before .args .t2)) (loopOf (elseIn j) .before .args .before) (loopOf (elseIn j) .before .args .gone)
     (record {
       net = n;
@@ -362,15 +362,16 @@ again :
       added = tableOfStep j .before .before .plus .result;
       taken = tableOfStep j .before .plus2 .result;
     })
+    × Sized n
 again j n z is =
     let k = toldOf (j .before) in
     let e = elseIn j in
     let l = loopOf e in
     let a = l .before .args in
     let x =
-    gone-again (a .from) (a .t2) (l .loop .i) (a .count) noPick (a .before) (a .gone) (goneAt l) _ (e .before .before .before .loop-test .taken) (omega (arith, picks-long l, l .before .pre .1)) (l .loop .inv .2)
+    gone-again (a .from) (a .t2) (l .loop .i) (a .count) noPick (a .before) (a .gone) (goneAt l) _ (e .before .before .before .loop-test .taken) (omega (arith, picks-long l, l .before .pre .1)) (l .loop .inv .1)
     (turned-done (goneAt l) (pickAt l) (decideOf k .decide .result .answer) n (tableOfStep j .before .before .plus .result) (tableOfStep j .before .plus2 .result) (k .before .answer .given .1) is (tableOfStep j .before .before .plus .ensures) (tableOfStep j .before .plus2 .ensures)) in
-    (z, x .0, x .1)
+    (x .0, x .1, z)
 
 -- ── lists that grow or close up ──
 
@@ -422,12 +423,12 @@ loop-again-3 c =
     let e = elseIn j in
     let l = loopOf e in
     let x =
-    again j (netWith (netAt l) (t .tables-after .result) (h .threads-after .result)) (record { aliases = l .loop .inv .0 .aliases; tables = tables-long t; threads = threads-long h })
+    again j (netWith (netAt l) (t .tables-after .result) (h .threads-after .result)) (record { aliases = l .loop .inv .2 .aliases; tables = tables-long t; threads = threads-long h })
     (done-is (netAt l) (pickAt l) (ok l) (there e) (read (shownOf (decideOf (toldOf (j .before))))) (change j (with-fork f)) (toldOf (j .before) .before .answer .given .1) (t .tables-after .result) (h .threads-after .result)
     (t .tables-after .ensures .0)
     (h .threads-after .ensures .0
     ∙ ap (λ (u : Thread). settle (pickAt l .thread) (standing (threadOf u)) (threadsOf (netAt l .threadcount) (netAt l .threads)) ++ forksOf (decideOf (toldOf (j .before)) .decide .result .forks) (f .forked .result)) (moved-is j))) in
-    (x .0, x .1, record { left = x .2 .left; sound = x .2 .sound; kept = x .2 .kept; last = ap saidOf (sym (toldOf (j .before) .before .answer .given .1)) ∙ x .2 .last; added = x .2 .added; taken = x .2 .taken; addedRoom = x .2 .addedRoom; takenRoom = x .2 .takenRoom })
+    (x .0, record { left = x .1 .left; sound = x .1 .sound; kept = x .1 .kept; last = ap saidOf (sym (toldOf (j .before) .before .answer .given .1)) ∙ x .1 .last; added = x .1 .added; taken = x .1 .taken; addedRoom = x .1 .addedRoom; takenRoom = x .1 .takenRoom }, x .2)
 
 -- ── places that stay ──
 
@@ -473,7 +474,7 @@ tables-stored c =
     let l = loopOf e in
     let n = netAt l in
     let fresh = tableOfStep j .table-after in
-    plain-tables (n .tablecount) (n .tables) (slotIn j .before .find-table .result) (slotIn j .slot-at .result) (situationAt (shownOf o) .node .kind) (fresh .result) (slotIn j .before .before .before .site-in .result) (nodeOf (situationAt (shownOf o) .node)) (l .loop .inv .0 .tables)
+    plain-tables (n .tablecount) (n .tables) (slotIn j .before .find-table .result) (slotIn j .slot-at .result) (situationAt (shownOf o) .node .kind) (fresh .result) (slotIn j .before .before .before .site-in .result) (nodeOf (situationAt (shownOf o) .node)) (l .loop .inv .2 .tables)
     (few-tables n (ok l)) (slotIn j .slot-at .ensures) (fresh .ensures .0) (fresh .ensures .1) (fresh .ensures .3) (tables-ready n (pickAt l) (ok l) (there e) (read (shownOf o)) (change j (no-fork c)) (k .before .answer .given .1) .1) (tests c .2) (tests c .3)
 
 threads-stored :
@@ -487,7 +488,7 @@ threads-stored c =
     let e = elseIn j in
     let l = loopOf e in
     let n = netAt l in
-    plain-threads (n .threadcount) (n .threads) (pickAt l .thread) (j .if3 .thread) (j .if3 .thread) (l .loop .inv .0 .threads) (there e) (few-threads n (ok l))
+    plain-threads (n .threadcount) (n .threads) (pickAt l .thread) (j .if3 .thread) (j .if3 .thread) (l .loop .inv .2 .threads) (there e) (few-threads n (ok l))
     (subst (λ (t : Thread). 1 ≤ t .depth) (sym (moved-is j)) (some-depth (o .decide .result .depth) (tests c .0))) (tests c .1)
     ∙ ap (λ (u : Thread). settle (pickAt l .thread) (standing (threadOf u)) (threadsOf (n .threadcount) (n .threads)) ++ forksOf (o .decide .result .forks) (j .if3 .thread)) (moved-is j)
 
@@ -497,19 +498,19 @@ loop-again-4 c =
     let e = elseIn j in
     let l = loopOf e in
     let n = netAt l in
-    let z = l .loop .inv .0 in
+    let z = l .loop .inv .2 in
     let ts : TableList = record { tables = set (n .tables) (slotIn j .slot-at .result) (tableOfStep j .table-after .result); count = n .tablecount } in
     let hs : ThreadList = record { threads = set (n .threads) (pickAt l .thread) (j .if3 .thread); count = n .threadcount } in
     let x =
     again j (netWith n ts hs) (record { aliases = z .aliases; tables = length-set (n .tables) (slotIn j .slot-at .result) (tableOfStep j .table-after .result) ∙ z .tables; threads = length-set (n .threads) (pickAt l .thread) (j .if3 .thread) ∙ z .threads })
     (done-is n (pickAt l) (ok l) (there e) (read (shownOf (decideOf (toldOf (j .before))))) (change j (no-fork c)) (toldOf (j .before) .before .answer .given .1) ts hs (tables-stored c) (threads-stored c)) in
-    (x .0, x .1, record { left = x .2 .left; sound = x .2 .sound; kept = x .2 .kept; last = ap saidOf (sym (toldOf (j .before) .before .answer .given .1)) ∙ x .2 .last; added = x .2 .added; taken = x .2 .taken; addedRoom = x .2 .addedRoom; takenRoom = x .2 .takenRoom })
+    (x .0, record { left = x .1 .left; sound = x .1 .sound; kept = x .1 .kept; last = ap saidOf (sym (toldOf (j .before) .before .answer .given .1)) ∙ x .1 .last; added = x .1 .added; taken = x .1 .taken; addedRoom = x .1 .addedRoom; takenRoom = x .1 .takenRoom }, x .2)
 
 returns : tie.Need-returns Inv-loop μ-loop
 returns c =
     let l = c .before in
-    let same : l .loop .i ≡ l .before .args .count = omega (arith, l .loop .inv .1, c .loop-test .left) in
-    subst (λ (i : ℕ). GoneIs (l .before .args .from) (take i (l .before .args .t2)) (l .before .args .before) (l .before .args .gone) (goneAt l)) same (l .loop .inv .2)
+    let same : l .loop .i ≡ l .before .args .count = omega (arith, l .loop .inv .0, c .loop-test .left) in
+    subst (λ (i : ℕ). GoneIs (l .before .args .from) (take i (l .before .args .t2)) (l .before .args .before) (l .before .args .gone) (goneAt l)) same (l .loop .inv .1)
 
 -- ── the loop ends ──
 
