@@ -1,5 +1,3 @@
 -- Laws that belong to no one function.
 pub mod JudgeLaws
 pub mod ByteLaws
-pub mod ReadingLaws
-pub mod SweptLaws

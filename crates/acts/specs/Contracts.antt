@@ -1,16 +1,13 @@
--- What the functions of a step that is no loop, and of check 12, require and give back.
-use Prim.Native.Nat.{ℕ, suc, _≤_}
+-- What the functions of a step that is no loop require and give back.
+use Prim.Native.Nat.{ℕ, _≤_}
 use mathlib.Core.Path.{_≡_}
-use mathlib.Core.Bool.{Bool, true, false, not, _&&_, _||_}
+use mathlib.Core.Bool.{Bool, true, false, not, _&&_}
 use mathlib.Core.Logic.{_⊎_}
 use mathlib.Core.List.{List, [], _∷_, map}
-use lib.Dec.{T, eqb, leb}
-use lib.ListN.{getD}
-use Rattle.values.specs.declared.Operand.{Operand}
-use Rattle.values.specs.Lists.{all, among, count, firsts}
+use lib.Dec.{T, eqb}
+use Rattle.values.specs.Lists.{among, count, firsts}
 use Rattle.values.specs.declared.Slot.{Slot}
-use Rattle.values.specs.Operands.{varsOf, formals, reads}
-use Rattle.rows.specs.declared.Field.{Field}
+use Rattle.values.specs.Operands.{varsOf}
 use Rattle.rows.specs.declared.Relation as Code
 use Rattle.rows.specs.Relations.{Row}
 use Rattle.rows.specs.Matching.{hits, selected}
@@ -26,28 +23,11 @@ use Rattle.nets.specs.View.{kindAt, nodeOf}
 use Rattle.nets.specs.Answers.{Said, refusing, doing}
 use Rattle.acts.specs.Effects.{Parts, saidBy}
 
--- a set of numbers by flags
-abbrev pub flagAt : List Bool → ℕ → Bool
-flagAt l i = getD l i false
-
--- ── check 12 ──
-
--- an operand at place `n` of those that a node reads: it reads bound variables, and from place 6 on also formals of T
-abbrev pub knownAt : (ℕ → Bool) → List Operand → ℕ → Operand → Bool
-knownAt v t n o = all (λ i. v i || (leb 6 n && among i (formals t))) (reads o)
-
--- so do all from place `n` on
-abbrev pub knownFrom : (ℕ → Bool) → List Operand → ℕ → List Field → Bool
-knownFrom v t n [] = true
-knownFrom v t n (f ∷ fs) = knownAt v t n (f .operand) && knownFrom v t (suc n) fs
-
--- ── steps that are no loops ──
-
 abbrev pub isDoing : Said → Bool
 isDoing (refusing n vs) = false
 isDoing (doing a t) = true
 
--- a kind that is no loop
+-- a kind of document 01 that is no loop
 abbrev pub isStep : Kind → Bool
 isStep k = not (eqb (code k) 0) && not (isLoop k)
 

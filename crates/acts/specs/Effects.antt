@@ -53,11 +53,12 @@ saidBy (acting update) p = passing (long p (p .content)) 16 (doing (changeCount 
 saidBy (other aggregate) p = passing (long p (p .content) && columnFits (p .node .function) (p .node .column) (p .content .columns)) 16 (passing (isGot (result p) && matches1 (p .vars) (p .node .result) (result p)) 18 (doing 0 0))
 saidBy (acting create) p = passing (ltb (p .tables) 8) 20 (doing 0 0)
 saidBy (acting drop) p = doing 0 (length (p .content .rows))
+-- of these nothing is asked
 saidBy (other sequential) p = doing 0 0
 saidBy (other parallel) p = doing 0 0
 saidBy (other badKind) p = doing 0 0
 
--- the table's content after it
+-- the table's content after it, where the step puts rows
 abbrev pub contentBy : Kind → Parts → Relation
 contentBy (acting insert) p = withRows (p .content) (p .content .rows ++ (valuesIn (draft (p .vars) (p .node .tuple)) ∷ []))
 contentBy (acting insertTable) p = withRows (p .content) (p .content .rows ++ p .source .rows)

@@ -1,9 +1,7 @@
-// What a step that is no loop comes to, and whether what a node reads is bound.
+// What a step that is no loop speaks of, and what single kinds of it answer.
 use rows::Row;
 use values::Got;
 
-pub mod judging;
-pub mod reading;
 pub mod saying;
 
 // Columns and their kinds.

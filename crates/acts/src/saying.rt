@@ -1,28 +1,25 @@
-// What a step that is no loop answers, kind by kind. Each check is judged in its order.
-use changes::aggregates::aggregate;
-use changes::sweeping::sifted;
+// What inserts answer, and the checks of an aggregate.
+use fitting::fit::draft_of;
+use fitting::fit::fits_columns;
+use fitting::fit::same_columns;
 use nets::Answer;
 use nets::Node;
 use nets::Refusal;
+use plans::plans::met;
+use plans::plans::want_of;
 use rows::Function;
 use rows::Relation;
-use rows::fit::draft_of;
-use rows::fit::fits_columns;
-use rows::fit::same_columns;
-use rows::plans::met;
-use rows::plans::want_of;
 use values::Got;
 use values::Operand;
 use values::Slot;
 ghost use mathlib.Core.Path.{_≡_};
-ghost use mathlib.Core.Bool.{true, false, _&&_};
-ghost use lib.Dec.{T, eqb};
+ghost use mathlib.Core.Bool.{false, _&&_};
+ghost use lib.Dec.{eqb};
 ghost use lib.ListN.{getD};
 ghost use Rattle.values.specs.Operands.{varsOf, isGot};
 ghost use Rattle.rows.specs.Matching.{matches1};
 ghost use Rattle.rows.specs.View.{relationOf, Shaped, Short};
-ghost use Rattle.changes.specs.Aggregates.{columnFits, aggregated};
-ghost use Rattle.changes.specs.Contracts.{marks, sift};
+ghost use Rattle.changes.specs.Aggregates.{columnFits};
 ghost use Rattle.nets.specs.Nets.{acting, insert, insertTable};
 ghost use Rattle.nets.specs.Answers.{numberOf, saidOf};
 ghost use Rattle.acts.specs.Effects.{passing, saidBy};
@@ -110,18 +107,4 @@ pub fn takes(op: Operand, g: Got, vars: [Slot; 16]) -> bool
         Got::Nothing => false,
         Got::One(v) => met(want_of(op, vars), v),
     }
-}
-
-// Over the rows that are marked; nothing where the column does not fit.
-pub fn result_of(node: Node, source: Relation, flags: [bool; 16]) -> Got
-    requires { ⌜ Shaped source ⌝ }
-    ensures { λ r. ⌜ (T (columnFits (node .function) (node .column) (relationOf source .columns)) → r ≡ aggregated (node .function) (node .column) (sift true (marks (source .count) flags) (relationOf source .rows))) ⌝ }
-{
-    let function = node.function;
-    let column = node.column;
-    if column_fits(function, column, source) {
-        let taken = sifted(source, flags, true);
-        return aggregate(function, column, taken);
-    }
-    Got::Nothing
 }

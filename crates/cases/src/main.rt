@@ -1,13 +1,13 @@
 // The row layer on the worked cases of the Klaim-DB paper (its Figure 3 and Examples 2 to 6): the table KLD of one branch, in texts of four bytes.
 // Columns: shoe, colour, size, sales.
+use aggregates::aggregates::aggregate;
 use changes::Swept;
-use changes::aggregates::aggregate;
 use changes::changes::push;
-use changes::changes::selected_kinds;
-use changes::sweeping::number_of;
-use changes::sweeping::sifted;
-use changes::sweeping::swept;
+use changes::sifting::number_of;
+use changes::sifting::sifted;
+use columns::columns::selected_kinds;
 use libc::STDOUT_FILENO;
+use plans::plans::plan_of;
 use printing::cells::put_rows;
 use printing::cells::put_value;
 use printing::pages::put_byte;
@@ -20,8 +20,8 @@ use rows::Relation;
 use rows::Row;
 use rows::Selector;
 use rows::Test;
-use rows::fit::terms_of;
-use rows::plans::plan_of;
+use sweeping::sweeping::swept;
+use terms::terms::terms_of;
 use values::Got;
 use values::Operand;
 use values::Slot;

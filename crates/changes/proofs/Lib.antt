@@ -1,9 +1,7 @@
 -- Laws that belong to no one function.
 pub mod AggregateLaws
 pub mod Appending
-pub mod Columns
 pub mod FitLaws
-pub mod MakeLaws
 pub mod Prepared
 pub mod RangeLaws
 pub mod SelectLaws

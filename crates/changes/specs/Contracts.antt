@@ -49,12 +49,12 @@ pub record RenewedIs (t : Terms) (n : ℕ) (ks : List ℕ) (r : Row) (o : Renewe
 abbrev pub sweeps : Plan → Bool → Bool → Terms → ℕ → List ℕ → Row → Bool
 sweeps p d any t n ks r = planHits p r && (not d || (any || fits (columnsOf n ks) (givenBy t r)))
 
--- one row, and what stands at its place where it is marked
+-- one row: whether it is marked, and with drafts what stands at its place if it is
 pub record JudgedRow (p : Plan) (d any : Bool) (t : Terms) (n : ℕ) (ks : List ℕ) (r : Row) (o : Renewed) : Type 0 where
   pub fits : o .fits ≡ sweeps p d any t n ks r
   pub row : T d → T (all isGot (givenBy t r)) → T (o .fits) → valuesOf (t .count) (o .row) ≡ valuesIn (givenBy t r)
 
--- the first `m` rows are marked, those that are marked replaced at their places, and the others as they were
+-- of the first `m` rows those that `sweeps` says are marked; with drafts a marked row gives way to the new one at its place; rows that are not marked stay
 pub record SweptIs (p : Plan) (d any : Bool) (t : Terms) (n : ℕ) (ks : List ℕ) (m : ℕ) (rs : List Row) (o : Swept) : Type 0 where
   pub flags : (k : ℕ) → getD (o .flags) k false ≡ (ltb k m && sweeps p d any t n ks (getD rs k noRow))
   pub made : (k : ℕ) → T (getD (o .flags) k false) → T d → T (all isGot (givenBy t (getD rs k noRow))) →
@@ -71,6 +71,6 @@ sift w [] l = []
 sift w (b ∷ bs) [] = []
 sift w (b ∷ bs) (a ∷ l) = keep (Bool·beq b w) a (sift w bs l)
 
--- t gives a value for each of its components, whatever the row
+-- t gives a value for each of its components, whatever the row of T's length
 pub record Complete (e : Vars) (t u : List Operand) : Type 0 where
   pub given : (r : M.Row) → length r ≡ length t → T (all isGot (draftFor e t u r))

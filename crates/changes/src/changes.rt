@@ -1,23 +1,11 @@
-// Relations built from relations: rows appended; and the columns of a select.
-use rows::Operands;
+// Rows appended to a relation.
 use rows::Relation;
 use rows::Row;
-use rows::Source;
-use rows::plans::source_of;
-use values::Operand;
-use values::Slot;
-use values::compare::kind_in;
 ghost use mathlib.Core.Path.{_≡_};
 ghost use mathlib.Core.List.{[], _∷_, _++_};
 ghost use Prim.Native.Nat.{_+_, _≤_, _<_};
-ghost use lib.ListN.{getD};
-ghost use Rattle.values.specs.Operands.{varsOf, bind};
-ghost use Rattle.rows.specs.View.{noField, valuesOf, columnsOf, relationOf, operandsOf, Short, Shaped};
-ghost use Rattle.rows.specs.Plans.{sourceKind};
-ghost use Rattle.changes.specs.Changes.{kindsOf, columnFor, selectedColumns};
+ghost use Rattle.rows.specs.View.{valuesOf, relationOf, Shaped};
 ghost use Rattle.changes.specs.Contracts.{Holds};
-
-// ---- more rows
 
 // One row more, at the end.
 pub fn push(r: Relation, row: Row) -> Relation
@@ -45,58 +33,4 @@ pub fn append(r: Relation, s: Relation) -> Relation
         i += 1;
     }
     o
-}
-
-// ---- select
-
-pub fn source_kind(s: Source, kinds: [u8; 4]) -> u8
-    ensures { λ r. ⌜ r ≡ sourceKind s kinds ⌝ }
-{
-    match s {
-        Source::Fixed(g) => kind_in(g),
-        Source::Column(i) => {
-            let at = i as usize;
-            if 4 <= at {
-                return 0;
-            }
-            kinds[at]
-        }
-    }
-}
-
-// The kind of a component of t.
-pub fn column_kind(op: Operand, template: Operands, kinds: [u8; 4], vars: [Slot; 16]) -> u8
-    requires { ⌜ Short template ⌝ }
-    ensures { λ r. ⌜ r ≡ columnFor (bind (operandsOf template) (columnsOf (template .count) kinds) (kindsOf (varsOf vars))) op ⌝ }
-{
-    match op {
-        Operand::Absent => 0,
-        Operand::ConstInt(_) => 1,
-        Operand::ConstText(_) => 2,
-        Operand::ConstLoc(_) => 3,
-        Operand::Var(i) => source_kind(source_of(i, template, vars), kinds),
-        Operand::Plus(_, _) => 1,
-        Operand::Formal(_) => 0,
-    }
-}
-
-pub fn kind_for(t: Operands, i: usize, template: Operands, kinds: [u8; 4], vars: [Slot; 16]) -> u8
-    requires { ⌜ Short template × (i < 4) ⌝ }
-    ensures { λ r. ⌜ r ≡ columnFor (bind (operandsOf template) (columnsOf (template .count) kinds) (kindsOf (varsOf vars))) (getD (t .fields) i noField .operand) ⌝ }
-{
-    let f = t.fields[i];
-    let op = f.operand;
-    column_kind(op, template, kinds, vars)
-}
-
-// One column for every component of t.
-pub fn selected_kinds(t: Operands, template: Operands, kinds: [u8; 4], vars: [Slot; 16]) -> [u8; 4]
-    requires { ⌜ Short t × Short template ⌝ }
-    ensures { λ r. ⌜ columnsOf (t .count) r ≡ selectedColumns (varsOf vars) (operandsOf template) (operandsOf t) (columnsOf (template .count) kinds) ⌝ }
-{
-    let a = kind_for(t, 0, template, kinds, vars);
-    let b = kind_for(t, 1, template, kinds, vars);
-    let c = kind_for(t, 2, template, kinds, vars);
-    let d = kind_for(t, 3, template, kinds, vars);
-    [a, b, c, d]
 }

@@ -1,10 +1,9 @@
-// What steps select, change and sum up in one relation. All by value.
+// What steps append to one relation, and the rows of it that they keep. All by value.
 use rows::Cell;
 use rows::Row;
 
-pub mod aggregates;
 pub mod changes;
-pub mod sweeping;
+pub mod sifting;
 
 // A cell made for a column, and whether there is a value of its kind.
 pub struct Made {
@@ -12,7 +11,7 @@ pub struct Made {
     pub cell: Cell,
 }
 
-// What stands at a row's place after a pass over it, and whether the row is marked.
+// Whether a row is marked in a pass, and what stands at its place if it is.
 pub struct Renewed {
     pub fits: bool,
     pub row: Row,

@@ -1,3 +1,2 @@
 // One record: what its 104 bytes say.
 pub mod bytes;
-pub mod forms;

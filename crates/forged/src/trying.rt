@@ -1,7 +1,7 @@
 // A net is handed to a step and to writing, and a line printed: the answers, and whether the net and the buffer stayed as they were.
+use comparing::whole::same_net;
 use files::Written;
 use forging::exchanged::exchanged;
-use forging::whole::same_net;
 use nets::Answer;
 use nets::Net;
 use nets::Pick;

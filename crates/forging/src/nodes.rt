@@ -1,20 +1,20 @@
 // Nodes with some fields exchanged, by bytes.
-use crate::programs::bare;
-use crate::programs::four;
-use crate::programs::giving;
-use crate::programs::matching;
-use crate::programs::placed;
-use crate::programs::remade;
-use crate::programs::selecting;
-use crate::programs::two;
 use codec::bytes::text_in;
 use nets::Node;
 use nodeforms::nodes::function_at;
 use nodeforms::nodes::test_at;
-use nodeforms::operands::operand_in;
+use operandforms::operands::operand_in;
 use rows::Operands;
 use rows::Selector;
 use rows::Test;
+use samples::programs::bare;
+use samples::programs::four;
+use samples::programs::giving;
+use samples::programs::matching;
+use samples::programs::placed;
+use samples::programs::remade;
+use samples::programs::selecting;
+use samples::programs::two;
 use values::Operand;
 
 // Operands of which so many count; `alike` says that all four are the first.

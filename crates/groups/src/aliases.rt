@@ -1,10 +1,10 @@
 // Alias records, group 1: checks 4 and 6.
 use crate::AliasesRead;
 use crate::blanks::blank_alias;
-use codec::forms::alias_form;
-use codec::forms::alias_in;
+use forms::forms::alias_form;
+use forms::forms::alias_in;
 use nets::Alias;
-use soundness::lists::alias_new;
+use ranges::lists::alias_new;
 use walks::Reach;
 use walks::walking::next_group;
 ghost use mathlib.Core.Path.{_≡_};

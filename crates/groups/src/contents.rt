@@ -1,8 +1,8 @@
 // Row records, group 3: checks 4, 7 and 8.
 use crate::RowTaken;
 use crate::drafts::row_draft;
-use codec::forms::name_in;
-use codec::forms::site_in;
+use forms::forms::name_in;
+use forms::forms::site_in;
 use nets::Table;
 use nets::tables::find_table;
 use nodeforms::tuples::row_form;

@@ -1,5 +1,5 @@
 // What a row record gives its table.
-use nodeforms::operands::operands_in;
+use operandforms::operands::operands_in;
 use rows::Draft;
 use rows::Operands;
 use values::Got;

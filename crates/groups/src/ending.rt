@@ -1,9 +1,9 @@
 // The record at which all groups are past: checks 3, 4 and 5.
-use codec::forms::alias_form;
-use codec::forms::group_of;
-use codec::forms::pick_form;
-use codec::forms::start_form;
-use codec::forms::table_form;
+use forms::forms::alias_form;
+use forms::forms::group_of;
+use forms::forms::pick_form;
+use forms::forms::start_form;
+use forms::forms::table_form;
 use nodeforms::nodes::node_form;
 use nodeforms::tuples::row_form;
 use walks::Reach;

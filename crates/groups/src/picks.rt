@@ -1,7 +1,7 @@
 // Pick records, group 6: check 4.
 use crate::PicksRead;
-use codec::forms::pick_form;
-use codec::forms::pick_in;
+use forms::forms::pick_form;
+use forms::forms::pick_in;
 use nets::Pick;
 use walks::Reach;
 use walks::walking::next_group;

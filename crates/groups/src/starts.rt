@@ -1,8 +1,8 @@
 // Start records, group 5: checks 4 and 8.
 use crate::ThreadsRead;
 use crate::blanks::blank_thread;
-use codec::forms::site_in;
-use codec::forms::start_form;
+use forms::forms::site_in;
+use forms::forms::start_form;
 use nets::Entry;
 use nets::Frame;
 use nets::Thread;

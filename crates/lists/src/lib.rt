@@ -1,9 +1,8 @@
-// The lists of a net: tables and threads after a step, and the site that aliases give.
+// The lists of a net: tables and threads after a step.
 use nets::Table;
 use nets::Thread;
 
 pub mod lists;
-pub mod places;
 
 // A list of tables, and of threads.
 pub struct TableList {

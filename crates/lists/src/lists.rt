@@ -1,8 +1,8 @@
-// The lists of tables and threads after a step. Nothing else puts, adds or removes a table or a thread.
+// The lists of tables and threads after a step, where one of them grows or closes up.
 use crate::TableList;
 use crate::ThreadList;
 use acts::Judged;
-use acts::judging::content_after;
+use effects::effects::content_after;
 use nets::Node;
 use nets::Table;
 use nets::Thread;

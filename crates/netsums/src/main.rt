@@ -2,6 +2,7 @@
 use counts::Ran;
 use files::Loaded;
 use files::Verdict;
+use lending::lending::run_first;
 use libc::STDIN_FILENO;
 use printing::faults::print_fault;
 use printing::faults::print_long;
@@ -12,7 +13,6 @@ use printing::pages::put_bytes;
 use printing::pages::put_decimal;
 use printing::pages::write_page;
 use records::loading::load;
-use runs::lending::run_first;
 use totals::Total;
 ghost use Prim.Native.Nat.{_≤_};
 

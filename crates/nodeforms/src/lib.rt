@@ -1,4 +1,3 @@
 // Records with operands: rows and nodes.
 pub mod nodes;
-pub mod operands;
 pub mod tuples;

@@ -1,19 +1,19 @@
 // Node records: check 4, and the node that one says. A create has its columns where other nodes have bytes 8 to 11; an aggregate has T' first in t.
-use crate::operands::operand_form;
-use crate::operands::operand_in;
-use crate::operands::operands_form;
-use crate::operands::operands_in;
 use codec::bytes::text_in;
 use codec::bytes::zeros;
-use codec::forms::columns_form;
-use codec::forms::columns_in;
-use codec::forms::kinds_in;
+use forms::forms::columns_form;
+use forms::forms::columns_in;
+use forms::forms::kinds_in;
 use nets::Node;
+use nodetests::nodes::fields_ok;
+use operandforms::operands::operand_form;
+use operandforms::operands::operand_in;
+use operandforms::operands::operands_form;
+use operandforms::operands::operands_in;
 use rows::Function;
 use rows::Operands;
 use rows::Selector;
 use rows::Test;
-use soundness::nodes::fields_ok;
 use values::Operand;
 ghost use mathlib.Core.Path.{_≡_};
 ghost use mathlib.Core.Bool.{cond, _&&_};

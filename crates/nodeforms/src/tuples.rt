@@ -1,10 +1,10 @@
 // Row records: check 4.
-use crate::operands::operands_form;
-use crate::operands::operands_in;
 use codec::bytes::text_in;
 use codec::bytes::zeros;
-use soundness::operands::operands_ok;
-use soundness::ranges::is_text;
+use operandforms::operands::operands_form;
+use operandforms::operands::operands_in;
+use ranges::operands::operands_ok;
+use ranges::ranges::is_text;
 ghost use mathlib.Core.Path.{_≡_};
 ghost use lib.ListN.{length};
 ghost use Rattle.codec.specs.Decoding.{rowForm};

@@ -1,9 +1,7 @@
 -- Laws that belong to no one function: from the net that the code holds to the rules.
 pub mod HeldLaws
-pub mod KeepStep
 pub mod ListTies
 pub mod PlainTies
 pub mod ReadTies
 pub mod SceneTies
 pub mod StoreTies
-pub mod TurnLaws

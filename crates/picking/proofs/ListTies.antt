@@ -9,12 +9,12 @@ use lib.ListN.{getD, set}
 use Rattle.values.specs.declared.Site.{Site}
 use Rattle.values.specs.Lists.{isSome, removeAt}
 use Rattle.rows.specs.Relations.{Row}
-use Rattle.nets.specs.Nets.{Table, Kind, acting, other, insert, insertTable, delete, update, create, drop, select, selectRelation, aggregate, sequential, parallel, badKind, Net, Outcome, refused, done}
+use Rattle.nets.specs.Nets.{Table, Kind, acting, other, insert, insertTable, delete, update, create, drop, select, selectRelation, aggregate, sequential, parallel, badKind, Net, done}
 use Rattle.nets.specs.Tables.{tableAt, rowsOf, columnsOf, withRows, change}
 use Rattle.nets.specs.Scenes.{Scene, site, table}
 use Rattle.nets.specs.Steps.{tablesBy, addedBy, takenBy, threadsAfter, netAfter, performed, Check, verdict, judge}
 use Rattle.nets.specs.Accounts.{netLeft}
-use Rattle.nets.specs.Answers.{refusing, answerOf}
+use Rattle.nets.specs.Answers.{answerOf}
 use Rattle.acts.specs.Contracts.{isDoing, putsRows}
 use Rattle.turns.specs.Contracts.{laterChecks, outcomeAt}
 use Rattle.nets.proofs.TableLaws.{change-same}
@@ -76,7 +76,7 @@ pub net-after : (c : Scene) → netAfter c ≡ record { aliases = c .net .aliase
 unfolding netAfter
 net-after c = refl
 
--- a judged outcome that is done is the one judged; any other leaves the net
+-- a judged outcome that is done is the one judged
 module _ (net : Net) where
   judge-done : (ks : List Check) (a t : ℕ) (m : Net) → T (isDoing (answerOf (judge ks (done a t m)))) → netLeft net (judge ks (done a t m)) ≡ m
   unfolding judge
@@ -90,7 +90,3 @@ module _ (net : Net) where
   pub done-left : (c : Scene) → T (isDoing (answerOf (outcomeAt c))) → netLeft net (outcomeAt c) ≡ netAfter c
   unfolding performed
   done-left c h = judge-done (laterChecks c) (addedBy (c .node .kind) c) (takenBy (c .node .kind) c) (netAfter c) h
-
-  pub refused-left : (o : Outcome) (n : ℕ) (vs : List ℕ) → answerOf o ≡ refusing n vs → netLeft net o ≡ net
-  refused-left (refused m us) n vs e = refl
-  refused-left (done a t m) n vs e = cc

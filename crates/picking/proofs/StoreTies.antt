@@ -25,7 +25,6 @@ use Rattle.turns.specs.Situations.{Change}
 use Rattle.lists.specs.declared.TableList.{TableList}
 use Rattle.lists.specs.declared.ThreadList.{ThreadList}
 use Rattle.nets.specs.declared.Net.{Net}
-use Rattle.nets.specs.declared.Stepped.{Stepped}
 use Rattle.nets.specs.Nets as M
 use Rattle.nets.specs.Nets.{Kind, acting, other, insert, insertTable, delete, update, create, drop, select, selectRelation, aggregate, sequential, parallel, badKind, needsTable, isCreate, Outcome}
 use Rattle.nets.specs.Tables.{tableAt, rowsOf, columnsOf}
@@ -43,20 +42,11 @@ use Rattle.nets.proofs.StepLaws.{Passed}
 use Rattle.nets.proofs.AnswerLaws.{refuses-11}
 use Rattle.nets.proofs.RoundLaws.{given}
 use Rattle.nets.proofs.TablePlaces.{placeAt, place-below}
-use Rattle.picking.proofs.ListTies.{tablePlace, puts-tables, drop-tables, net-after, done-left, refused-left}
+use Rattle.picking.proofs.ListTies.{tablePlace, puts-tables, drop-tables, net-after, done-left}
 use Rattle.picking.proofs.SceneTies.{few-tables, few-threads, step-is}
 use Rattle.picking.proofs.ReadTies.{nodeRead, Read, node-read, site-read}
 
 -- ── a refused step ──
-
-module _ (net : Net) (p : Pick) (o : Stepped) {why : Refusal} (says : o .answer ≡ Refused why) (same : o .net ≡ net) where
-  pub refused-is : answerOf (step (view net) p) ≡ refusing (numberOf why) [] → StepIs net p o
-  refused-is e =
-      record {
-        answer = ap saidOf says ∙ sym e;
-        after = ap view same ∙ sym (refused-left (view net) (step (view net) p) (numberOf why) [] e);
-        kept = λ h. same;
-      }
 
 -- no such thread
 pub past-refused : (net : Net) (p : Pick) → T (sound (view net)) → net .threadcount ≤ p .thread → answerOf (step (view net) p) ≡ refusing (numberOf NoThread) []

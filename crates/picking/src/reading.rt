@@ -17,7 +17,7 @@ ghost use Rattle.nets.specs.Steps.{holds};
 ghost use Rattle.nets.specs.View.{noSite, nodesOf, threadOf};
 ghost use Rattle.turns.specs.Contracts.{locatedOf};
 
-// Where L leads nowhere any site will do: no step looks there.
+// Where L leads nowhere any site will do: check 13 refuses the step, whatever table is found there.
 pub fn site_in(l: Located) -> Site
     ensures { λ r. ⌜ r ≡ orElse noSite (locatedOf l) ⌝ }
 {
@@ -52,7 +52,7 @@ pub fn is_held(nodes: [Node; 128], count: usize, t: Thread, v: u8) -> bool
     false
 }
 
-// A place within a list, also where none is found.
+// The place found; where none is, the first place of the array.
 pub fn slot_at(at: usize, count: usize) -> usize
     ensures { λ r. ⌜ r ≡ cond (ltb at count) at 0 ⌝ }
 {

@@ -1,16 +1,17 @@
-// Picks in turn on a net that stays where it is: the one place that reads the net's lists by a place and stores to them.
-use crate::Gone;
+// Picks in turn on a net that stays where it is: its elements are read and stored at their places here.
 use crate::reading::is_held;
 use crate::reading::over;
 use crate::reading::shown;
 use crate::reading::site_in;
 use crate::reading::slot_at;
-use acts::judging::bound_after;
-use acts::judging::judged;
+use deciding::deciding::decide;
+use effects::effects::bound_after;
+use evaluating::eval::eval_in;
+use judging::judging::judged;
+use leaving::Gone;
 use lists::lists::table_after;
 use lists::lists::tables_after;
 use lists::lists::threads_after;
-use lists::places::site_of;
 use nets::Answer;
 use nets::Net;
 use nets::Pick;
@@ -18,30 +19,30 @@ use nets::Refusal;
 use nets::TableVariable;
 use nets::kinds::binds_relation;
 use nets::tables::find_table;
+use places::places::site_of;
 use threads::threads::forked;
 use threads::threads::node_of;
 use threads::threads::run_frame;
 use totals::Total;
 use totals::plus;
 use turns::Setting;
-use turns::deciding::decide;
-use turns::deciding::source_of;
-use values::eval::eval_in;
+use turns::parts::source_of;
 ghost use Prim.Native.Nat.{_+_, _<_, _≤_, _^_};
 ghost use lib.Dec.{T};
 ghost use lib.ListN.{take};
 ghost use Rattle.nets.specs.Sound.{sound};
 ghost use Rattle.nets.specs.View.{view};
-ghost use Rattle.picking.specs.Turns.{GoneIs};
+ghost use Rattle.leaving.specs.Turns.{GoneIs, stoodBy};
 
-pub fn turns_sound(from: Net, picks: [Pick; 64], count: usize, before: Total, gone: Total) -> Gone
-    requires { ⌜ T (sound (view from)) × (count ≤ 64) × (before .high + 64 < 2 ^ 63) × (gone .high + 64 < 2 ^ 63) ⌝ }
-    ensures { λ r. ⌜ GoneIs from (take count picks) before gone r ⌝ }
+// The net is to be sound where there is a pick; where there is none the answer is 10, whatever the net.
+pub fn turns_sound(from: Net, picks: [Pick; 128], count: usize, before: Total, gone: Total) -> Gone
+    requires { ⌜ (1 ≤ count → T (sound (view from))) × (count ≤ 128) × (before .high + 128 < 2 ^ 63) × (gone .high + 128 < 2 ^ 63) ⌝ }
+    ensures { λ r. ⌜ GoneIs from (take count picks) before gone (stoodBy from r) ⌝ }
 {
     let mut net = from;
     let mut added = before;
     let mut taken = gone;
-    let mut answer = Answer::Refused(Refusal::NoThread);
+    let mut answer = Answer::Refused(Refusal::Unsound);
     let mut i: usize = 0;
     while i < count {
         let pick = picks[i];
@@ -133,8 +134,13 @@ pub fn turns_sound(from: Net, picks: [Pick; 64], count: usize, before: Total, go
         net.tables[slot] = fresh;
         net.threads[p] = thread;
     }
+    let contents = net.tables;
+    let processes = net.threads;
     Gone {
-        net,
+        tables: contents,
+        tablecount: net.tablecount,
+        threads: processes,
+        threadcount: net.threadcount,
         answer,
         added,
         taken,

@@ -1,5 +1,6 @@
 // Loading: checks 1 to 9 in order, and the net and picks of a file that passes them.
 use crate::FileRead;
+use declaring::tables::tables_from;
 use files::Loaded;
 use files::Verdict;
 use groups::aliases::aliases_from;
@@ -9,11 +10,10 @@ use groups::ending::reach_end;
 use groups::nodes::nodes_from;
 use groups::picks::picks_from;
 use groups::starts::starts_from;
+use linking::links::bad_link;
 use nets::Net;
 use nets::Pick;
 use walks::Reach;
-use walks::links::bad_link;
-use walks::tables::tables_from;
 ghost use mathlib.Core.Path.{_≡_};
 ghost use Prim.Native.Nat.{_≤_, _*_};
 ghost use lib.ListN.{length};

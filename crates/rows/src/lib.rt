@@ -1,12 +1,8 @@
-// Rows and relations: what templates match and bind, and which rows fit. All by value.
+// Rows and relations, templates and tuples, and what is prepared of them. All by value.
 use values::Got;
 use values::Operand;
 use values::Slot;
 use values::Value;
-
-pub mod binding;
-pub mod fit;
-pub mod plans;
 
 pub struct Cell {
     pub value: Value,

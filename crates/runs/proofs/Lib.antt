@@ -1,5 +1,3 @@
--- Laws that belong to no one function.
+-- Laws of runs that belong to no one function.
 pub mod ListLaws
 pub mod TurnLaws
-pub mod Lent
-pub mod LendWalk

@@ -24,11 +24,10 @@ use Rattle.totals.specs.declared.Total.{Total}
 use Rattle.counts.specs.declared.Ran.{Ran}
 use Rattle.totals.specs.Totals.{totalOf}
 use Rattle.runs.specs.Runs.{RunIs}
-use Rattle.picking.specs.declared.Gone.{Gone}
-use Rattle.picking.specs.Turns.{allRefused, GoneIs}
+use Rattle.leaving.specs.Turns.{allRefused, Stood, GoneIs}
 use Rattle.counts.specs.States.{Begun}
-use Rattle.runs.specs.declared.Batch.{Batch}
-use Rattle.runs.specs.Batches.{picksOf, Empty, OneMore}
+use Rattle.gathering.specs.declared.Batch.{Batch}
+use Rattle.gathering.specs.Batches.{picksOf, Empty, OneMore}
 use Rattle.runs.specs.Turns.{Ready, Turned}
 use Rattle.runs.proofs.ListLaws.{after-both, added-both, taken-both, refused-both}
 
@@ -90,7 +89,7 @@ pub record SoFar (net : Net) (ys : List Pick) (i : ℕ) (s : Ran) (b : Batch) : 
   pub done : List Pick
   pub behind : Turned first done s
   pub both : done ++ picksOf b ≡ take i ys
-  pub few : b .count ≤ 64
+  pub few : b .count ≤ 128
 
 pub so-far-start : (net : Net) (ys : List Pick) (s : Ran) (b : Batch) → Begun net s → Empty b → SoFar net ys 0 s b
 so-far-start net ys s b h e = record {
@@ -105,7 +104,7 @@ so-far-start net ys s b h e = record {
 
 -- a pick is put into the batch
 pub so-far-more :
-    (net : Net) (ys : List Pick) (i : ℕ) (s : Ran) (b r : Batch) (d : Pick) → i < length ys → b .count < 64 → SoFar net ys i s b → OneMore b (getD ys i d) r → SoFar net ys (i + 1) s r
+    (net : Net) (ys : List Pick) (i : ℕ) (s : Ran) (b r : Batch) (d : Pick) → i < length ys → b .count < 128 → SoFar net ys i s b → OneMore b (getD ys i d) r → SoFar net ys (i + 1) s r
 so-far-more net ys i s b r d l room g m = record {
   first = g .first;
   begun = g .begun;
@@ -134,12 +133,12 @@ so-far-turned net ys i s r b e g t z = record {
 }
 
 -- a batch that is not full has room
-pub room-left : (b : Batch) (t : Bool) → t ≡ eqb (b .count) 64 → T (not t) → b .count ≤ 64 → b .count < 64
+pub room-left : (b : Batch) (t : Bool) → t ≡ eqb (b .count) 128 → T (not t) → b .count ≤ 128 → b .count < 128
 room-left b true e h l = absurd h
-room-left b false e h l = omega (arith, l, eqb-false (b .count) 64 (sym e))
+room-left b false e h l = omega (arith, l, eqb-false (b .count) 128 (sym e))
 
 -- a list in memory is so short that the sums have room
-pub so-far-ready : (net : Net) (ys : List Pick) (i : ℕ) (s : Ran) (b : Batch) → length ys * 2 < 2 ^ 63 → SoFar net ys i s b → Ready s × (b .count ≤ 64)
+pub so-far-ready : (net : Net) (ys : List Pick) (i : ℕ) (s : Ran) (b : Batch) → length ys * 2 < 2 ^ 63 → SoFar net ys i s b → Ready s × (b .count ≤ 128)
 so-far-ready net ys i s b room g =
     let n = length-take-le i ys (g .upto) in
     let both = sym (length-append (g .done) (picksOf b)) ∙ ap length (g .both) in (
@@ -190,14 +189,16 @@ turned-unsound s ps h e = go ps
     go (p ∷ ps) = turned-both s s s (p ∷ []) ps (one p) (go ps)
 
 -- picks in turn on a sound one
-pub turned-sound : (s r : Ran) (ps : List Pick) (g : Gone) → GoneIs (s .net) ps (s .added) (s .taken) g → r ≡ record { net = g .net; sound = true; added = g .added; taken = g .taken } → Turned s ps r
-turned-sound s r ps g h e = subst (Turned s ps) (sym e)
+pub turned-sound :
+    (s r : Ran) (ps : List Pick) (g : Stood) → T (sound (view (s .net))) → GoneIs (s .net) ps (s .added) (s .taken) g → r ≡ record { net = g .net; sound = true; added = g .added; taken = g .taken } →
+    Turned s ps r
+turned-sound s r ps g ok h e = subst (Turned s ps) (sym e)
     (record {
       after = h .left;
       added = h .added;
       taken = h .taken;
       kept = h .kept;
-      flag = sym (is-true (sound (view (g .net))) (h .sound));
+      flag = sym (is-true (sound (view (g .net))) (h .sound ok));
       addedRoom = h .addedRoom;
       takenRoom = h .takenRoom;
     })

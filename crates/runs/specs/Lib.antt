@@ -1,4 +1,3 @@
 -- What a run gives back.
-pub mod Batches
 pub mod Runs
 pub mod Turns

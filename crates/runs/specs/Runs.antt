@@ -12,7 +12,7 @@ use Rattle.files.specs.declared.Verdict.the-variants.{Accepted}
 use Rattle.files.specs.declared.Loaded.{Loaded}
 use Rattle.files.specs.FileDemand3.{FileDemand3}
 use Rattle.files.specs.Engine.{LoadIs}
-use Rattle.picking.specs.Turns.{allRefused}
+use Rattle.leaving.specs.Turns.{allRefused}
 use Rattle.counts.specs.declared.Ran.{Ran}
 use Rattle.totals.specs.Totals.{totalOf}
 

@@ -1,11 +1,11 @@
 // Threads: variables, table variables and stacks. A loop entry is judged by its node's shape and its table variable's extent, which are computed once.
-use crate::Extent;
-use crate::ranges::site_ok;
-use crate::ranges::variable_ok;
-use crate::relations::extent_of;
 use nets::Entry;
 use nets::Frame;
 use nets::Thread;
+use ranges::Extent;
+use ranges::ranges::site_ok;
+use ranges::ranges::variable_ok;
+use ranges::relations::extent_of;
 use values::Slot;
 ghost use mathlib.Core.Path.{_≡_};
 ghost use mathlib.Core.Bool.{_&&_};
@@ -18,7 +18,7 @@ ghost use Rattle.values.specs.Operands.{varsOf};
 ghost use Rattle.rows.specs.Relations as Rows;
 ghost use Rattle.nets.specs.Nets as Model;
 ghost use Rattle.nets.specs.Sound.{variableOk, entryOk, stackOk, threadOk};
-ghost use Rattle.soundness.specs.SoundParts.{ShapesOf, holdsPlaces, ExtentsOf};
+ghost use Rattle.ranges.specs.SoundParts.{ShapesOf, holdsPlaces, ExtentsOf};
 ghost use Rattle.nets.specs.View.{marked, entryOf, stackOf, threadOf, threadsOf};
 
 // ---- parts of a thread

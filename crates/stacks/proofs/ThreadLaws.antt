@@ -17,7 +17,7 @@ use Rattle.nets.specs.Nets as M
 use Rattle.nets.specs.Sound.{entryNode}
 use Rattle.nets.specs.Scenes.{top}
 use Rattle.nets.specs.View.{noThread, entryOf, threadOf, threadsOf}
-use Rattle.threads.proofs.MarkLaws.{marked-among}
+use Rattle.loops.proofs.MarkLaws.{marked-among}
 use Rattle.threads.proofs.ThreadLaws.{length-stack}
 use Rattle.codec.specs.Encoding.{endToEnd}
 use Rattle.codec.proofs.Stores.{all-stored, part-written, ends-more, ends-all}

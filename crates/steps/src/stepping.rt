@@ -1,23 +1,25 @@
-// The single step.
-use nets::Answer;
+// The single step: picks in turn, of which there is one, or none where the net is not sound.
+use leaving::left_by;
 use nets::Net;
 use nets::Pick;
-use nets::Refusal;
 use nets::Stepped;
 use picking::turning::turns_sound;
-use soundness::whole::sound_net;
+use soundness::whole::sound_parts;
 use totals::zero;
 ghost use mathlib.Core.Path.{_≡_};
+ghost use mathlib.Core.Bool.{cond};
 ghost use lib.Dec.{T};
 ghost use Rattle.nets.specs.Sound.{sound};
 ghost use Rattle.nets.specs.Answers.{StepIs};
 ghost use Rattle.nets.specs.View.{view};
 
-pub fn refuse(r: Refusal, net: Net) -> Stepped
-    ensures { λ o. ⌜ (o .answer ≡ Answer.Refused r) × (o .net ≡ net) ⌝ }
+pub fn one_if(sure: bool) -> usize
+    ensures { λ r. ⌜ r ≡ cond sure 1 0 ⌝ }
 {
-    let answer = Answer::Refused(r);
-    Stepped { answer, net }
+    if sure {
+        return 1;
+    }
+    0
 }
 
 // On a sound net; the net given back is sound again.
@@ -26,10 +28,10 @@ pub fn step_sound(net: Net, pick: Pick) -> Stepped
     ensures { λ r. ⌜ StepIs net pick r × T (sound (view (r .net))) ⌝ }
 {
     let none = zero();
-    let picks = [pick; 64];
+    let picks = [pick; 128];
     let g = turns_sound(net, picks, 1, none, none);
     let answer = g.answer;
-    let next = g.net;
+    let next = left_by(net, g);
     Stepped { answer, net: next }
 }
 
@@ -37,8 +39,25 @@ pub fn step_sound(net: Net, pick: Pick) -> Stepped
 pub fn step(net: Net, pick: Pick) -> Stepped
     ensures { λ r. ⌜ StepIs net pick r ⌝ }
 {
-    if sound_net(net) {
-        return step_sound(net, pick);
-    }
-    refuse(Refusal::Unsound, net)
+    let aliases = net.aliases;
+    let tables = net.tables;
+    let nodes = net.nodes;
+    let threads = net.threads;
+    let sure = sound_parts(
+        aliases,
+        net.aliascount,
+        tables,
+        net.tablecount,
+        nodes,
+        net.nodecount,
+        threads,
+        net.threadcount,
+    );
+    let count = one_if(sure);
+    let none = zero();
+    let picks = [pick; 128];
+    let g = turns_sound(net, picks, count, none, none);
+    let answer = g.answer;
+    let next = left_by(net, g);
+    Stepped { answer, net: next }
 }

@@ -1,4 +1,2 @@
 -- Laws that belong to no one function.
-pub mod MarkLaws
-pub mod RowLaws
 pub mod ThreadLaws

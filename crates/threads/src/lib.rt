@@ -1,8 +1,7 @@
-// One thread: its stack and bindings, and the rounds of its loops.
+// One thread: its stack and bindings.
 use nets::Refusal;
 use values::Slot;
 
-pub mod loops;
 pub mod threads;
 
 // What a loop's pick comes to: over, a round opened, or refused.
@@ -12,7 +11,7 @@ pub enum Turn {
     Stopped(Refusal),
 }
 
-// A round's visit set without the row picked, and the variables with T's formals bound to it.
+// Of a round that is opened, the visit set without the row picked, and the variables with T's formals bound to it; else both as they were.
 pub struct Round {
     pub turn: Turn,
     pub visit: [bool; 16],

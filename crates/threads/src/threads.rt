@@ -1,4 +1,4 @@
-// Threads: their stacks and bindings. Going on, forking and removing stand here once each.
+// Threads: frames of their stacks, and forking.
 use nets::Entry;
 use nets::Frame;
 use nets::Thread;

@@ -27,7 +27,8 @@ use Rattle.nets.specs.Sound.{operandsOk, isEmpty, templateOk, relationOk, field
 use Rattle.nets.specs.Scenes.{Scene, source}
 use Rattle.nets.specs.Steps.{isBound, isBoundTable, readsOk, check12}
 use Rattle.nets.specs.View.{kindAt, nodeOf, variableOf, threadOf}
-use Rattle.acts.specs.Contracts.{flagAt, isStep, ActReady, JudgeReady}
+use Rattle.reading.specs.Contracts.{flagAt}
+use Rattle.acts.specs.Contracts.{isStep, ActReady, JudgeReady}
 use Rattle.threads.specs.Contracts.{visitOf}
 use Rattle.turns.specs.Contracts.{Meets, relationRead, Fine, Known, SourceIs, Sourced}
 use Rattle.turns.proofs.EffectTies.{read-source, own-source}

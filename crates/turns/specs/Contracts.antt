@@ -103,13 +103,14 @@ pub record ChangeIs (c : Scene) (r : Change) : Type 0 where
   pub answer : saidOf (r .answer) ≡ answerOf (outcomeAt c)
   -- the rows of the table at the step's site and name afterwards, where the step changes them
   pub content : T (isDoing (saidOf (r .answer))) → T (putsRows (c .node .kind)) → Holds (r .content) (columnsOf (table c)) (rowsOf (tableAt (site c) (c .node .name) (tablesBy (c .node .kind) c)))
-  -- what becomes of the thread, and the new thread of a parallel round
+  -- a fork has room, and the thread that forks goes on
   pub room : T (r .forks) → (length (c .net .threads) < 8) × (1 ≤ r .thread .depth)
+  -- what becomes of the thread, and the new thread of a parallel round
   pub threads : T (isDoing (saidOf (r .answer))) → threadsAfter c ≡ settle (c .at) (standing (threadOf (r .thread))) (c .net .threads) ++ forksOf (r .forks) (r .fork)
 
 -- ── what is decided ──
 
--- the parts that it takes no thread to make, where source and node are known
+-- the parts that contents and bindings are made of; whether the table variable is held and how many tables there are does not matter to them
 abbrev pub partsIn : Situation → Code.Relation → Parts
 partsIn s q = partsOf (s .node) (s .content) q (s .thread .vars) false 0
 
@@ -139,6 +140,6 @@ pub record DecidedAt (s : Situation) (q : Code.Relation) (c : Scene) (r : Decide
 
 pub record DecidedIs (s : Situation) (q : Code.Relation) (r : Decided) : Type 0 where
   pub at : (c : Scene) → Meets s c → DecidedAt s q c r
-  -- a done step passed check 12, and what its parts say
+  -- a done step passed check 12; one that is no loop passed the checks of its kind
   pub known : T (isDoing (saidOf (r .answer))) → Known s
   pub does : T (isDoing (saidOf (r .answer))) → T (isStep (kindAt (s .node .kind))) → Doing (s .node) (s .content) q (s .thread .vars)

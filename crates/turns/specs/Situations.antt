@@ -17,7 +17,7 @@ use Rattle.turns.specs.declared.Located.{Located}
 use Rattle.turns.specs.declared.Setting.{Setting}
 use Rattle.turns.specs.declared.Decided.{Decided}
 
--- the thread with its top frame, the node, where L leads, the content of the table there, whether a loop entry holds the table variable to be bound,
+-- the thread with its top frame, the node, where L leads, whether there is a table and its content, whether a loop entry holds the table variable to be bound,
 -- the numbers of tables and threads, and the row picked
 pub record Situation : Type 0 where
   pub thread : Thread
@@ -46,7 +46,7 @@ situation t f d q s =
       row = s .row;
     }
 
--- the content of the table afterwards, the thread, which is gone where its stack is empty, and the new thread of a parallel round
+-- the answer, the content of the table afterwards, the thread, which is gone where its stack is empty, and the new thread of a parallel round
 pub record Change : Type 0 where
   pub answer : Answer
   pub content : Relation

@@ -1,12 +1,12 @@
-// What a pick comes to, from the small parts that it meets.
+// The small parts that a pick meets, and those that it comes to.
 use nets::Answer;
 use nets::Frame;
 use values::Site;
 use values::Slot;
 
-pub mod deciding;
+pub mod parts;
 
-// What a site's locality means.
+// Where L leads.
 pub enum Located {
     Nowhere,
     At(Site),

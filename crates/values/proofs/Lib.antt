@@ -8,11 +8,9 @@ pub mod FlagLaws
 pub mod Ints
 pub mod ListLaws
 pub mod Loops
-pub mod Orders
 pub mod PairLaws
 pub mod PlaceLaws
 pub mod RangeLaws
 pub mod RemoveLaws
 pub mod SameLaws
 pub mod Sizes
-pub mod Texts

@@ -1,7 +1,5 @@
-// Values, what operands give, and variables. All by value.
-pub mod compare;
-pub mod eval;
-pub mod text;
+// Values, operands and variables. All by value.
+pub mod kinds;
 
 // A physical site, 0..7.
 pub struct Site(pub u8);

@@ -1,6 +1,5 @@
 -- Laws of how loading goes through a file.
 pub mod FormLaws
 pub mod LeftLaws
-pub mod LinkLaws
 pub mod PlaceTies
 pub mod WalkLaws

@@ -1,9 +1,9 @@
 // A row in the content of its table: checks 7 and 8.
 use changes::changes::push;
+use fitting::fit::fits_columns;
+use fitting::fit::row_of;
 use rows::Draft;
 use rows::Relation;
-use rows::fit::fits_columns;
-use rows::fit::row_of;
 ghost use mathlib.Core.Path.{_≡_};
 ghost use mathlib.Core.List.{[], _∷_, _++_};
 ghost use Prim.Native.Nat.{_≤_};

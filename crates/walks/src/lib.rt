@@ -1,10 +1,8 @@
-// How loading goes through a file: the place reached, the tables, what a row adds to one, and the links when all is read.
+// How loading goes through a file: the place reached, and what a row adds to a table.
 use nets::Table;
 
 pub mod blanks;
 pub mod contents;
-pub mod links;
-pub mod tables;
 pub mod walking;
 
 // A place in the file: of the next record, with the group of the last one looked at and the number of the fault there, 0 for none.

@@ -1,6 +1,6 @@
 // The next record of a file, by its group.
 use crate::Reach;
-use codec::forms::group_of;
+use forms::forms::group_of;
 ghost use mathlib.Core.Path.{_≡_};
 ghost use Prim.Native.Nat.{_≤_};
 ghost use Rattle.walks.specs.Walking.{groupNext};

@@ -5,10 +5,10 @@ use Rattle.bench.proofs.running.chain.Statement.{statement}
 use Rattle.bench.proofs.running.chain.Tie as tie
 
 abbrev Inv-loop : tie.InvT-loop
-Inv-loop kind count net₀ sum₀ n₀ net sum n = Unit {0}
+Inv-loop kind count sum₀ s₀ n₀ sum s n = Unit {0}
 
 abbrev μ-loop : tie.MeasureT-loop
-μ-loop kind count net₀ sum₀ n₀ net sum n = count - n
+μ-loop kind count sum₀ s₀ n₀ sum s n = count - n
 
 pub chain-spec : {M : Type 1} → statement M
 chain-spec =

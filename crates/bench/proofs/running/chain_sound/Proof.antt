@@ -8,10 +8,10 @@ use Rattle.bench.proofs.running.chain_sound.Statement.{statement}
 use Rattle.bench.proofs.running.chain_sound.Tie as tie
 
 abbrev Inv-loop : tie.InvT-loop
-Inv-loop kind count net₀ sum₀ n₀ net sum n = T (sound (view net))
+Inv-loop kind count sum₀ s₀ n₀ sum s n = T (sound (view (s .net)))
 
 abbrev μ-loop : tie.MeasureT-loop
-μ-loop kind count net₀ sum₀ n₀ net sum n = count - n
+μ-loop kind count sum₀ s₀ n₀ sum s n = count - n
 
 pub chain-sound-spec : {M : Type 1} → statement M
 chain-sound-spec =

@@ -49,7 +49,7 @@ use Rattle.runs.proofs.running.run as run′
 use Rattle.runs.proofs.running.run.Symbol as run-def
 use Rattle.runs.proofs.running.run.Symbol.{name as #run}
 use Rattle.runs.proofs.running.run.Met as run-thm
-use Rattle.runs.proofs.LendWalk.{Run, fits, typedA, lends-all}
+use Rattle.lending.proofs.LendWalk.{Run, fits, typedA, lends-all}
 use Rattle.bench.proofs.whole.lend.Key.{name as #lend}
 use Rattle.bench.proofs.whole.lend as lend′
 use Rattle.bench.proofs.whole.lend.Statement as stated

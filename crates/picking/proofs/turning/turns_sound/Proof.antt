@@ -30,37 +30,88 @@ use Rattle.acts.specs.Contracts.{isDoing, ActReady}
 use Rattle.threads.specs.Contracts.{Stacked, standing, forksOf}
 use Rattle.turns.specs.Contracts.{Fine, Sourced, Meets, DecidedIs, partsIn, Made, changed, ChangeIs}
 use Rattle.turns.proofs.SituationLaws.{fine-read, fine-bound, sourced, judge-ready, act-ready}
+use Rattle.totals.specs.declared.Total.{Total}
 use Rattle.lists.specs.declared.TableList.{TableList}
 use Rattle.lists.specs.declared.ThreadList.{ThreadList}
 use Rattle.lists.specs.Contracts.{tablesWith}
 use Rattle.lists.proofs.KindTies.{either}
-use Rattle.picking.specs.declared.Gone.{Gone}
-use Rattle.picking.specs.Turns.{GoneIs}
+use Rattle.leaving.specs.Turns.{Stood, stoodBy, GoneIs}
 use Rattle.picking.proofs.SceneTies.{threadAt, few-tables, few-nodes, few-threads, few-aliases, thread-stacked}
 use Rattle.picking.proofs.ReadTies.{nodeRead, Read, situationIn, shown-content, thread-below, entries-there, number-below, read-meets, read-fine, frame-top, variable-read, slot-below, over-below}
 use Rattle.values.proofs.Bools.{T-of}
 use Rattle.picking.proofs.PlainTies.{puts-step, binds-step, plain-tables, plain-threads, none-of, some-depth, as-moved, bound-set, bound-none}
 use Rattle.picking.proofs.StoreTies.{past-refused, change-refused, tables-ready, threads-ready, netWith, done-is}
-use Rattle.picking.proofs.TurnLaws.{gone-none, gone-again, gone-room, turned-refused, turned-done}
+use Rattle.leaving.proofs.TurnLaws.{gone-none, gone-again, gone-room, turned-refused, turned-done}
 use Rattle.picking.proofs.turning.turns_sound.Statement.{statement}
 use Rattle.picking.proofs.turning.turns_sound.Tie as tie
 
--- the lengths of arrays that are stored to on the way
-record Sized (net : Net) : Type 0 where
+-- the lengths of arrays that are stored to on the way, and what no pick changes
+record Sized (net₀ net : Net) : Type 0 where
   aliases : length (net .aliases) ≡ 56
   tables : length (net .tables) ≡ 8
   threads : length (net .threads) ≡ 8
+  sameAliases : net .aliases ≡ net₀ .aliases
+  sameAliasCount : net .aliascount ≡ net₀ .aliascount
+  sameNodes : net .nodes ≡ net₀ .nodes
+  sameNodeCount : net .nodecount ≡ net₀ .nodecount
 
 abbrev Inv-loop : tie.InvT-loop
 Inv-loop count picks net₀ added₀ taken₀ answer₀ i₀ net added taken answer i =
-    (i ≤ count) × GoneIs net₀ (take i picks) added₀ taken₀ (record { net = net; answer = answer; added = added; taken = taken }) × Sized net
+    (i ≤ count) × GoneIs net₀ (take i picks) added₀ taken₀ (record { net = net; answer = answer; added = added; taken = taken }) × Sized net₀ net
 
 abbrev μ-loop : tie.MeasureT-loop
 μ-loop count picks net₀ added₀ taken₀ answer₀ i₀ net added taken answer i = count - i
 
 loop-holds : tie.Need-loop-holds Inv-loop μ-loop
-loop-holds c =
-    (omega arith, gone-none (c .args .from) (c .args .before) (c .args .gone) (c .pre .0), record { aliases = search (long, needs); tables = search (long, needs); threads = search (long, needs) })
+loop-holds c = (
+  omega arith,
+  gone-none (c .args .from) (c .args .before) (c .args .gone),
+  record {
+    aliases = search (long, needs);
+    tables = search (long, needs);
+    threads = search (long, needs);
+    sameAliases = refl;
+    sameAliasCount = refl;
+    sameNodes = refl;
+    sameNodeCount = refl;
+  },
+)
+
+-- other tables and threads leave the rest
+kept-in : {m n : Net} {ts : TableList} {hs : ThreadList} → Sized m n → length (ts .tables) ≡ 8 → length (hs .threads) ≡ 8 → Sized m (netWith n ts hs)
+kept-in z p q =
+    record {
+      aliases = z .aliases;
+      tables = p;
+      threads = q;
+      sameAliases = z .sameAliases;
+      sameAliasCount = z .sameAliasCount;
+      sameNodes = z .sameNodes;
+      sameNodeCount = z .sameNodeCount;
+    }
+
+-- what stood is what is handed on
+handed-on :
+    {m n : Net} {a : Answer} {u v : Total} → Sized m n →
+    record { net = n; answer = a; added = u; taken = v }
+    ≡ stoodBy m (record { tables = n .tables; tablecount = n .tablecount; threads = n .threads; threadcount = n .threadcount; answer = a; added = u; taken = v })
+handed-on {n = n} {a = a} {u = u} {v = v} z j =
+    record {
+      net =
+          record {
+            aliases = z .sameAliases j;
+            aliascount = z .sameAliasCount j;
+            tables = n .tables;
+            tablecount = n .tablecount;
+            nodes = z .sameNodes j;
+            nodecount = z .sameNodeCount j;
+            threads = n .threads;
+            threadcount = n .threadcount;
+          };
+      answer = a;
+      added = u;
+      taken = v;
+    }
 
 -- ── where a pick begins ──
 
@@ -74,13 +125,14 @@ abbrev pickAt : tie.At-loop Inv-loop μ-loop → Pick
 pickAt l = getD (l .before .args .t2) (l .loop .i) noPick
 
 -- what the picks before left
-abbrev goneAt : tie.At-loop Inv-loop μ-loop → Gone
+abbrev goneAt : tie.At-loop Inv-loop μ-loop → Stood
 goneAt l = record { net = l .loop .net; answer = l .loop .answer; added = l .loop .added; taken = l .loop .taken }
 
-ok : (l : tie.At-loop Inv-loop μ-loop) → T (sound (view (netAt l)))
-ok l = l .loop .inv .1 .sound
+-- where a pick is left
+sound-there : (l : tie.At-loop Inv-loop μ-loop) → l .loop .i < l .before .args .count → T (sound (view (netAt l)))
+sound-there l h = l .loop .inv .1 .sound (l .before .pre .0 (omega (arith, h)))
 
-picks-long : (l : tie.At-loop Inv-loop μ-loop) → length (l .before .args .t2) ≡ 64
+picks-long : (l : tie.At-loop Inv-loop μ-loop) → length (l .before .args .t2) ≡ 128
 picks-long l = search (long, needs)
 
 loop-again : tie.Need-loop-again Inv-loop μ-loop
@@ -89,7 +141,7 @@ loop-again c =
     let a = l .before .args in
     let x =
     gone-again (a .from) (a .t2) (l .loop .i) (a .count) noPick (a .before) (a .gone) (goneAt l) _ (c .before .before .before .loop-test .taken) (omega (arith, picks-long l, l .before .pre .1)) (l .loop .inv .1)
-    (turned-refused (goneAt l) (pickAt l) _ refl (past-refused (netAt l) (pickAt l) (ok l) (c .if1 .taken))) in
+    (turned-refused (goneAt l) (pickAt l) _ refl (past-refused (netAt l) (pickAt l) (sound-there l (c .before .before .before .loop-test .taken)) (c .if1 .taken))) in
     (x .0, x .1, l .loop .inv .2)
 
 -- ── the thread and its node ──
@@ -97,17 +149,20 @@ loop-again c =
 abbrev loopOf : tie.Else1 Inv-loop μ-loop → tie.At-loop Inv-loop μ-loop
 loopOf c = c .before .before .before .before
 
+ok : (e : tie.Else1 Inv-loop μ-loop) → T (sound (view (netAt (loopOf e))))
+ok e = sound-there (loopOf e) (e .before .before .before .loop-test .taken)
+
 there : (c : tie.Else1 Inv-loop μ-loop) → pickAt (loopOf c) .thread < netAt (loopOf c) .threadcount
 there c = c .if1 .left
 
 element-copy-out-thread : tie.Need-element-copy-out-thread Inv-loop μ-loop
-element-copy-out-thread c = thread-below (netAt (loopOf c)) (pickAt (loopOf c)) (ok (loopOf c)) (there c)
+element-copy-out-thread c = thread-below (netAt (loopOf c)) (pickAt (loopOf c)) (ok c) (there c)
 
 sub-top : tie.Need-sub-top Inv-loop μ-loop
-sub-top c = let e = c .before in thread-stacked (netAt (loopOf e)) (pickAt (loopOf e)) (ok (loopOf e)) (there e) .some
+sub-top c = let e = c .before in thread-stacked (netAt (loopOf e)) (pickAt (loopOf e)) (ok e) (there e) .some
 
 element-copy-out-frame : tie.Need-element-copy-out-frame Inv-loop μ-loop
-element-copy-out-frame c = let e = c .before in let k = thread-stacked (netAt (loopOf e)) (pickAt (loopOf e)) (ok (loopOf e)) (there e) in omega (arith, k .some, k .few)
+element-copy-out-frame c = let e = c .before in let k = thread-stacked (netAt (loopOf e)) (pickAt (loopOf e)) (ok e) (there e) in omega (arith, k .some, k .few)
 
 abbrev frameAt : tie.Else1 Inv-loop μ-loop → Frame
 frameAt e = let t = threadAt (netAt (loopOf e)) (pickAt (loopOf e) .thread) in getD (t .stack) (t .depth - 1) noFrame
@@ -115,8 +170,8 @@ frameAt e = let t = threadAt (netAt (loopOf e)) (pickAt (loopOf e) .thread) in g
 element-copy-out-node : tie.Need-element-copy-out-node Inv-loop μ-loop
 element-copy-out-node c =
     let e = c .before .before .before in
-    number-below (netAt (loopOf e)) (pickAt (loopOf e)) (ok (loopOf e)) (there e)
-    (frame-top (threadAt (netAt (loopOf e)) (pickAt (loopOf e) .thread)) (thread-stacked (netAt (loopOf e)) (pickAt (loopOf e)) (ok (loopOf e)) (there e) .some)) (c .node-of .ensures)
+    number-below (netAt (loopOf e)) (pickAt (loopOf e)) (ok e) (there e)
+    (frame-top (threadAt (netAt (loopOf e)) (pickAt (loopOf e) .thread)) (thread-stacked (netAt (loopOf e)) (pickAt (loopOf e)) (ok e) (there e) .some)) (c .node-of .ensures)
 
 abbrev elseOf : tie.After-binds-relation Inv-loop μ-loop → tie.Else1 Inv-loop μ-loop
 elseOf b = b .before .before .before .before .before
@@ -128,7 +183,7 @@ is-held-requires : tie.Need-is-held-requires Inv-loop μ-loop
 is-held-requires c κs =
     let e = elseOf (c .before .before) in
     let n = netAt (loopOf e) in
-    (few-nodes n (ok (loopOf e)), thread-stacked n (pickAt (loopOf e)) (ok (loopOf e)) (there e) .few, entries-there n (pickAt (loopOf e)) (ok (loopOf e)) (there e))
+    (few-nodes n (ok e), thread-stacked n (pickAt (loopOf e)) (ok e) (there e) .few, entries-there n (pickAt (loopOf e)) (ok e) (there e))
 
 -- a loop entry holds the table variable, judged where the node binds one
 held-at :
@@ -142,15 +197,16 @@ held-at j h = either (j .if2 .came) (λ x. x .3 ∙ x .2 .ensures) (λ x. absurd
 -- ── where L leads, and the table there ──
 
 site-of-requires : tie.Need-site-of-requires Inv-loop μ-loop
-site-of-requires c κs = let l = loopOf (elseOf (c .before .before .before .before .before)) in few-aliases (netAt l) (ok l) (l .loop .inv .2 .aliases)
+site-of-requires c κs = let e = elseOf (c .before .before .before .before .before) in let l = loopOf e in few-aliases (netAt l) (ok e) (l .loop .inv .2 .aliases)
 
 find-table-requires : tie.Need-find-table-requires Inv-loop μ-loop
-find-table-requires c κs = let l = loopOf (elseOf (c .before .before .before .before .before .before .before .before)) in few-tables (netAt l) (ok l)
+find-table-requires c κs = let e = elseOf (c .before .before .before .before .before .before .before .before) in let l = loopOf e in few-tables (netAt l) (ok e)
 
 element-copy-out-table : tie.Need-element-copy-out-table Inv-loop μ-loop
 element-copy-out-table c =
-    let l = loopOf (elseOf (c .before .before .before .before .before .before .before .before .before .before)) in
-    slot-below (netAt l) _ _ (few-tables (netAt l) (ok l)) (c .slot-at .ensures)
+    let e = elseOf (c .before .before .before .before .before .before .before .before .before .before) in
+    let l = loopOf e in
+    slot-below (netAt l) _ _ (few-tables (netAt l) (ok e)) (c .slot-at .ensures)
 
 abbrev joined : tie.After-shown Inv-loop μ-loop → tie.Joined2 Inv-loop μ-loop
 joined s = s .before .before .before .before .before .before .before .before .before .before .before .before
@@ -167,7 +223,7 @@ read s =
     let e = begun s in
     let n = netAt (loopOf e) in
     record {
-      frame = frame-top (threadAt n (pickAt (loopOf e) .thread)) (thread-stacked n (pickAt (loopOf e)) (ok (loopOf e)) (there e) .some);
+      frame = frame-top (threadAt n (pickAt (loopOf e) .thread)) (thread-stacked n (pickAt (loopOf e)) (ok e) (there e) .some);
       number = joined s .before .before .before .node-of .ensures;
       held = held-at (joined s);
       got = s .before .before .before .before .before .before .before .before .eval-in .ensures;
@@ -183,10 +239,10 @@ situationAt s =
     (s .before .before .before .before .before .before .before .site-of .result) (s .before .before .before .before .find-table .result) (s .shown .result)
 
 meets : (s : tie.After-shown Inv-loop μ-loop) → Meets (situationAt s) (sceneOf (view (netAt (loopOf (begun s)))) (pickAt (loopOf (begun s))))
-meets s = read-meets (netAt (loopOf (begun s))) (pickAt (loopOf (begun s))) (ok (loopOf (begun s))) (there (begun s)) (read s)
+meets s = read-meets (netAt (loopOf (begun s))) (pickAt (loopOf (begun s))) (ok (begun s)) (there (begun s)) (read s)
 
 fine : (s : tie.After-shown Inv-loop μ-loop) → Fine (situationAt s)
-fine s = read-fine (netAt (loopOf (begun s))) (pickAt (loopOf (begun s))) (ok (loopOf (begun s))) (there (begun s)) (read s)
+fine s = read-fine (netAt (loopOf (begun s))) (pickAt (loopOf (begun s))) (ok (begun s)) (there (begun s)) (read s)
 
 element-copy-out-v : tie.Need-element-copy-out-v Inv-loop μ-loop
 element-copy-out-v c = fine-read (situationAt (c .before)) (fine (c .before))
@@ -220,7 +276,7 @@ loop-again-2 c =
     let x =
     gone-again (a .from) (a .t2) (l .loop .i) (a .count) noPick (a .before) (a .gone) (goneAt l) _ (e .before .before .before .loop-test .taken) (omega (arith, picks-long l, l .before .pre .1)) (l .loop .inv .1)
     (turned-refused (goneAt l) (pickAt l) (o .decide .result .answer) (c .enum-told .given .1)
-    (change-refused (netAt l) (pickAt l) (ok l) (there e) (decided o .at _ (meets (shownOf o)) .answer) (c .enum-told .given .1))) in
+    (change-refused (netAt l) (pickAt l) (ok e) (there e) (decided o .at _ (meets (shownOf o)) .answer) (c .enum-told .given .1))) in
     (x .0, x .1, l .loop .inv .2)
 
 -- ── a done step ──
@@ -353,7 +409,7 @@ change j m = let o = decideOf (toldOf (j .before)) in decided o .at _ (meets (sh
 
 -- one pick more
 again :
-    (j : tie.Joined3 Inv-loop μ-loop) (n : Net) → Sized n → StepIs (netAt (loopOf (elseIn j))) (pickAt (loopOf (elseIn j))) (record { answer = decideOf (toldOf (j .before)) .decide .result .answer; net = n }) →
+    (j : tie.Joined3 Inv-loop μ-loop) (n : Net) → Sized (loopOf (elseIn j) .before .args .from) n → StepIs (netAt (loopOf (elseIn j))) (pickAt (loopOf (elseIn j))) (record { answer = decideOf (toldOf (j .before)) .decide .result .answer; net = n }) →
     (loopOf (elseIn j) .loop .i + 1 ≤ loopOf (elseIn j) .before .args .count)
     × GoneIs (loopOf (elseIn j) .before .args .from) (take (loopOf (elseIn j) .loop .i + 1) (loopOf (elseIn j) .before .args .t2)) (loopOf (elseIn j) .before .args .before) (loopOf (elseIn j) .before .args .gone)
     (record {
@@ -362,7 +418,7 @@ again :
       added = tableOfStep j .before .before .plus .result;
       taken = tableOfStep j .before .plus2 .result;
     })
-    × Sized n
+    × Sized (loopOf (elseIn j) .before .args .from) n
 again j n z is =
     let k = toldOf (j .before) in
     let e = elseIn j in
@@ -398,7 +454,7 @@ threads-after-requires c κs =
     let j = joinedOf c in
     let e = elseIn j in
     let l = loopOf e in
-    let x = threads-ready (netAt l) (pickAt l) (ok l) (there e) (read (shownOf (decideOf (toldOf (j .before))))) (change j (with-fork c)) (toldOf (j .before) .before .answer .given .1) in
+    let x = threads-ready (netAt l) (pickAt l) (ok e) (there e) (read (shownOf (decideOf (toldOf (j .before))))) (change j (with-fork c)) (toldOf (j .before) .before .answer .given .1) in
     (x .0, x .1, λ h. (x .2 h .0, subst (λ (t : Thread). 1 ≤ t .depth) (sym (moved-is j)) (x .2 h .1)))
 
 tables-after-requires : tie.Need-tables-after-requires Inv-loop μ-loop
@@ -406,7 +462,7 @@ tables-after-requires c κs =
     let j = joinedOf (c .before) in
     let e = elseIn j in
     let l = loopOf e in
-    tables-ready (netAt l) (pickAt l) (ok l) (there e) (read (shownOf (decideOf (toldOf (j .before))))) (change j (with-fork (c .before))) (toldOf (j .before) .before .answer .given .1)
+    tables-ready (netAt l) (pickAt l) (ok e) (there e) (read (shownOf (decideOf (toldOf (j .before))))) (change j (with-fork (c .before))) (toldOf (j .before) .before .answer .given .1)
 
 tables-long : (t : tie.After-tables-after Inv-loop μ-loop) → length (t .tables-after .result .tables) ≡ 8
 tables-long t = search (long, t .tables-after .ok)
@@ -423,8 +479,8 @@ loop-again-3 c =
     let e = elseIn j in
     let l = loopOf e in
     let x =
-    again j (netWith (netAt l) (t .tables-after .result) (h .threads-after .result)) (record { aliases = l .loop .inv .2 .aliases; tables = tables-long t; threads = threads-long h })
-    (done-is (netAt l) (pickAt l) (ok l) (there e) (read (shownOf (decideOf (toldOf (j .before))))) (change j (with-fork f)) (toldOf (j .before) .before .answer .given .1) (t .tables-after .result) (h .threads-after .result)
+    again j (netWith (netAt l) (t .tables-after .result) (h .threads-after .result)) (kept-in (l .loop .inv .2) (tables-long t) (threads-long h))
+    (done-is (netAt l) (pickAt l) (ok e) (there e) (read (shownOf (decideOf (toldOf (j .before))))) (change j (with-fork f)) (toldOf (j .before) .before .answer .given .1) (t .tables-after .result) (h .threads-after .result)
     (t .tables-after .ensures .0)
     (h .threads-after .ensures .0
     ∙ ap (λ (u : Thread). settle (pickAt l .thread) (standing (threadOf u)) (threadsOf (netAt l .threadcount) (netAt l .threads)) ++ forksOf (decideOf (toldOf (j .before)) .decide .result .forks) (f .forked .result)) (moved-is j))) in
@@ -441,11 +497,12 @@ slotIn j = shownOf (decideOf (toldOf (j .before))) .before .before .before
 element-set-from-fresh : tie.Need-element-set-from-fresh Inv-loop μ-loop
 element-set-from-fresh c =
     let j = plainOf c in
-    let l = loopOf (elseIn j) in
-    slot-below (netAt l) _ _ (few-tables (netAt l) (ok l)) (slotIn j .slot-at .ensures)
+    let e = elseIn j in
+    let l = loopOf e in
+    slot-below (netAt l) _ _ (few-tables (netAt l) (ok e)) (slotIn j .slot-at .ensures)
 
 element-set-from-net : tie.Need-element-set-from-net Inv-loop μ-loop
-element-set-from-net c = let e = elseIn (plainOf c) in thread-below (netAt (loopOf e)) (pickAt (loopOf e)) (ok (loopOf e)) (there e)
+element-set-from-net c = let e = elseIn (plainOf c) in thread-below (netAt (loopOf e)) (pickAt (loopOf e)) (ok e) (there e)
 
 -- the tests that led here
 tests :
@@ -475,7 +532,7 @@ tables-stored c =
     let n = netAt l in
     let fresh = tableOfStep j .table-after in
     plain-tables (n .tablecount) (n .tables) (slotIn j .before .find-table .result) (slotIn j .slot-at .result) (situationAt (shownOf o) .node .kind) (fresh .result) (slotIn j .before .before .before .site-in .result) (nodeOf (situationAt (shownOf o) .node)) (l .loop .inv .2 .tables)
-    (few-tables n (ok l)) (slotIn j .slot-at .ensures) (fresh .ensures .0) (fresh .ensures .1) (fresh .ensures .3) (tables-ready n (pickAt l) (ok l) (there e) (read (shownOf o)) (change j (no-fork c)) (k .before .answer .given .1) .1) (tests c .2) (tests c .3)
+    (few-tables n (ok e)) (slotIn j .slot-at .ensures) (fresh .ensures .0) (fresh .ensures .1) (fresh .ensures .3) (tables-ready n (pickAt l) (ok e) (there e) (read (shownOf o)) (change j (no-fork c)) (k .before .answer .given .1) .1) (tests c .2) (tests c .3)
 
 threads-stored :
     (c : tie.Else4 Inv-loop μ-loop) →
@@ -488,7 +545,7 @@ threads-stored c =
     let e = elseIn j in
     let l = loopOf e in
     let n = netAt l in
-    plain-threads (n .threadcount) (n .threads) (pickAt l .thread) (j .if3 .thread) (j .if3 .thread) (l .loop .inv .2 .threads) (there e) (few-threads n (ok l))
+    plain-threads (n .threadcount) (n .threads) (pickAt l .thread) (j .if3 .thread) (j .if3 .thread) (l .loop .inv .2 .threads) (there e) (few-threads n (ok e))
     (subst (λ (t : Thread). 1 ≤ t .depth) (sym (moved-is j)) (some-depth (o .decide .result .depth) (tests c .0))) (tests c .1)
     ∙ ap (λ (u : Thread). settle (pickAt l .thread) (standing (threadOf u)) (threadsOf (n .threadcount) (n .threads)) ++ forksOf (o .decide .result .forks) (j .if3 .thread)) (moved-is j)
 
@@ -502,15 +559,16 @@ loop-again-4 c =
     let ts : TableList = record { tables = set (n .tables) (slotIn j .slot-at .result) (tableOfStep j .table-after .result); count = n .tablecount } in
     let hs : ThreadList = record { threads = set (n .threads) (pickAt l .thread) (j .if3 .thread); count = n .threadcount } in
     let x =
-    again j (netWith n ts hs) (record { aliases = z .aliases; tables = length-set (n .tables) (slotIn j .slot-at .result) (tableOfStep j .table-after .result) ∙ z .tables; threads = length-set (n .threads) (pickAt l .thread) (j .if3 .thread) ∙ z .threads })
-    (done-is n (pickAt l) (ok l) (there e) (read (shownOf (decideOf (toldOf (j .before))))) (change j (no-fork c)) (toldOf (j .before) .before .answer .given .1) ts hs (tables-stored c) (threads-stored c)) in
+    again j (netWith n ts hs) (kept-in z (length-set (n .tables) (slotIn j .slot-at .result) (tableOfStep j .table-after .result) ∙ z .tables) (length-set (n .threads) (pickAt l .thread) (j .if3 .thread) ∙ z .threads))
+    (done-is n (pickAt l) (ok e) (there e) (read (shownOf (decideOf (toldOf (j .before))))) (change j (no-fork c)) (toldOf (j .before) .before .answer .given .1) ts hs (tables-stored c) (threads-stored c)) in
     (x .0, record { left = x .1 .left; sound = x .1 .sound; kept = x .1 .kept; last = ap saidOf (sym (toldOf (j .before) .before .answer .given .1)) ∙ x .1 .last; added = x .1 .added; taken = x .1 .taken; addedRoom = x .1 .addedRoom; takenRoom = x .1 .takenRoom }, x .2)
 
 returns : tie.Need-returns Inv-loop μ-loop
 returns c =
-    let l = c .before in
-    let same : l .loop .i ≡ l .before .args .count = omega (arith, l .loop .inv .0, c .loop-test .left) in
-    subst (λ (i : ℕ). GoneIs (l .before .args .from) (take i (l .before .args .t2)) (l .before .args .before) (l .before .args .gone) (goneAt l)) same (l .loop .inv .1)
+    let l = c .before .before .before in
+    let same : l .loop .i ≡ l .before .args .count = omega (arith, l .loop .inv .0, c .before .before .loop-test .left) in
+    subst (λ (r : Stood). GoneIs (l .before .args .from) (take (l .before .args .count) (l .before .args .t2)) (l .before .args .before) (l .before .args .gone) r) (handed-on (l .loop .inv .2))
+    (subst (λ (i : ℕ). GoneIs (l .before .args .from) (take i (l .before .args .t2)) (l .before .args .before) (l .before .args .gone) (goneAt l)) same (l .loop .inv .1))
 
 -- ── the loop ends ──
 
@@ -520,15 +578,16 @@ less e = let h = e .before .before .before .loop-test .taken in omega (arith, h)
 -- ── places within 64 bits ──
 
 mul-frame : tie.Need-mul-frame Inv-loop μ-loop
-mul-frame c = record { fits = let e = c .before in let k = thread-stacked (netAt (loopOf e)) (pickAt (loopOf e)) (ok (loopOf e)) (there e) in omega (arith, k .some, k .few) }
+mul-frame c = record { fits = let e = c .before in let k = thread-stacked (netAt (loopOf e)) (pickAt (loopOf e)) (ok e) (there e) in omega (arith, k .some, k .few) }
 
 mul-table : tie.Need-mul-table Inv-loop μ-loop
 mul-table c =
-    let l = loopOf (elseOf (c .before .before .before .before .before .before .before .before .before .before)) in
-    record { fits = let h = slot-below (netAt l) _ _ (few-tables (netAt l) (ok l)) (c .slot-at .ensures) in omega (arith, h) }
+    let e = elseOf (c .before .before .before .before .before .before .before .before .before .before) in
+    let l = loopOf e in
+    record { fits = let h = slot-below (netAt l) _ _ (few-tables (netAt l) (ok e)) (c .slot-at .ensures) in omega (arith, h) }
 
-mul-t64 : tie.Need-mul-t64 Inv-loop μ-loop
-mul-t64 c = record { fits = let h = above-below c in omega (arith, h) }
+mul-above : tie.Need-mul-t66 Inv-loop μ-loop
+mul-above c = record { fits = let h = above-below c in omega (arith, h) }
 
 mul-waiting : tie.Need-mul-waiting Inv-loop μ-loop
 mul-waiting c = record { fits = let k = stacked (toldOf c) in omega (arith, k .some, k .few) }
@@ -536,13 +595,14 @@ mul-waiting c = record { fits = let k = stacked (toldOf c) in omega (arith, k .s
 mul-fresh : tie.Need-mul-fresh Inv-loop μ-loop
 mul-fresh c =
     let j = plainOf c in
-    let l = loopOf (elseIn j) in
-    record { fits = let h = slot-below (netAt l) _ _ (few-tables (netAt l) (ok l)) (slotIn j .slot-at .ensures) in omega (arith, h) }
+    let e = elseIn j in
+    let l = loopOf e in
+    record { fits = let h = slot-below (netAt l) _ _ (few-tables (netAt l) (ok e)) (slotIn j .slot-at .ensures) in omega (arith, h) }
 
-mul-net : tie.Need-mul-t64-2 Inv-loop μ-loop
+mul-net : tie.Need-mul-t66-2 Inv-loop μ-loop
 mul-net c =
     let e = elseIn (plainOf c) in
-    record { fits = let h = thread-below (netAt (loopOf e)) (pickAt (loopOf e)) (ok (loopOf e)) (there e) in omega (arith, h) }
+    record { fits = let h = thread-below (netAt (loopOf e)) (pickAt (loopOf e)) (ok e) (there e) in omega (arith, h) }
 
 pub turns-sound-spec : {M : Type 1} → statement M
 turns-sound-spec =
@@ -591,7 +651,7 @@ turns-sound-spec =
     table-after-requires
     (λ c κs. search needs)
     (λ c κs. search needs)
-    mul-t64
+    mul-above
     element-set-from-thread
     mul-waiting
     element-set-from-waiting

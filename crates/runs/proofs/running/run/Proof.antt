@@ -50,37 +50,37 @@ use denote.Triple.Walked.{says, Stays, stay-dropped, walkOf, goes-dropped, Walks
 use denote.Exit.{yes}
 use Rattle.runs.specs.Runs.{RunIs}
 use Rattle.counts.specs.States.{Begun}
-use Rattle.runs.specs.Batches.{picksOf, Empty, OneMore}
+use Rattle.gathering.specs.Batches.{picksOf, Empty, OneMore}
 use Rattle.runs.specs.Turns.{Ready, Turned}
 use Rattle.runs.proofs.TurnLaws.{SoFar, so-far-start, so-far-more, so-far-turned, so-far-all, so-far-ready, room-left}
 use Rattle.nets.specs.declared.Pick.{Pick}
 use Rattle.nets.specs.declared.Net.{Net}
 use Rattle.counts.specs.declared.Ran.{Ran}
-use Rattle.runs.specs.declared.Batch.{Batch}
+use Rattle.gathering.specs.declared.Batch.{Batch}
 use Rattle.nets.proofs.Pick as P
 use Rattle.nets.proofs.Pick.Laws as P′
 use Rattle.nets.proofs.Net as N
 use Rattle.nets.proofs.Net.Laws as N′
 use Rattle.counts.proofs.Ran as R
 use Rattle.counts.proofs.Ran.Laws as R′
-use Rattle.runs.proofs.Batch as B
-use Rattle.runs.proofs.Batch.Laws as B′
+use Rattle.gathering.proofs.Batch as B
+use Rattle.gathering.proofs.Batch.Laws as B′
 use Rattle.counts.proofs.begin as begin
 use Rattle.counts.proofs.begin.Symbol as begin-def
 use Rattle.counts.proofs.begin.Symbol.{name as #begin}
 use Rattle.counts.proofs.begin.Met as begin-thm
-use Rattle.runs.proofs.gathering.no_picks as no-picks
-use Rattle.runs.proofs.gathering.no_picks.Symbol as no-picks-def
-use Rattle.runs.proofs.gathering.no_picks.Symbol.{name as #no-picks}
-use Rattle.runs.proofs.gathering.no_picks.Met as no-picks-thm
-use Rattle.runs.proofs.gathering.with_pick as with-pick
-use Rattle.runs.proofs.gathering.with_pick.Symbol as with-pick-def
-use Rattle.runs.proofs.gathering.with_pick.Symbol.{name as #with-pick}
-use Rattle.runs.proofs.gathering.with_pick.Met as with-pick-thm
-use Rattle.runs.proofs.gathering.is_full as is-full
-use Rattle.runs.proofs.gathering.is_full.Symbol as is-full-def
-use Rattle.runs.proofs.gathering.is_full.Symbol.{name as #is-full}
-use Rattle.runs.proofs.gathering.is_full.Met as is-full-thm
+use Rattle.gathering.proofs.gathering.no_picks as no-picks
+use Rattle.gathering.proofs.gathering.no_picks.Symbol as no-picks-def
+use Rattle.gathering.proofs.gathering.no_picks.Symbol.{name as #no-picks}
+use Rattle.gathering.proofs.gathering.no_picks.Met as no-picks-thm
+use Rattle.gathering.proofs.gathering.with_pick as with-pick
+use Rattle.gathering.proofs.gathering.with_pick.Symbol as with-pick-def
+use Rattle.gathering.proofs.gathering.with_pick.Symbol.{name as #with-pick}
+use Rattle.gathering.proofs.gathering.with_pick.Met as with-pick-thm
+use Rattle.gathering.proofs.gathering.is_full as is-full
+use Rattle.gathering.proofs.gathering.is_full.Symbol as is-full-def
+use Rattle.gathering.proofs.gathering.is_full.Symbol.{name as #is-full}
+use Rattle.gathering.proofs.gathering.is_full.Met as is-full-thm
 use Rattle.runs.proofs.running.turns as turns
 use Rattle.runs.proofs.running.turns.Symbol as turns-def
 use Rattle.runs.proofs.running.turns.Symbol.{name as #turns}
@@ -130,8 +130,8 @@ module _ {M : Type 1} (𝓤 : URA M) (H : Heap 𝓤) (A : Atoms 𝓤) (mem : Mem
   with-pick-said : (g : Batch) (p : Pick) (r : Batch) → ent 𝓤 (ensured 𝓤 H A with-pick.ended (with-pick.clauses 𝓤 H A mem run) tt (g, (p, tt)) tt r) (fact 𝓤 (OneMore g p r))
   with-pick-said g p r = exE 𝓤 _ (λ ws. snd∗ 𝓤 (sem 𝓤 H A (lasts with-pick.ended tt (g, (p, tt)) ws)) (fact 𝓤 (OneMore g p r)))
 
-  is-full-said : (g : Batch) (r : Bool) → ent 𝓤 (ensured 𝓤 H A is-full.ended (is-full.clauses 𝓤 H A mem run) tt (g, tt) tt r) (fact 𝓤 (r ≡ eqb (g .count) 64))
-  is-full-said g r = exE 𝓤 _ (λ ws. snd∗ 𝓤 (sem 𝓤 H A (lasts is-full.ended tt (g, tt) ws)) (fact 𝓤 (r ≡ eqb (g .count) 64)))
+  is-full-said : (g : Batch) (r : Bool) → ent 𝓤 (ensured 𝓤 H A is-full.ended (is-full.clauses 𝓤 H A mem run) tt (g, tt) tt r) (fact 𝓤 (r ≡ eqb (g .count) 128))
+  is-full-said g r = exE 𝓤 _ (λ ws. snd∗ 𝓤 (sem 𝓤 H A (lasts is-full.ended tt (g, tt) ws)) (fact 𝓤 (r ≡ eqb (g .count) 128)))
 
   turns-said : (s : Ran) (g : Batch) (r : Ran) → ent 𝓤 (ensured 𝓤 H A turns.ended (turns.clauses 𝓤 H A mem run) tt (s, (g, tt)) tt r) (fact 𝓤 (Turned s (picksOf g) r))
   turns-said s g r = exE 𝓤 _ (λ ws. snd∗ 𝓤 (sem 𝓤 H A (lasts turns.ended tt (s, (g, tt)) ws)) (fact 𝓤 (Turned s (picksOf g) r)))
@@ -178,7 +178,7 @@ module _ {M : Type 1} (𝓤 : URA M) (H : Heap 𝓤) (A : Atoms 𝓤) (W : Given
   abbrev to-with-pick : Batch → Pick → Val → Val → WithPick 𝓤 H A mem run .Ghost
   to-with-pick g p w v = ((tt, tt, tt, (g, (p, tt)), (w ∷ [], (v ∷ [], tt))), tt)
 
-  goes-with-pick : (g : Batch) (p : Pick) (w v : Val) → g .count < 64 → ent 𝓤 (⋆ 𝓤 H A (‵ (B.the-row .own g (w ∷ [])) ∷ ‵ (P.the-row .own p (v ∷ [])) ∷ [])) (WithPick 𝓤 H A mem run .pre (to-with-pick g p w v))
+  goes-with-pick : (g : Batch) (p : Pick) (w v : Val) → g .count < 128 → ent 𝓤 (⋆ 𝓤 H A (‵ (B.the-row .own g (w ∷ [])) ∷ ‵ (P.the-row .own p (v ∷ [])) ∷ [])) (WithPick 𝓤 H A mem run .pre (to-with-pick g p w v))
   goes-with-pick g p w v f =
       qed W (‵ (B.the-row .own g (w ∷ [])) ∷ ‵ (P.the-row .own p (v ∷ [])) ∷ []) ∵ says ! f $
       nothing ! $ frame ! $ nothing ! $ move ! (2 ∷ 0 ∷ []) $ fjoin ! $ move ! (1 ∷ 0 ∷ []) $ fjoin ! $ done !
@@ -192,7 +192,7 @@ module _ {M : Type 1} (𝓤 : URA M) (H : Heap 𝓤) (A : Atoms 𝓤) (W : Given
   abbrev to-turns : Ran → Batch → Val → Val → Turns 𝓤 H A mem run .Ghost
   to-turns s g u w = ((tt, tt, tt, (s, (g, tt)), (u ∷ [], (w ∷ [], tt))), tt)
 
-  goes-turns : (s : Ran) (g : Batch) (u w : Val) → Ready s × (g .count ≤ 64) → ent 𝓤 (⋆ 𝓤 H A (‵ (R.the-row .own s (u ∷ [])) ∷ ‵ (B.the-row .own g (w ∷ [])) ∷ [])) (Turns 𝓤 H A mem run .pre (to-turns s g u w))
+  goes-turns : (s : Ran) (g : Batch) (u w : Val) → Ready s × (g .count ≤ 128) → ent 𝓤 (⋆ 𝓤 H A (‵ (R.the-row .own s (u ∷ [])) ∷ ‵ (B.the-row .own g (w ∷ [])) ∷ [])) (Turns 𝓤 H A mem run .pre (to-turns s g u w))
   goes-turns s g u w f =
       qed W (‵ (R.the-row .own s (u ∷ [])) ∷ ‵ (B.the-row .own g (w ∷ [])) ∷ []) ∵ says ! f $
       nothing ! $ frame ! $ nothing ! $ move ! (2 ∷ 0 ∷ []) $ fjoin ! $ move ! (1 ∷ 0 ∷ []) $ fjoin ! $ done !
@@ -207,7 +207,7 @@ module _ {M : Type 1} (𝓤 : URA M) (H : Heap 𝓤) (A : Atoms 𝓤) (W : Given
     w : Val
     is-batch : Is B.the-row g (w ∷ [])
     so-far : SoFar net ys i s g
-    room : g .count < 64
+    room : g .count < 128
 
   abbrev Nearer : Round → Round → Type 0
   Nearer x y = n - x .i < n - y .i
@@ -258,7 +258,7 @@ module _ {M : Type 1} (𝓤 : URA M) (H : Heap 𝓤) (A : Atoms 𝓤) (W : Given
         owned ! B.the-row (Is B.the-row) (LL.makes B.the-type B′.the-plain 𝓤 H A) g (w ∷ []) isG $ use1 W (raw (IsFull 𝓤 H A mem run .pre (to-is-full g w))) (goes-is-full g w) $
         calls-at ! (fmOf 𝓤 H (W .laws) 𝓣) (IsFull 𝓤 H A mem run) known-is-full (to-is-full g w) (and-then ! (load ! (from ! (stop !)) (look ! 4 refl)) (no-more !)) (λ f.
         use1 W (later (some (λ (r : Bool). (‵ ftrue ⊛ ‵ (bool .own r (f ∷ []))) ⊛ raw (ensured 𝓤 H A is-full.ended (is-full.clauses 𝓤 H A mem run) tt (g, tt) tt r)))) (id⊢ 𝓤 _) $ await ! tt $ pick ! (λ full.
-        split ! $ move ! (1 ∷ []) $ use1 W (raw (fact 𝓤 (full ≡ eqb (g .count) 64))) (is-full-said 𝓤 H A mem run g full) $ heard ! (full ≡ eqb (g .count) 64) (λ tests. split ! $ drop ! $
+        split ! $ move ! (1 ∷ []) $ use1 W (raw (fact 𝓤 (full ≡ eqb (g .count) 128))) (is-full-said 𝓤 H A mem run g full) $ heard ! (full ≡ eqb (g .count) 128) (λ tests. split ! $ drop ! $
         facts ! bool (Is bool) (shows 𝓤 H A bool) full (f ∷ []) (λ isF.
         land ! (from ! (stop !)) (init ! 9 refl (bool-lawful 𝓤 H A W .typed full _ isF .0)) $ rewrite ! 9 (λ (vs : List Val). ‵ (fat fullShare tyBool l₁₀ 0 (only vs))) isF refl $
         branches ! (load ! (from ! (stop !)) (look ! 9 refl))
@@ -370,7 +370,7 @@ run-spec 𝓤 H 𝓜 𝓖 𝓡 =
     (tables 𝓤 H 𝓜 𝓡 code.env .C) (tables 𝓤 H 𝓜 𝓡 code.env .Λ) #run code.function (code.unfolded 𝓤 H 𝓜 𝓡)
     (run-meets 𝓤 H (𝓖 .A) (givenOf 𝓤 H 𝓜 𝓖) (𝓜 .mem) (𝓡 .run) (tablesOf 𝓤 H 𝓜 (tables 𝓤 H 𝓜 𝓡 code.env))
     (cited 𝓤 H (Begin 𝓤 H (𝓖 .A) (𝓜 .mem) (𝓡 .run)) 𝓜 𝓡 code.env #begin begin-def.routine code.calls-counts·begin (begin-thm.met 𝓤 H 𝓜 𝓖 𝓡))
-    (cited 𝓤 H (NoPicks 𝓤 H (𝓖 .A) (𝓜 .mem) (𝓡 .run)) 𝓜 𝓡 code.env #no-picks no-picks-def.routine code.calls-runs·gathering·no-picks (no-picks-thm.met 𝓤 H 𝓜 𝓖 𝓡))
-    (cited 𝓤 H (WithPick 𝓤 H (𝓖 .A) (𝓜 .mem) (𝓡 .run)) 𝓜 𝓡 code.env #with-pick with-pick-def.routine code.calls-runs·gathering·with-pick (with-pick-thm.met 𝓤 H 𝓜 𝓖 𝓡))
-    (cited 𝓤 H (IsFull 𝓤 H (𝓖 .A) (𝓜 .mem) (𝓡 .run)) 𝓜 𝓡 code.env #is-full is-full-def.routine code.calls-runs·gathering·is-full (is-full-thm.met 𝓤 H 𝓜 𝓖 𝓡))
+    (cited 𝓤 H (NoPicks 𝓤 H (𝓖 .A) (𝓜 .mem) (𝓡 .run)) 𝓜 𝓡 code.env #no-picks no-picks-def.routine code.calls-gathering·gathering·no-picks (no-picks-thm.met 𝓤 H 𝓜 𝓖 𝓡))
+    (cited 𝓤 H (WithPick 𝓤 H (𝓖 .A) (𝓜 .mem) (𝓡 .run)) 𝓜 𝓡 code.env #with-pick with-pick-def.routine code.calls-gathering·gathering·with-pick (with-pick-thm.met 𝓤 H 𝓜 𝓖 𝓡))
+    (cited 𝓤 H (IsFull 𝓤 H (𝓖 .A) (𝓜 .mem) (𝓡 .run)) 𝓜 𝓡 code.env #is-full is-full-def.routine code.calls-gathering·gathering·is-full (is-full-thm.met 𝓤 H 𝓜 𝓖 𝓡))
     (cited 𝓤 H (Turns 𝓤 H (𝓖 .A) (𝓜 .mem) (𝓡 .run)) 𝓜 𝓡 code.env #turns turns-def.routine code.calls-runs·running·turns (turns-thm.met 𝓤 H 𝓜 𝓖 𝓡)))

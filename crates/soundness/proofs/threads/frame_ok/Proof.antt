@@ -1,5 +1,5 @@
 -- `soundness::threads::frame_ok` meets its contract: the node's shape says which table variable is asked.
-use Rattle.soundness.proofs.EntryLaws.{entry-runs, entry-past, entry-first, entry-second, entry-neither}
+use Rattle.ranges.proofs.EntryLaws.{entry-runs, entry-past, entry-first, entry-second, entry-neither}
 use borrow.Author.Needs.{needs}
 use Rattle.soundness.proofs.threads.frame_ok.Statement.{statement}
 use Rattle.soundness.proofs.threads.frame_ok.Tie as tie

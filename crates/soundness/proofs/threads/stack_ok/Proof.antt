@@ -9,9 +9,9 @@ use Rattle.values.proofs.Sizes.{some-none, some-over, some-fits}
 use Rattle.rows.specs.Relations.{Relation}
 use Rattle.nets.specs.Nets.{Node}
 use Rattle.nets.specs.Sound.{entryOk, stackOk}
-use Rattle.soundness.specs.SoundParts.{ShapesOf, ExtentsOf}
+use Rattle.ranges.specs.SoundParts.{ShapesOf, ExtentsOf}
 use Rattle.nets.specs.View.{stackOf}
-use Rattle.soundness.proofs.EntryLaws.{length-stack, stack-cons, stack-end}
+use Rattle.ranges.proofs.EntryLaws.{length-stack, stack-cons, stack-end}
 use borrow.Author.Needs.{needs}
 use Rattle.soundness.proofs.threads.stack_ok.Statement.{statement}
 use Rattle.soundness.proofs.threads.stack_ok.Tie as tie

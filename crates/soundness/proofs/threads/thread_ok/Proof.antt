@@ -16,7 +16,7 @@ use Rattle.nets.specs.declared.Thread.{Thread}
 use Rattle.nets.specs.declared.TableVariable.{TableVariable}
 use Rattle.nets.specs.Sound.{relationOk, variableOk, bindingsOk}
 use Rattle.nets.specs.View.{noVariable, variableOf, bindingsOf}
-use Rattle.soundness.proofs.EntryLaws.{extents-are, both-of}
+use Rattle.ranges.proofs.EntryLaws.{extents-are, both-of}
 use borrow.Author.Needs.{needs}
 use Rattle.soundness.proofs.threads.thread_ok.Statement.{statement}
 use Rattle.soundness.proofs.threads.thread_ok.Tie as tie

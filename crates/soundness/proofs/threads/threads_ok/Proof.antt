@@ -11,7 +11,7 @@ use Rattle.values.proofs.Loops.{all-more, all-fails, all-ends}
 use Rattle.values.proofs.Sizes.{size-over, size-fits}
 use Rattle.nets.specs.Nets.{Node}
 use Rattle.nets.specs.Sound.{threadOk}
-use Rattle.soundness.specs.SoundParts.{ShapesOf}
+use Rattle.ranges.specs.SoundParts.{ShapesOf}
 use Rattle.nets.specs.View.{noThread, threadOf, threadsOf}
 use borrow.Author.Needs.{needs}
 use Rattle.soundness.proofs.threads.threads_ok.Statement.{statement}

@@ -1,0 +1,2 @@
+// Aggregates over the rows of a relation.
+pub mod aggregates;

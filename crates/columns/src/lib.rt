@@ -1,0 +1,2 @@
+// The columns that a select makes.
+pub mod columns;

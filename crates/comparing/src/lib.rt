@@ -1,0 +1,3 @@
+// A comparison of every field of two nets.
+pub mod parts;
+pub mod whole;

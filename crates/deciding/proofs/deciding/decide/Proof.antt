@@ -1,0 +1,141 @@
+-- `deciding::deciding::decide` meets its contract: checks 12 to 15 in their order, then the loop's round or the step. Assumes nothing.
+use borrow.Author.Needs.{needs}
+use borrow.Author.Tests.{not-true, not-false}
+use mathlib.Core.Path.{_≡_, ap, sym, _∙_}
+use mathlib.Core.Bool.{true, not}
+use Rattle.values.proofs.Bools.{T-of}
+use Rattle.nets.specs.declared.Refusal.the-variants.{Unbound, NoPlace, NoTable, TableThere}
+use Rattle.nets.specs.Nets.{isLoop}
+use Rattle.nets.specs.Scenes.{Scene}
+use Rattle.nets.specs.Steps.{check12, check13, check14, check15}
+use Rattle.nets.specs.View.{kindAt}
+use Rattle.turns.specs.Situations.{Situation, situation}
+use Rattle.turns.specs.Contracts.{Meets, Known}
+use Rattle.turns.proofs.SituationLaws.{fine-template, fine-tuple, fine-step, flagged-known, flagged-12, known-12}
+use Rattle.turns.proofs.DecideLaws.{refused-is, refuses-12, refuses-13, refuses-14, refuses-15, tested-13, tested-14, tested-15, loop-no-step}
+use Rattle.deciding.proofs.deciding.decide.Statement.{statement}
+use Rattle.deciding.proofs.deciding.decide.Tie as tie
+
+abbrev meant : tie.Start → Situation
+meant s = let a = s .args in situation (a .thread) (a .frame) (a .node) (a .content) (a .s)
+
+abbrev start : tie.After-reads-ok → tie.Start
+start r = r .before .before .before
+
+reads-ok-requires : tie.Need-reads-ok-requires
+reads-ok-requires c κs =
+    let s = c .before .before in
+    (fine-template (meant s) (s .pre .0), fine-tuple (meant s) (s .pre .0))
+
+returns : tie.Need-returns
+returns c =
+    let r = c .before .before in
+    let s = start r in
+    refused-is (meant s) (s .args .source) (c .refuses .result) Unbound (c .refuses .ensures .0)
+    (λ n m. refuses-12 n (sym (flagged-12 (meant s) (r .before .bound-tables .result) (r .before .bound-tables .ensures) (r .reads-ok .ensures) n m) ∙ not-true (r .reads-ok .result) (c .before .if1 .taken)))
+
+-- ── the checks that passed, where the code goes on ──
+
+abbrev met : tie.Else1 → Situation
+met c = meant (start (c .before))
+
+known : (c : tie.Else1) → Known (met c)
+known c =
+    let r = c .before in
+    flagged-known (met c) (r .before .bound-tables .result) (r .before .bound-tables .ensures) (r .reads-ok .ensures) (not-false (r .reads-ok .result) (c .if1 .left))
+
+twelve : (c : tie.Else1) (n : Scene) → Meets (met c) n → check12 n ≡ true
+twelve c n m = known-12 (met c) n m (known c)
+
+thirteen : (c : tie.Else2) (n : Scene) → Meets (met (c .before .before .before)) n → check13 n ≡ true
+thirteen c n m = tested-13 (met (c .before .before .before)) n m (c .before .before .has-place .ensures) (c .before .is-located .ensures) ∙ ap not (c .if2 .left)
+
+fourteen : (c : tie.Else3) (n : Scene) → Meets (met (c .before .before .before .before .before)) n → check14 n ≡ true
+fourteen c n m = tested-14 (met (c .before .before .before .before .before)) n m (c .before .needs-table .ensures) ∙ ap not (c .if3 .left)
+
+fifteen : (c : tie.Else4) (n : Scene) → Meets (met (c .before .before .before .before .before .before)) n → check15 n ≡ true
+fifteen c n m = tested-15 (met (c .before .before .before .before .before .before)) n m ∙ ap not (c .if4 .left)
+
+-- ── the refusals after 12 ──
+
+returns-2 : tie.Need-returns-2
+returns-2 c =
+    let p = c .before .before .before .before in
+    refused-is (met p) (start (p .before) .args .source) (c .refuses2 .result) NoPlace (c .refuses2 .ensures .0)
+    (λ n m. refuses-13 n (twelve p n m) (tested-13 (met p) n m (c .before .before .before .has-place .ensures) (c .before .before .is-located .ensures) ∙ ap not (c .before .if2 .taken)))
+
+returns-3 : tie.Need-returns-3
+returns-3 c =
+    let q = c .before .before .before in
+    let p = q .before .before .before in
+    refused-is (met p) (start (p .before) .args .source) (c .refuses3 .result) NoTable (c .refuses3 .ensures .0)
+    (λ n m. refuses-14 n (twelve p n m) (thirteen q n m) (tested-14 (met p) n m (c .before .before .needs-table .ensures) ∙ ap not (c .before .if3 .taken)))
+
+returns-4 : tie.Need-returns-4
+returns-4 c =
+    let r = c .before .before in
+    let q = r .before .before in
+    let p = q .before .before .before in
+    refused-is (met p) (start (p .before) .args .source) (c .refuses4 .result) TableThere (c .refuses4 .ensures .0)
+    (λ n m. refuses-15 n (twelve p n m) (thirteen q n m) (fourteen r n m) (tested-15 (met p) n m ∙ ap not (c .before .if4 .taken)))
+
+-- ── the rest ──
+
+abbrev passed : tie.After-is-loop → tie.Else1
+passed c = c .before .before .before .before .before .before .before
+
+decide-loop-requires : tie.Need-decide-loop-requires
+decide-loop-requires c κs =
+    let p = passed (c .before) in
+    let s = start (p .before) in
+    (s .pre .0, T-of (isLoop (kindAt (met p .node .kind))) (sym (c .before .is-loop .ensures) ∙ c .if5 .taken), known p, s .pre .1 .source (known p))
+
+returns-5 : tie.Need-returns-5
+returns-5 c =
+    let l = c .before in
+    let p = passed (l .before) in
+    record {
+      at = c .decide-loop .ensures;
+      known = λ h. known p;
+      does = λ h x. absurd (loop-no-step (kindAt (met p .node .kind)) (T-of (isLoop (kindAt (met p .node .kind))) (sym (l .before .is-loop .ensures) ∙ l .if5 .taken)) x);
+    }
+
+decide-act-requires : tie.Need-decide-act-requires
+decide-act-requires c κs =
+    let p = passed (c .before) in
+    let s = start (p .before) in
+    (s .pre .0, fine-step (met p) (s .pre .0) (c .before .is-loop .ensures) (c .if5 .left), known p, s .pre .1 .source (known p), s .pre .2)
+
+returns-6 : tie.Need-returns-6
+returns-6 c =
+    let t = c .before .before .before in
+    let q = t .before .before .before in
+    let p = q .before .before .before in
+    record {
+      at = λ n m. c .decide-act .ensures .0 n m (thirteen q n m) (fourteen (t .before) n m) (fifteen t n m);
+      known = λ h. known p;
+      does = λ h x. c .decide-act .ensures .1 h;
+    }
+
+pub decide-spec : {M : Type 1} → statement M
+decide-spec =
+    tie.close
+    (tie.spec
+    (λ c κs. search needs)
+    reads-ok-requires
+    (λ c κs. search needs)
+    returns
+    (λ c κs. search needs)
+    (λ c κs. search needs)
+    (λ c κs. search needs)
+    returns-2
+    (λ c κs. search needs)
+    (λ c κs. search needs)
+    returns-3
+    (λ c κs. search needs)
+    returns-4
+    (λ c κs. search needs)
+    decide-loop-requires
+    returns-5
+    decide-act-requires
+    returns-6)

@@ -1,0 +1,2 @@
+// What a pick comes to.
+pub mod deciding;

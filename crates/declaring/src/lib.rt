@@ -1,0 +1,2 @@
+// The tables that a file declares.
+pub mod tables;

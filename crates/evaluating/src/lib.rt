@@ -1,0 +1,2 @@
+// What operands give, and what formals bind.
+pub mod eval;

@@ -1,0 +1,2 @@
+// Single records: their forms, and what they say.
+pub mod forms;

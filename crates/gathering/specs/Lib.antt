@@ -1,0 +1,2 @@
+-- Picks in a batch.
+pub mod Batches

@@ -1,0 +1,2 @@
+// The rows that a step speaks of, judged.
+pub mod judging;

@@ -1,0 +1,2 @@
+// Runs over picks held by value.
+pub mod lending;

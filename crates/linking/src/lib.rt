@@ -1,0 +1,2 @@
+// The links between the records of a file.
+pub mod links;

@@ -1,0 +1,2 @@
+// The rounds of a thread's loops.
+pub mod loops;

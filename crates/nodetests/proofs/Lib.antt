@@ -1,0 +1,2 @@
+-- Laws of a node's fields that belong to no one function.
+pub mod FieldLaws

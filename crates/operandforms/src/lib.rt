@@ -1,0 +1,2 @@
+// Operands as bytes: their forms, and what they say.
+pub mod operands;

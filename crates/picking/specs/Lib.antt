@@ -1,2 +1,0 @@
--- What picks in turn come to.
-pub mod Turns

@@ -1,0 +1,2 @@
+// The site that L means.
+pub mod places;

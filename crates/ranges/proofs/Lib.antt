@@ -1,0 +1,7 @@
+-- Laws of tests that belong to no one function.
+pub mod Counts
+pub mod DistinctLaws
+pub mod EntryLaws
+pub mod MarkLaws
+pub mod RowLaws
+pub mod TextLaws

@@ -1,0 +1,2 @@
+// What a node reads.
+pub mod reading;

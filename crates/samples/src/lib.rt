@@ -1,0 +1,4 @@
+// Parts of nets made by hand, for tests.
+pub mod contents;
+pub mod programs;
+pub mod threads;

@@ -1,0 +1,2 @@
+// One pass over the rows of a relation.
+pub mod sweeping;

@@ -1,0 +1,2 @@
+// Operands and tuples prepared for one relation.
+pub mod terms;

@@ -1,0 +1,101 @@
+// The parts of a decision: a refusal, where the thread goes on, which table variables are bound, and the rows spoken of.
+use crate::Decided;
+use crate::Located;
+use nets::Answer;
+use nets::Frame;
+use nets::Refusal;
+use nets::TableVariable;
+use nets::Thread;
+use nets::kinds::reads_relation;
+use rows::Relation;
+use threads::threads::run_frame;
+use values::Slot;
+ghost use mathlib.Core.Path.{_≡_};
+ghost use mathlib.Core.Bool.{false, cond, _&&_};
+ghost use Prim.Native.Nat.{ℕ};
+ghost use Rattle.values.specs.Lists.{isSome};
+ghost use Rattle.nets.specs.Nets.{readsRelation};
+ghost use Rattle.nets.specs.Steps.{isBoundTable};
+ghost use Rattle.nets.specs.View.{kindAt, threadOf};
+ghost use Rattle.reading.specs.Contracts.{flagAt};
+ghost use Rattle.threads.specs.Contracts.{Stacked};
+ghost use Rattle.turns.specs.Situations.{Onward};
+ghost use Rattle.turns.specs.Contracts.{locatedOf};
+
+// Refused: of the other parts none is looked at.
+pub fn refuses(r: Refusal, thread: Thread, frame: Frame) -> Decided
+    ensures { λ o. ⌜ (o .answer ≡ Answer.Refused r) × (o .forks ≡ false) ⌝ }
+{
+    let vars = thread.vars;
+    let answer = Answer::Refused(r);
+    Decided {
+        answer,
+        forks: false,
+        frame,
+        depth: thread.depth,
+        vars,
+        inner: vars,
+    }
+}
+
+// Done: to next, or with 255 the entry is removed.
+pub fn onward(
+    thread: Thread,
+    frame: Frame,
+    next: u8,
+    vars: [Slot; 16],
+    added: usize,
+    taken: usize,
+) -> Decided
+    requires { ⌜ Stacked thread ⌝ }
+    ensures { λ o. ⌜ (o .answer ≡ Answer.Done added taken) × (o .forks ≡ false) × (o .vars ≡ vars) × Onward thread next o ⌝ }
+{
+    let depth = thread.depth;
+    if next == 255 {
+        return Decided {
+            answer: Answer::Done(added, taken),
+            forks: false,
+            frame,
+            depth: depth - 1,
+            vars,
+            inner: vars,
+        };
+    }
+    Decided {
+        answer: Answer::Done(added, taken),
+        forks: false,
+        frame: run_frame(next),
+        depth,
+        vars,
+        inner: vars,
+    }
+}
+
+pub fn is_located(l: Located) -> bool
+    ensures { λ r. ⌜ r ≡ isSome (locatedOf l) ⌝ }
+{
+    match l {
+        Located::Nowhere => false,
+        Located::At(_) => true,
+    }
+}
+
+// The table variables that are bound.
+pub fn bound_tables(t: Thread) -> [bool; 2]
+    ensures { λ r. ⌜ ((i : ℕ) → flagAt r i ≡ isBoundTable (threadOf t .bindings .relations) i) ⌝ }
+{
+    let a = t.relations[0];
+    let b = t.relations[1];
+    [a.bound, b.bound]
+}
+
+// The rows that the step speaks of: those of the table variable read, or of the table. What an unbound table variable holds is no matter.
+pub fn source_of(kind: u8, v: TableVariable, content: Relation) -> Relation
+    ensures { λ r. ⌜ r ≡ cond (readsRelation (kindAt kind) && v .bound) (v .content) content ⌝ }
+{
+    let own = v.content;
+    if reads_relation(kind) & v.bound {
+        return own;
+    }
+    content
+}
