@@ -3,8 +3,8 @@ use Prim.Native.Nat.{ℕ, _+_, _<_, _≤_}
 use mathlib.Core.Path.{_≡_, refl, ap, ap₂, sym, _∙_, subst}
 use mathlib.Core.Bool.{Bool, true, false, not, _&&_}
 use mathlib.Core.List.{List, [], _∷_, _++_}
-use mathlib.Core.Logic.{_⊎_, inl, inr}
-use borrow.Author.Tests.{ltb-true, leb-true, eqb-true, eq-eqb}
+use mathlib.Core.Logic.{inl}
+use borrow.Author.Tests.{ltb-true, leb-true, eqb-true}
 use lib.Dec.{T, eqb, ltb, leb}
 use lib.ListN.{length}
 use Rattle.values.specs.declared.Got.{Got}

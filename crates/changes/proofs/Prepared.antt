@@ -31,7 +31,7 @@ use Rattle.rows.specs.declared.Draft.{Draft}
 use Rattle.rows.specs.Relations as M
 use Rattle.rows.specs.Matching.{hits}
 use Rattle.rows.specs.Fit.{draft, ofKind, fits}
-use Rattle.rows.specs.View.{noCell, noRow, noField, noSlot, valuesOf, columnsOf, relationOf, operandsOf, selectorOf, draftOf, Ready}
+use Rattle.rows.specs.View.{noCell, noRow, noField, valuesOf, columnsOf, relationOf, operandsOf, selectorOf, draftOf, Ready}
 use Rattle.rows.specs.Plans.{sourceOf, termOf, termGot, sourceKind, noPlace, termsIn, planHits}
 use Rattle.rows.proofs.Relation as R
 use Rattle.rows.proofs.Lengths.{cells-long}

@@ -1,7 +1,7 @@
 -- What the functions on relations give back, part by part.
 use Prim.Native.Nat.{ℕ}
 use mathlib.Core.Path.{_≡_}
-use mathlib.Core.Bool.{Bool, true, false, not, _&&_, _||_, Bool·beq}
+use mathlib.Core.Bool.{Bool, false, not, _&&_, _||_, Bool·beq}
 use mathlib.Core.List.{List, [], _∷_, map}
 use lib.Dec.{T, ltb}
 use lib.ListN.{length, getD}

@@ -2,23 +2,21 @@
 use Prim.Native.Nat.{ℕ, zero, suc, _<_, _≤_}
 use mathlib.Core.Path.{_≡_, refl, sym, ap, ap₂, _∙_}
 use mathlib.Core.Bool.{Bool, true, false, _&&_, _||_, and-false, true≢false}
-use mathlib.Core.List.{List, [], _∷_, map}
+use mathlib.Core.List.{List, [], _∷_}
 use mathlib.Core.Option.{some}
 use native.Mathlib.Omega.{arith}
 use lib.Dec.{eqb, leb, ltb}
 use lib.ListN.{length, getD}
-use borrow.Author.Tests.{le-leb, lt-leb}
 use Rattle.values.specs.declared.Value.{Value}
-use Rattle.values.specs.declared.Got.the-variants.{One}
 use Rattle.values.specs.Lists.{all, agree, firsts}
 use Rattle.values.specs.Values.{kindOf, inRange}
 use Rattle.values.proofs.Bools.{and-comm, and-swap, and-first, and-last}
 use Rattle.values.proofs.Firsts.{firsts-same}
 use Rattle.rows.specs.declared.Cell.{Cell}
 use Rattle.rows.specs.Relations.{Row, Columns, Relation}
-use Rattle.rows.specs.Fit.{ofKind, fitsRow, relationFits}
+use Rattle.rows.specs.Fit.{fitsRow, relationFits}
 use Rattle.rows.specs.View.{noCell, columnsOf}
-use Rattle.nets.specs.Sound.{columnsOk, rowsOk, relationOk}
+use Rattle.nets.specs.Sound.{columnsOk, relationOk}
 use Rattle.ranges.specs.SoundParts.{cellOk, rowOk}
 
 -- ── the four places of a row ──

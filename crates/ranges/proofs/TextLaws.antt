@@ -7,7 +7,7 @@ use lib.Bits.{bitAnd, and-block, and-high, and-zero-r}
 use lib.Dec.{T, eqb, leb, eqb→eq}
 use borrow.Author.Tests.{eq-eqb, le-leb, leb-true, lt-ltb}
 use Rattle.values.specs.Values.{isText}
-use Rattle.values.proofs.Bools.{and-l, and-r, and-in, is-true, T-of, same-test}
+use Rattle.values.proofs.Bools.{and-l, and-r, is-true, T-of, same-test}
 
 abbrev pub fine : ℕ → Bool
 fine b = leb 32 b && leb b 126

@@ -2,7 +2,7 @@
 -- variable holds.
 use Prim.Native.Nat.{ℕ, _+_, _*_, _≤_}
 use mathlib.Core.Path.{_≡_}
-use mathlib.Core.Bool.{Bool, false, not, cond, _&&_, _||_}
+use mathlib.Core.Bool.{Bool, not, cond, _&&_, _||_}
 use mathlib.Core.List.{List, map}
 use mathlib.Core.Option.{Option, none, some}
 use lib.Dec.{eqb, ltb}

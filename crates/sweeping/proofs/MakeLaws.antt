@@ -1,13 +1,12 @@
 -- New cells and rows, and one row judged, from what the code's tests answered and its callees gave back. Assumes nothing.
 use Prim.Native.Nat.{ℕ, _≤_, _<_}
-use mathlib.Core.Path.{_≡_, refl, sym, ap, ap₂, _∙_, subst}
+use mathlib.Core.Path.{_≡_, sym, ap, ap₂, _∙_, subst}
 use mathlib.Core.Bool.{Bool, true, false, not, cond, _&&_, _||_}
 use mathlib.Core.List.{List, [], _∷_, map-map}
 use borrow.Author.Tests.{lt-ltb, le-ltb}
 use lib.Dec.{T, eqb, leb}
 use lib.IntN.{pos}
 use lib.ListN.{getD}
-use Rattle.values.specs.declared.Value.{Value}
 use Rattle.values.specs.declared.Value.the-variants.{Int}
 use Rattle.values.specs.declared.Got.{Got}
 use Rattle.values.specs.declared.Got.the-variants.{Nothing, One}

@@ -2,7 +2,7 @@
 use Prim.Native.Nat.{ℕ, zero, suc, _+_, _-_, _<_, _≤_}
 use mathlib.Core.Path.{_≡_, refl, ap, ap₂, sym, subst, _∙_}
 use mathlib.Core.Bool.{Bool, true, false, cond}
-use mathlib.Core.List.{List, [], _∷_}
+use mathlib.Core.List.{List, _∷_}
 use native.Mathlib.Omega.{arith}
 use native.Mathlib.Numerals.{add-one}
 use lib.Dec.{T, ltb, eqb}
@@ -18,7 +18,7 @@ use Rattle.nets.specs.Scenes.{below}
 use Rattle.nets.specs.Steps.{withStack, withBindings, goOn}
 use Rattle.nets.specs.View.{noFrame, entryOf, stackOf, bindingsOf, threadOf}
 use Rattle.threads.specs.Contracts.{Stacked, standing}
-use Rattle.threads.proofs.ThreadLaws.{stack-past, stack-push, stack-set, standing-with}
+use Rattle.threads.proofs.ThreadLaws.{stack-past, stack-set, standing-with}
 use Rattle.turns.specs.declared.Decided.{Decided}
 use Rattle.turns.specs.Situations.{overOf, moved, Onward}
 

@@ -32,7 +32,7 @@ use Rattle.nets.specs.Answers.{refusing, answerOf, numberOf}
 use Rattle.nets.specs.View.{kindAt, marked, entryOf, variableOf, bindingsOf, threadOf}
 use Rattle.acts.specs.Contracts.{putsRows}
 use Rattle.threads.specs.Contracts.{turnOf, turnBy, opened, readyAt, visitOf, RoundIs, standing}
-use Rattle.turns.specs.Contracts.{outcomeAt, Meets, relationRead, Made, changed, ChangeIs}
+use Rattle.turns.specs.Contracts.{outcomeAt, Meets, relationRead, Made, ChangeIs}
 use Rattle.nets.proofs.KindLaws.{at-one}
 use Rattle.turns.proofs.MeetTies.{met-kind, met-vars, met-template, met-relation, met-turn, met-room}
 use Rattle.turns.proofs.RoundTies.{turnedSaid, turnAt, turnIn, turn-answer, over-threads, sequential-threads, parallel-threads, loop-visit, loop-row}

@@ -1,7 +1,7 @@
 -- What the functions that decide on a step require and give back, part by part.
 use Prim.Native.Nat.{ℕ, _≤_, _<_}
 use mathlib.Core.Path.{_≡_}
-use mathlib.Core.Bool.{Bool, false, cond}
+use mathlib.Core.Bool.{false, cond}
 use mathlib.Core.List.{List, [], _∷_, _++_, map}
 use mathlib.Core.Option.{Option, none, some}
 use lib.Dec.{T, ltb}
@@ -20,7 +20,7 @@ use Rattle.nets.specs.declared.Thread.{Thread}
 use Rattle.turns.specs.declared.Decided.{Decided}
 use Rattle.turns.specs.Situations.{Situation, Change, overOf, moved}
 use Rattle.nets.specs.Nets as M
-use Rattle.nets.specs.Nets.{Kind, isLoop, readsRelation, bindsRelation, toRun, Outcome}
+use Rattle.nets.specs.Nets.{isLoop, readsRelation, bindsRelation, toRun, Outcome}
 use Rattle.nets.specs.Tables.{tableAt, contentOf, rowsOf, columnsOf}
 use Rattle.nets.specs.Sound.{nodeOkAs, bindingsOk}
 use Rattle.nets.specs.Scenes.{Scene, site, siteOfL, table}

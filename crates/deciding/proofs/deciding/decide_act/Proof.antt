@@ -1,5 +1,4 @@
 -- `deciding::deciding::decide_act` meets its contract: the answer is the step's, and a done one changes what the step changes. Assumes nothing.
-use Prim.Native.Nat.{ℕ}
 use mathlib.Core.Path.{_≡_, ap, sym, subst, _∙_}
 use lib.Dec.{T}
 use lib.ListN.{length}

@@ -1,5 +1,5 @@
 -- `effects::effects::bound_after` meets its contract: the rows marked, or a select's new rows. Assumes nothing.
-use mathlib.Core.Path.{_≡_, refl, sym, _∙_}
+use mathlib.Core.Path.{refl, sym, _∙_}
 use mathlib.Core.Bool.{false}
 use Rattle.values.proofs.Bools.{T-of}
 use Rattle.rows.specs.View.{relationOf}

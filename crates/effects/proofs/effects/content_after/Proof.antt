@@ -1,5 +1,5 @@
 -- `effects::effects::content_after` meets its contract: arm by arm. Assumes nothing.
-use mathlib.Core.Path.{_≡_, refl}
+use mathlib.Core.Path.{refl}
 use mathlib.Core.Bool.{false}
 use Rattle.nets.specs.View.{kindAt}
 use Rattle.acts.specs.Contracts.{partsOf}

@@ -1,5 +1,5 @@
 -- `effects::effects::vars_after` meets its contract: only an aggregate binds a variable. Assumes nothing.
-use mathlib.Core.Path.{_≡_, refl}
+use mathlib.Core.Path.{refl}
 use mathlib.Core.Bool.{false}
 use Rattle.nets.specs.View.{kindAt}
 use Rattle.acts.specs.Contracts.{partsOf}

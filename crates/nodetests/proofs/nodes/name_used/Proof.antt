@@ -1,6 +1,5 @@
 -- `nodetests::nodes::name_used` meets its contract, by cases.
-use mathlib.Core.Path.{refl, sym, ap}
-use lib.Dec.{eqb}
+use mathlib.Core.Path.{refl}
 use Rattle.values.proofs.Bools.{cond-yes, cond-no}
 use borrow.Author.Needs.{needs}
 use Rattle.nodetests.proofs.nodes.name_used.Statement.{statement}

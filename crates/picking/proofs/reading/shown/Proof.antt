@@ -1,6 +1,6 @@
 -- `picking::reading::shown` meets its contract. Assumes nothing.
-use mathlib.Core.Path.{_≡_, refl, ap, sym}
-use mathlib.Core.Bool.{Bool, true, false, cond}
+use mathlib.Core.Path.{_≡_, ap, sym}
+use mathlib.Core.Bool.{Bool, cond}
 use Rattle.rows.specs.Relations.{Relation, noRelation}
 use Rattle.rows.specs.View.{relationOf}
 use Rattle.picking.proofs.reading.shown.Statement.{statement}

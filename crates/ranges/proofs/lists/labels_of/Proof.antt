@@ -1,7 +1,7 @@
 -- `ranges::lists::labels_of` meets its contract, place by place.
 use Prim.Native.Nat.{ℕ, zero, suc, _<_}
 use mathlib.Core.Path.{_≡_}
-use mathlib.Core.List.{List, [], _∷_}
+use mathlib.Core.List.{[], _∷_}
 use native.Mathlib.Omega.{arith}
 use lib.ListN.{getD}
 use Rattle.nets.specs.View.{noTable, tableOf}

@@ -1,5 +1,4 @@
 -- `ranges::relations::cell_ok` meets its contract, kind by kind; an i32 is within 32 bits.
-use Prim.Native.Nat.{ℕ}
 use mathlib.Core.Path.{_≡_, sym, ap, _∙_}
 use mathlib.Core.Bool.{Bool, true, _&&_, and-true}
 use lib.Dec.{eqb}

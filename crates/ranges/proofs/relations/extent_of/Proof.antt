@@ -1,15 +1,12 @@
 -- `ranges::relations::extent_of` meets its contract: what an unbound one holds is no matter.
-use Prim.Native.Nat.{ℕ, _≤_}
-use mathlib.Core.Path.{_≡_, refl, sym, ap, _∙_}
+use Prim.Native.Nat.{ℕ}
+use mathlib.Core.Path.{_≡_, sym}
 use mathlib.Core.Bool.{Bool, true, false, cond}
 use mathlib.Core.List.{List}
 use mathlib.Core.Option.{none, some}
-use lib.Dec.{leb}
 use Rattle.rows.specs.Relations.{Relation}
 use Rattle.rows.specs.View.{relationOf}
-use Rattle.nets.specs.declared.TableVariable.{TableVariable}
 use Rattle.nets.specs.Sound.{relationOk, hasPlaces}
-use Rattle.nets.specs.View.{variableOf}
 use borrow.Author.Needs.{needs}
 use Rattle.ranges.proofs.EntryLaws.{extent-is}
 use Rattle.ranges.proofs.relations.extent_of.Statement.{statement}

@@ -9,7 +9,7 @@ use Rattle.values.specs.Lists.{all}
 use Rattle.values.proofs.Bools.{and-first, and-last}
 use Rattle.values.proofs.Sizes.{some-is}
 use Rattle.rows.specs.declared.Relation.{Relation}
-use Rattle.rows.specs.View.{columnsOf, rowsOf, relationOf, Shaped}
+use Rattle.rows.specs.View.{rowsOf, relationOf, Shaped}
 use Rattle.nets.specs.Sound.{columnsOk}
 use Rattle.ranges.specs.SoundParts.{rowOk}
 use borrow.Author.Needs.{needs}

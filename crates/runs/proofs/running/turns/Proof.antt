@@ -1,5 +1,5 @@
 -- `runs::running::turns` meets its contract: by the flag the picks in turn, or nothing. Assumes nothing.
-use mathlib.Core.Path.{_≡_, sym, ap, _∙_}
+use mathlib.Core.Path.{sym, ap, _∙_}
 use mathlib.Core.Bool.{true}
 use borrow.Author.Needs.{needs}
 use lib.Dec.{T}
@@ -7,7 +7,6 @@ use Rattle.values.proofs.Bools.{T-of}
 use Rattle.nets.specs.declared.Net.{Net}
 use Rattle.nets.specs.Sound.{sound}
 use Rattle.nets.specs.View.{view}
-use Rattle.counts.specs.declared.Ran.{Ran}
 use Rattle.leaving.specs.Turns.{stoodBy}
 use Rattle.gathering.specs.Batches.{picksOf}
 use Rattle.runs.proofs.TurnLaws.{turned-unsound, turned-sound}
