@@ -203,6 +203,12 @@ turned-done g p x n u v says is h k =
       takenRoom = k .1;
     }
 
+-- an answer told by another name
+pub gone-told :
+    {net : Net} {ps : List Pick} {a t : Total} {n : Net} {u v : Total} {x y : Answer} → x ≡ y → GoneIs net ps a t (record { net = n; answer = x; added = u; taken = v }) →
+    GoneIs net ps a t (record { net = n; answer = y; added = u; taken = v })
+gone-told {net = net} {ps = ps} {a = a} {t = t} {n = n} {u = u} {v = v} e g = subst (λ (z : Answer). GoneIs net ps a t (record { net = n; answer = z; added = u; taken = v })) e g
+
 -- the sums have room for one pick more
 pub gone-room :
     (net : Net) (ps : List Pick) (i n : ℕ) (a t : Total) (g : Stood) → GoneIs net (take i ps) a t g → i < n → n ≤ 128 → length ps ≡ 128 → a .high + 128 < 2 ^ 63 → t .high + 128 < 2 ^ 63 →

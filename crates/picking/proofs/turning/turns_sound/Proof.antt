@@ -41,7 +41,7 @@ use Rattle.picking.proofs.ReadTies.{nodeRead, Read, situationIn, shown-
 use Rattle.values.proofs.Bools.{T-of}
 use Rattle.picking.proofs.PlainTies.{puts-step, binds-step, plain-tables, plain-threads, none-of, some-depth, as-moved, bound-set, bound-none}
 use Rattle.picking.proofs.StoreTies.{past-refused, change-refused, tables-ready, threads-ready, netWith, done-is}
-use Rattle.leaving.proofs.TurnLaws.{gone-none, gone-again, gone-room, turned-refused, turned-done}
+use Rattle.leaving.proofs.TurnLaws.{gone-none, gone-again, gone-told, gone-room, turned-refused, turned-done}
 use Rattle.picking.proofs.turning.turns_sound.Statement.{statement}
 use Rattle.picking.proofs.turning.turns_sound.Tie as tie
 
@@ -484,7 +484,7 @@ loop-again-3 c =
     (t .tables-after .ensures .0)
     (h .threads-after .ensures .0
     ∙ ap (λ (u : Thread). settle (pickAt l .thread) (standing (threadOf u)) (threadsOf (netAt l .threadcount) (netAt l .threads)) ++ forksOf (decideOf (toldOf (j .before)) .decide .result .forks) (f .forked .result)) (moved-is j))) in
-    (x .0, record { left = x .1 .left; sound = x .1 .sound; kept = x .1 .kept; last = ap saidOf (sym (toldOf (j .before) .before .answer .given .1)) ∙ x .1 .last; added = x .1 .added; taken = x .1 .taken; addedRoom = x .1 .addedRoom; takenRoom = x .1 .takenRoom }, x .2)
+    (x .0, gone-told (toldOf (j .before) .before .answer .given .1) (x .1), x .2)
 
 -- ── places that stay ──
 
@@ -561,7 +561,7 @@ loop-again-4 c =
     let x =
     again j (netWith n ts hs) (kept-in z (length-set (n .tables) (slotIn j .slot-at .result) (tableOfStep j .table-after .result) ∙ z .tables) (length-set (n .threads) (pickAt l .thread) (j .if3 .thread) ∙ z .threads))
     (done-is n (pickAt l) (ok e) (there e) (read (shownOf (decideOf (toldOf (j .before))))) (change j (no-fork c)) (toldOf (j .before) .before .answer .given .1) ts hs (tables-stored c) (threads-stored c)) in
-    (x .0, record { left = x .1 .left; sound = x .1 .sound; kept = x .1 .kept; last = ap saidOf (sym (toldOf (j .before) .before .answer .given .1)) ∙ x .1 .last; added = x .1 .added; taken = x .1 .taken; addedRoom = x .1 .addedRoom; takenRoom = x .1 .takenRoom }, x .2)
+    (x .0, gone-told (toldOf (j .before) .before .answer .given .1) (x .1), x .2)
 
 returns : tie.Need-returns Inv-loop μ-loop
 returns c =
