@@ -83,5 +83,5 @@ fn proved_time(start: &Net, picks: &[Pick], turns: u64, rounds: usize) -> Option
     let none = best(rounds, || timed(|| proved.runs(&[], turns)).1);
     let tests = best(rounds, || timed(|| proved.tests(turns)).1);
     let loading = best(rounds, || timed(|| proved.tests(0)).1);
-    Some((all.saturating_sub(none) + tests.saturating_sub(loading)) / turns as u32)
+    Some((all - none + (tests - loading)) / turns as u32)
 }

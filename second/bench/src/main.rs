@@ -77,7 +77,7 @@ fn compared(
         best = [best[0].min(theirs), best[1].min(building), best[2].min(ours)];
     }
     let [theirs, building, ours] = best;
-    (theirs, proved::LINKED.then(|| ours.saturating_sub(building)))
+    (theirs, proved::LINKED.then(|| ours - building))
 }
 
 fn columns((second, proved): (Duration, Option<Duration>), picks: f64) -> String {
