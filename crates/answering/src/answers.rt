@@ -10,8 +10,9 @@ ghost use lib.Dec.{T};
 ghost use lib.ListN.{length};
 ghost use Rattle.nets.specs.Sound.{sound};
 ghost use Rattle.nets.specs.View.{view};
-ghost use Rattle.calls.specs.Layouts.{answersPut};
-ghost use Rattle.calls.specs.Calls.{picksIn, ifRoom, Gives};
+ghost use Rattle.picklists.specs.AnswerBytes.{answersPut};
+ghost use Rattle.picklists.specs.PickBytes.{picksIn};
+ghost use Rattle.calls.specs.Calls.{ifRoom, Gives};
 
 // ---- all answers
 

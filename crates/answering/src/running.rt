@@ -7,7 +7,7 @@ ghost use lib.Dec.{T};
 ghost use Rattle.nets.specs.Sound.{sound};
 ghost use Rattle.nets.specs.Accounts.{after};
 ghost use Rattle.nets.specs.View.{view};
-ghost use Rattle.calls.specs.Calls.{picksIn};
+ghost use Rattle.picklists.specs.PickBytes.{picksIn};
 
 // The net after all picks. A sound net stays sound, so soundness is never tested.
 pub fn run_picks(start: Net, picks: &[u8]) -> Net

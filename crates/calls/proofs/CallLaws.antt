@@ -27,7 +27,8 @@ use Rattle.files.specs.Engine.{faultIn, LoadIs, saidWritten}
 use Rattle.files.proofs.FileLaws.{file-loaded}
 use Rattle.files.proofs.EngineLaws.{verdict-accepts}
 use Rattle.calls.specs.declared.Opened.{Opened}
-use Rattle.calls.specs.Calls.{picksIn, Called, refusing, putting, ifRoom, onLoaded, called, Gives}
+use Rattle.picklists.specs.PickBytes.{picksIn}
+use Rattle.calls.specs.Calls.{Called, refusing, putting, ifRoom, onLoaded, called, Gives}
 use Rattle.calls.specs.Openings.{judged, OpenIs, replyTo}
 
 abbrev told : Option L.Fault → Called

@@ -8,13 +8,9 @@ use lib.ListN.{length, drop}
 use Rattle.nets.specs.declared.Pick.{Pick}
 use Rattle.nets.specs.Nets.{Net}
 use Rattle.files.specs.Loading.{LoadAnswer, rejected, accepted, loadBytes}
-use Rattle.calls.specs.Layouts.{tablesPut, answersPut, threadsPut}
-
--- thread place and row place; a last byte without a second says nothing
-abbrev pub picksIn : List ℕ → List Pick
-picksIn [] = []
-picksIn (a ∷ []) = []
-picksIn (a ∷ b ∷ l) = record { thread = a; row = b } ∷ picksIn l
+use Rattle.picklists.specs.PickBytes.{picksIn}
+use Rattle.picklists.specs.AnswerBytes.{answersPut}
+use Rattle.calls.specs.Layouts.{tablesPut, threadsPut}
 
 -- ── what a call comes to ──
 

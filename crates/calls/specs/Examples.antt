@@ -21,7 +21,9 @@ use Rattle.codec.specs.Decoding.{nodeIn, aliasForm, tableForm, rowForm, nodeByt
 use Rattle.codec.specs.Encoding.{tupleBytes, tableBytes, rowBytes}
 use Rattle.files.specs.Loading.{loadChecks, put, advance, readAll, firstBadLink, load, loadBytes}
 use Rattle.files.specs.Writing.{written}
-use Rattle.calls.specs.Layouts.{eightBytes, threeBytes, answerBytes, visitBytes, headBytes, threadBytes, tablesPut, answersPut, threadsPut}
+use Rattle.stores.specs.Bytes.{eightBytes}
+use Rattle.picklists.specs.AnswerBytes.{threeBytes, answerBytes, answersPut}
+use Rattle.calls.specs.Layouts.{visitBytes, headBytes, threadBytes, tablesPut, threadsPut}
 use Rattle.calls.specs.Calls.{refusing, putting, ifRoom, called, bufferIn}
 
 abbrev z : ℕ → List ℕ

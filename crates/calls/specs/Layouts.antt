@@ -1,42 +1,20 @@
--- The bytes that calls hand out: of a net's tables, of answers, and of threads.
-use Prim.Native.Nat.{ℕ, _/_, _^_}
+-- The bytes that calls hand out: of a net's tables, and of threads. Those of answers are in `picklists`.
+use Prim.Native.Nat.{ℕ}
 use mathlib.Core.List.{List, [], _∷_, _++_, map}
 use lib.ListN.{length}
 use Rattle.values.specs.Lists.{bit, among, places}
 use Rattle.nets.specs.declared.Pick.{Pick}
-use Rattle.nets.specs.Nets.{Entry, toRun, visiting, Thread, Net, Outcome}
+use Rattle.nets.specs.Nets.{Entry, toRun, visiting, Thread, Net}
 use Rattle.nets.specs.Sound.{entryNode}
 use Rattle.nets.specs.Scenes.{top}
-use Rattle.nets.specs.Accounts.{after, answers}
-use Rattle.nets.specs.Answers.{Said, refusing, doing, answerOf}
-use Rattle.codec.specs.Encoding.{endToEnd, littleBytes}
+use Rattle.nets.specs.Accounts.{after}
+use Rattle.stores.specs.Bytes.{endToEnd}
 use Rattle.files.specs.Writing.{written}
-use Rattle.files.specs.EngineDemand3.{addedSaid, takenSaid}
 
 -- ── tables: table and row records ──
 
 unfoldable pub tablesPut : Net → List Pick → List ℕ
 tablesPut net ps = written (after net ps .tables)
-
--- ── answers: number, added, taken; 24 bytes each ──
-
--- eight bytes, little endian
-unfoldable pub eightBytes : ℕ → List ℕ
-eightBytes n = littleBytes n ++ littleBytes (n / 2 ^ 32)
-
--- 0 for done
-abbrev pub numberSaid : Said → ℕ
-numberSaid (refusing n vs) = n
-numberSaid (doing a t) = 0
-
-unfoldable pub threeBytes : ℕ → ℕ → ℕ → List ℕ
-threeBytes a b c = eightBytes a ++ (eightBytes b ++ eightBytes c)
-
-unfoldable pub answerBytes : Said → List ℕ
-answerBytes s = threeBytes (numberSaid s) (addedSaid s) (takenSaid s)
-
-unfoldable pub answersPut : Net → List Pick → List ℕ
-answersPut net ps = endToEnd (map (λ (o : Outcome). answerBytes (answerOf o)) (answers net ps))
 
 -- ── threads: site, depth, the top entry's kind and node, four zeros, the rows still to visit; 24 bytes each ──
 

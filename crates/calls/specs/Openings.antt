@@ -16,7 +16,8 @@ use Rattle.files.specs.declared.Written.{Written}
 use Rattle.files.specs.declared.Written.the-variants.{Length, Unsound, Short}
 use Rattle.calls.specs.declared.Reply.{Reply}
 use Rattle.calls.specs.declared.Opened.{Opened}
-use Rattle.calls.specs.Calls.{picksIn, Called, refusing, ifRoom, called}
+use Rattle.picklists.specs.PickBytes.{picksIn}
+use Rattle.calls.specs.Calls.{Called, refusing, ifRoom, called}
 
 -- ── what a call begins with ──
 

@@ -1,8 +1,6 @@
-// What calls of other programs give back, and the picks that they take.
+// What calls of other programs give back.
 use files::Verdict;
 use nets::Net;
-
-pub mod picking;
 
 // A number, and the place that goes with it.
 pub struct Reply {

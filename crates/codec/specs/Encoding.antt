@@ -3,6 +3,7 @@ use Prim.Native.Nat.{ℕ, suc, _-_, _/_, _%_, _^_}
 use mathlib.Core.List.{List, [], _∷_, _++_, map}
 use lib.IntN.{ℤ, pos, negsuc}
 use lib.ListN.{length, getD, replicate}
+use Rattle.stores.specs.Bytes.{endToEnd, littleBytes}
 use Rattle.values.specs.declared.Site.{Site}
 use Rattle.values.specs.declared.Value.{Value}
 use Rattle.values.specs.declared.Value.the-variants.{Int, Text, Loc}
@@ -10,16 +11,7 @@ use Rattle.values.specs.Values.{bytesOf}
 use Rattle.rows.specs.Relations.{Row, Columns}
 use Rattle.nets.specs.Nets.{Table}
 
--- lists of bytes, one after the other
-abbrev pub endToEnd : List (List ℕ) → List ℕ
-endToEnd [] = []
-endToEnd (bs ∷ l) = bs ++ endToEnd l
-
 -- ── operands ──
-
--- four bytes, little endian
-abbrev pub littleBytes : ℕ → List ℕ
-littleBytes n = n % 256 ∷ n / 2 ^ 8 % 256 ∷ n / 2 ^ 16 % 256 ∷ n / 2 ^ 24 % 256 ∷ []
 
 -- a signed number's 32 bits
 abbrev pub bits32 : ℤ → ℕ

@@ -14,8 +14,9 @@ use Rattle.rows.specs.declared.Cell.{Cell}
 use Rattle.rows.specs.declared.Row as Code
 use Rattle.rows.specs.View.{noCell, valuesOf}
 use Rattle.nets.specs.Nets.{Table}
-use Rattle.codec.specs.Encoding.{endToEnd, operandBytes, tupleBytes, startBytes, columnBytes, tableBytes, rowBytes}
-use Rattle.codec.proofs.Stores.{zero-parts, ends-append, ends-length, three-parts, four-parts}
+use Rattle.codec.specs.Encoding.{operandBytes, tupleBytes, startBytes, columnBytes, tableBytes, rowBytes}
+use Rattle.stores.specs.Bytes.{endToEnd}
+use Rattle.stores.proofs.Stores.{zero-parts, ends-append, ends-length, three-parts, four-parts}
 
 abbrev pub cellBytes : Cell → List ℕ
 cellBytes c = operandBytes (c .value)

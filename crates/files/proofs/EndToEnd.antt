@@ -10,7 +10,7 @@ use lib.Seq.{take-at, drop-at}
 use Rattle.values.specs.Lists.{all}
 use Rattle.values.proofs.Bools.{and-l, and-r, not-T→false}
 use Rattle.codec.specs.Bytes.{parts, leading, thenOnly}
-use Rattle.codec.specs.Encoding.{endToEnd}
+use Rattle.stores.specs.Bytes.{endToEnd}
 
 -- ── end to end ──
 

@@ -13,14 +13,14 @@ use Rattle.nets.specs.Nets.{Outcome, refused, done}
 use Rattle.nets.specs.Steps.{step}
 use Rattle.nets.specs.Accounts.{nextNet, after, answers, addedIn, takenIn, reportedAdded, reportedTaken}
 use Rattle.nets.specs.View.{view}
-use Rattle.nets.specs.Answers.{answerOf}
+use Rattle.nets.specs.Answers.{answerOf, addedSaid, takenSaid}
 use Rattle.files.specs.declared.Verdict.the-variants.{Accepted}
 use Rattle.files.specs.declared.Loaded.{Loaded}
 use Rattle.files.specs.Loading.{LoadAnswer, rejected, accepted, emptyNet, loadBytes, faultOf, isAccepted}
 use Rattle.files.specs.FileDemand3.{fileNet, FileDemand3}
 use Rattle.files.specs.Empty.{blankNet}
 use Rattle.files.specs.Engine.{faultIn, LoadIs}
-use Rattle.files.specs.EngineDemand3.{Chain, lastNet, addedSaid, takenSaid, addedReported, takenReported, EveryEngineRun}
+use Rattle.files.specs.EngineDemand3.{Chain, lastNet, addedReported, takenReported, EveryEngineRun}
 use Rattle.files.proofs.FileLaws.{file-demand3}
 
 -- ── the rules, given what was left and reported ──

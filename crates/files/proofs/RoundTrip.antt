@@ -19,7 +19,8 @@ use Rattle.nets.proofs.SoundLaws.{Clauses, clauses}
 use Rattle.codec.specs.Bytes.{parts}
 use Rattle.codec.specs.Decoding.{recordIn, wholeRecords, recordsIn}
 use Rattle.files.specs.Loading.{load, loadBytes}
-use Rattle.codec.specs.Encoding.{endToEnd, tableBytes, rowBytes}
+use Rattle.codec.specs.Encoding.{tableBytes, rowBytes}
+use Rattle.stores.specs.Bytes.{endToEnd}
 use Rattle.files.specs.Writing.{rowsBytes, allRows, written}
 use Rattle.files.specs.RoundTrip.{tablesOnly, WrittenIsRead}
 use Rattle.files.proofs.EndToEnd.{sized, ends-length, ends-parts}

@@ -21,7 +21,8 @@ use Rattle.rows.specs.Relations.{Row}
 use Rattle.nets.specs.Sound.{isAbsent, tagged, operandsOk}
 use Rattle.codec.specs.Bytes.{part, parts, zeros, thenOnly, leading, operandForm, operandIn, operandsForm, operandsIn}
 use Rattle.codec.specs.Decoding.{rowRecord, good, siteAt, nameIn, rowIn, rowForm, judged, recordIn}
-use Rattle.codec.specs.Encoding.{endToEnd, operandBytes, tupleBytes, rowBytes}
+use Rattle.codec.specs.Encoding.{operandBytes, tupleBytes, rowBytes}
+use Rattle.stores.specs.Bytes.{endToEnd}
 use Rattle.files.proofs.EndToEnd.{sized, ends-length, ends-parts, leading-some, then-some, leading-none, then-none}
 use Rattle.files.proofs.ValueBack.{text-back, asOperand, value-length, value-form, value-back, value-tagged, values-given}
 

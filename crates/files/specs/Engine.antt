@@ -8,7 +8,7 @@ use lib.Dec.{T}
 use Rattle.values.specs.Lists.{firsts}
 use Rattle.nets.specs.declared.Pick.{Pick}
 use Rattle.nets.specs.declared.Net.{Net}
-use Rattle.nets.specs.View.{view}
+use Rattle.nets.specs.View.{noPick, view}
 use Rattle.files.specs.declared.Verdict.{Verdict}
 use Rattle.files.specs.declared.Verdict.the-variants as verdict
 use Rattle.files.specs.declared.Loaded.{Loaded}
@@ -29,9 +29,6 @@ faultIn (verdict.Fault n i) = some (record { number = n; place = i })
 abbrev pub isFault : Verdict → Bool
 isFault verdict.Accepted = false
 isFault (verdict.Fault n i) = true
-
-abbrev pub noPick : Pick
-noPick = record { thread = 0; row = 0 }
 
 -- as many picks as the count says
 abbrev pub picksOf : ℕ → List Pick → List Pick

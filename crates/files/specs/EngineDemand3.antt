@@ -23,7 +23,7 @@ use Rattle.nets.specs.declared.Pick.{Pick}
 use Rattle.nets.specs.declared.Net.{Net}
 use Rattle.nets.specs.declared.Stepped.{Stepped}
 use Rattle.nets.specs.View.{view}
-use Rattle.nets.specs.Answers.{Said, refusing, doing, saidOf, StepIs}
+use Rattle.nets.specs.Answers.{saidOf, addedSaid, takenSaid, StepIs}
 use Rattle.files.specs.declared.Verdict.the-variants as verdict
 use Rattle.files.specs.declared.Loaded.{Loaded}
 use Rattle.files.specs.FileDemand3.{FileDemand3}
@@ -42,15 +42,6 @@ Chain net (p ∷ ps) (r ∷ rs) = StepIs net p r × Chain (r .net) ps rs
 abbrev pub lastNet : Net → List Stepped → Net
 lastNet net [] = net
 lastNet net (r ∷ rs) = lastNet (r .net) rs
-
--- the counts in an answer; a refused pick reports none
-abbrev pub addedSaid : Said → ℕ
-addedSaid (refusing n vs) = 0
-addedSaid (doing a t) = a
-
-abbrev pub takenSaid : Said → ℕ
-takenSaid (refusing n vs) = 0
-takenSaid (doing a t) = t
 
 -- the sums of the counts in the answers returned
 abbrev pub addedReported : List Stepped → ℕ

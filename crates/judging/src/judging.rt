@@ -73,7 +73,8 @@ pub fn result_of(node: Node, source: Relation, flags: [bool; 16]) -> Got
     Got::Nothing
 }
 
-pub fn judged(node: Node, source: Relation, vars: [Slot; 16]) -> Judged
+// In a pass over the rows.
+fn judged_rows(node: Node, source: Relation, vars: [Slot; 16]) -> Judged
     requires { ⌜ JudgeReady node source ⌝ }
     ensures { λ j. ⌜ JudgedIs node source vars j ⌝ }
 {
@@ -99,5 +100,24 @@ pub fn judged(node: Node, source: Relation, vars: [Slot; 16]) -> Judged
         rows,
         flags,
         result,
+    }
+}
+
+// A step without a predicate speaks of no rows, so that none are judged.
+pub fn judged(node: Node, source: Relation, vars: [Slot; 16]) -> Judged
+    requires { ⌜ JudgeReady node source ⌝ }
+    ensures { λ j. ⌜ JudgedIs node source vars j ⌝ }
+{
+    if has_test(node.kind) {
+        return judged_rows(node, source, vars);
+    }
+    let kinds = source.kinds;
+    let rows = source.rows;
+    Judged {
+        columns: source.columns,
+        kinds,
+        rows,
+        flags: [false; 16],
+        result: Got::Nothing,
     }
 }

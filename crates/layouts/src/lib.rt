@@ -1,3 +1,2 @@
-// Answers and replies as a call hands them out.
-pub mod answers;
+// What a call replies.
 pub mod replies;

@@ -21,12 +21,13 @@ use Rattle.nets.specs.Nets.{Outcome, refused, done}
 use Rattle.nets.specs.Sound.{sound}
 use Rattle.nets.specs.Steps.{step}
 use Rattle.nets.specs.Accounts.{netLeft, nextNet, after, answers, addedIn, takenIn, isDone, reportedAdded, reportedTaken}
-use Rattle.nets.specs.Answers.{Said, refusing, doing, numberOf, answerOf, saidOf, isRefused, StepIs}
+use Rattle.nets.specs.Answers.{Said, refusing, doing, addedSaid, takenSaid, numberOf, answerOf, saidOf, isRefused, StepIs}
 use Rattle.nets.specs.View.{view}
 use Rattle.totals.specs.declared.Total.{Total}
 use Rattle.totals.specs.Totals.{totalOf}
 use Rattle.leaving.specs.Turns.{allRefused, lastSaid, Stood, GoneIs}
 use Rattle.nets.proofs.AnswerLaws.{refuses-10}
+use Rattle.picklists.proofs.AnswerLaws.{noOutcome, answer-at}
 use Rattle.leaving.proofs.KeepStep.{kept-sound, refused-is}
 
 -- ── lists of picks, the last one by itself ──
@@ -69,34 +70,25 @@ abbrev pub takenAs : Answer → ℕ
 takenAs (Done a t) = t
 takenAs (Refused r) = 0
 
--- what an answer says, read as counts
-abbrev addedOf : Said → ℕ
-addedOf (refusing n vs) = 0
-addedOf (doing a t) = a
-
-abbrev takenOf : Said → ℕ
-takenOf (refusing n vs) = 0
-takenOf (doing a t) = t
-
 added-said : (x : Answer) (o : Outcome) → saidOf x ≡ answerOf o → addedIn o ≡ addedAs x
-added-said x o e = outcome o ∙ ap addedOf (sym e) ∙ answer x
+added-said x o e = outcome o ∙ ap addedSaid (sym e) ∙ answer x
   where
-    outcome : (o : Outcome) → addedIn o ≡ addedOf (answerOf o)
+    outcome : (o : Outcome) → addedIn o ≡ addedSaid (answerOf o)
     outcome (refused n vs) = refl
     outcome (done a t net) = refl
 
-    answer : (x : Answer) → addedOf (saidOf x) ≡ addedAs x
+    answer : (x : Answer) → addedSaid (saidOf x) ≡ addedAs x
     answer (Done a t) = refl
     answer (Refused r) = refl
 
 taken-said : (x : Answer) (o : Outcome) → saidOf x ≡ answerOf o → takenIn o ≡ takenAs x
-taken-said x o e = outcome o ∙ ap takenOf (sym e) ∙ answer x
+taken-said x o e = outcome o ∙ ap takenSaid (sym e) ∙ answer x
   where
-    outcome : (o : Outcome) → takenIn o ≡ takenOf (answerOf o)
+    outcome : (o : Outcome) → takenIn o ≡ takenSaid (answerOf o)
     outcome (refused n vs) = refl
     outcome (done a t net) = refl
 
-    answer : (x : Answer) → takenOf (saidOf x) ≡ takenAs x
+    answer : (x : Answer) → takenSaid (saidOf x) ≡ takenAs x
     answer (Done a t) = refl
     answer (Refused r) = refl
 
@@ -127,23 +119,23 @@ pub record Turned (g : Stood) (p : Pick) (r : Stood) : Type 0 where
   pub takenRoom : r .taken .high ≤ g .taken .high + 1
 
 -- no pick leaves all as it is
-pub gone-none : (net : Net) (a t : Total) → GoneIs net [] a t (record { net = net; answer = Refused Unsound; added = a; taken = t })
+pub gone-none : (net : Net) (z y : Total) → z ≡ record { high = 0; low = 0 } → y ≡ record { high = 0; low = 0 } → GoneIs net [] (record { net = net; answer = Refused Unsound; added = z; taken = y })
 unfolding after answers lastSaid
-gone-none net a t =
+gone-none net z y e f =
     record {
       left = refl;
       sound = λ h. h;
       kept = λ h. refl;
       last = refl;
-      added = omega arith;
-      taken = omega arith;
-      addedRoom = omega arith;
-      takenRoom = omega arith;
+      added = ap totalOf e;
+      taken = ap totalOf f;
+      addedRoom = let h = ap (λ (t : Total). t .high) e in omega (arith, h);
+      takenRoom = let h = ap (λ (t : Total). t .high) f in omega (arith, h);
     }
 
-pub gone-next : (net : Net) (ps : List Pick) (p : Pick) (a t : Total) (g r : Stood) → GoneIs net ps a t g → Turned g p r → GoneIs net (ps ++ (p ∷ [])) a t r
+gone-next : (net : Net) (ps : List Pick) (p : Pick) (g r : Stood) → GoneIs net ps g → Turned g p r → GoneIs net (ps ++ (p ∷ [])) r
 unfolding nextNet
-gone-next net ps p a t g r h x =
+gone-next net ps p g r h x =
     record {
       left = is .after ∙ ap (λ (m : M.Net). nextNet m p) (h .left) ∙ sym (after-last p (view net) ps);
       sound = λ k. kept-sound (g .net) p (record { answer = r .answer; net = r .net }) (h .sound k) is;
@@ -171,10 +163,15 @@ gone-next net ps p a t g r h x =
 
 -- in a list, where i picks are behind
 pub gone-again :
-    (net : Net) (ps : List Pick) (i n : ℕ) (d : Pick) (a t : Total) (g r : Stood) → i < n → n ≤ length ps → GoneIs net (take i ps) a t g → Turned g (getD ps i d) r →
-    (i + 1 ≤ n) × GoneIs net (take (i + 1) ps) a t r
-gone-again net ps i n d a t g r h l k x =
-    (omega arith, subst (λ (qs : List Pick). GoneIs net qs a t r) (sym (ap (λ (j : ℕ). take j ps) (add-one i) ∙ take-suc ps i d (omega arith))) (gone-next net (take i ps) (getD ps i d) a t g r k x))
+    (net : Net) (ps : List Pick) (i : ℕ) (d : Pick) (g r : Stood) → i < length ps → GoneIs net (take i ps) g → Turned g (getD ps i d) r → GoneIs net (take (i + 1) ps) r
+gone-again net ps i d g r l k x =
+    subst (λ (qs : List Pick). GoneIs net qs r) (sym (ap (λ (j : ℕ). take j ps) (add-one i) ∙ take-suc ps i d l)) (gone-next net (take i ps) (getD ps i d) g r k x)
+
+-- its answer is the one at its place
+pub said-here :
+    (net : Net) (ps : List Pick) (i : ℕ) (d : Pick) (g : Stood) (x : Answer) → i < length ps → GoneIs net (take i ps) g → saidOf x ≡ answerOf (step (view (g .net)) (getD ps i d)) →
+    saidOf x ≡ answerOf (getD (answers (view net) ps) i noOutcome)
+said-here net ps i d g x l k e = e ∙ ap (λ (m : M.Net). answerOf (step m (getD ps i d))) (k .left) ∙ ap answerOf (sym (answer-at (view net) ps i d l))
 
 -- a refused pick
 pub turned-refused :
@@ -205,29 +202,29 @@ turned-done g p x n u v says is h k =
 
 -- an answer told by another name
 pub gone-told :
-    {net : Net} {ps : List Pick} {a t : Total} {n : Net} {u v : Total} {x y : Answer} → x ≡ y → GoneIs net ps a t (record { net = n; answer = x; added = u; taken = v }) →
-    GoneIs net ps a t (record { net = n; answer = y; added = u; taken = v })
-gone-told {net = net} {ps = ps} {a = a} {t = t} {n = n} {u = u} {v = v} e g = subst (λ (z : Answer). GoneIs net ps a t (record { net = n; answer = z; added = u; taken = v })) e g
+    {net : Net} {ps : List Pick} {n : Net} {u v : Total} {x y : Answer} → x ≡ y → GoneIs net ps (record { net = n; answer = x; added = u; taken = v }) →
+    GoneIs net ps (record { net = n; answer = y; added = u; taken = v })
+gone-told {net = net} {ps = ps} {n = n} {u = u} {v = v} e g = subst (λ (z : Answer). GoneIs net ps (record { net = n; answer = z; added = u; taken = v })) e g
 
 -- the sums have room for one pick more
 pub gone-room :
-    (net : Net) (ps : List Pick) (i n : ℕ) (a t : Total) (g : Stood) → GoneIs net (take i ps) a t g → i < n → n ≤ 128 → length ps ≡ 128 → a .high + 128 < 2 ^ 63 → t .high + 128 < 2 ^ 63 →
-    (g .added .high < 2 ^ 63) × (g .taken .high < 2 ^ 63)
-gone-room net ps i n a t g h l k e x y =
+    (net : Net) (ps : List Pick) (i : ℕ) (g : Stood) → GoneIs net (take i ps) g → i < length ps → length ps < 2 ^ 63 → (g .added .high < 2 ^ 63) × (g .taken .high < 2 ^ 63)
+gone-room net ps i g h l k =
     let z = length-take-le i ps (omega arith) in
     (omega (arith, h .addedRoom, z), omega (arith, h .takenRoom, z))
 
--- a single pick
-pub gone-step : (net : Net) (p : Pick) (ps : List Pick) (a t : Total) (r : Stood) → ps ≡ p ∷ [] → GoneIs net ps a t r → StepIs net p (record { answer = r .answer; net = r .net })
+-- ── a single pick ──
+
+pub gone-step : (net : Net) (p : Pick) (ps : List Pick) (r : Stood) → ps ≡ p ∷ [] → GoneIs net ps r → StepIs net p (record { answer = r .answer; net = r .net })
 unfolding after answers lastSaid nextNet
-gone-step net p ps a t r e h = one (subst (λ (qs : List Pick). GoneIs net qs a t r) e h)
+gone-step net p ps r e h = one (subst (λ (qs : List Pick). GoneIs net qs r) e h)
   where
     none-done : (x : Answer) (o : Outcome) → saidOf x ≡ answerOf o → T (isRefused x) → T (not (isDone o))
     none-done (Done a t) o e k = absurd k
     none-done (Refused y) (refused n vs) e k = tt
     none-done (Refused y) (done a t net) e k = absurd (subst (λ (s : Said). T (not (isDoneSaid s))) e tt)
 
-    one : GoneIs net (p ∷ []) a t r → StepIs net p (record { answer = r .answer; net = r .net })
+    one : GoneIs net (p ∷ []) r → StepIs net p (record { answer = r .answer; net = r .net })
     one g =
         record {
           answer = g .last;
@@ -236,9 +233,9 @@ gone-step net p ps a t r e h = one (subst (λ (qs : List Pick). GoneIs net qs a 
         }
 
 -- no pick, on a net that is not sound
-pub gone-unsound : (net : Net) (p : Pick) (a t : Total) (r : Stood) → sound (view net) ≡ false → GoneIs net [] a t r → StepIs net p (record { answer = r .answer; net = r .net })
+gone-unsound : (net : Net) (p : Pick) (r : Stood) → sound (view net) ≡ false → GoneIs net [] r → StepIs net p (record { answer = r .answer; net = r .net })
 unfolding after answers lastSaid
-gone-unsound net p a t r e g =
+gone-unsound net p r e g =
     record {
       answer = g .last ∙ sym (ap answerOf (refuses-10 (view net) p e));
       after = g .left ∙ sym (ap (netLeft (view net)) (refuses-10 (view net) p e));
@@ -247,7 +244,6 @@ gone-unsound net p a t r e g =
 
 -- one pick where the net is sound, and else none
 pub gone-single :
-    (net : Net) (p : Pick) (ps : List Pick) (n : ℕ) (a t : Total) (r : Stood) (b : Bool) → b ≡ sound (view net) → n ≡ cond b 1 0 → take 1 ps ≡ p ∷ [] → GoneIs net (take n ps) a t r →
-    StepIs net p (record { answer = r .answer; net = r .net })
-gone-single net p ps n a t r true e f one g = gone-step net p (take n ps) a t r (ap (λ (m : ℕ). take m ps) f ∙ one) g
-gone-single net p ps n a t r false e f one g = gone-unsound net p a t r (sym e) (subst (λ (m : ℕ). GoneIs net (take m ps) a t r) f g)
+    (net : Net) (p : Pick) (ps : List Pick) (r : Stood) (b : Bool) → b ≡ sound (view net) → ps ≡ cond b (p ∷ []) [] → GoneIs net ps r → StepIs net p (record { answer = r .answer; net = r .net })
+gone-single net p ps r true e f g = gone-step net p ps r f g
+gone-single net p ps r false e f g = gone-unsound net p r (sym e) (subst (λ (qs : List Pick). GoneIs net qs r) f g)

@@ -1,5 +1,5 @@
 -- What picks in turn come to.
-use Prim.Native.Nat.{_+_, _≤_}
+use Prim.Native.Nat.{_≤_}
 use mathlib.Core.Path.{_≡_}
 use mathlib.Core.Bool.{Bool, not}
 use mathlib.Core.List.{List, [], _∷_}
@@ -40,15 +40,15 @@ pub record Stood : Type 0 where
 abbrev pub stoodBy : Net → Gone → Stood
 stoodBy net g = record { net = leftBy net g; answer = g .answer; added = g .added; taken = g .taken }
 
--- after picks `ps` on a net, from sums `a` and `t`
-pub record GoneIs (net : Net) (ps : List Pick) (a t : Total) (r : Stood) : Type 0 where
+-- after picks `ps` on a net
+pub record GoneIs (net : Net) (ps : List Pick) (r : Stood) : Type 0 where
   pub left : view (r .net) ≡ after (view net) ps
   pub sound : T (sound (view net)) → T (sound (view (r .net)))
   -- where every pick is refused it is the very struct that came in
   pub kept : T (allRefused (view net) ps) → r .net ≡ net
   pub last : saidOf (r .answer) ≡ lastSaid (refusing 10 []) (view net) ps
-  pub added : totalOf (r .added) ≡ totalOf a + reportedAdded (view net) ps
-  pub taken : totalOf (r .taken) ≡ totalOf t + reportedTaken (view net) ps
+  pub added : totalOf (r .added) ≡ reportedAdded (view net) ps
+  pub taken : totalOf (r .taken) ≡ reportedTaken (view net) ps
   -- a pick moves a high half by one at most
-  pub addedRoom : r .added .high ≤ a .high + length ps
-  pub takenRoom : r .taken .high ≤ t .high + length ps
+  pub addedRoom : r .added .high ≤ length ps
+  pub takenRoom : r .taken .high ≤ length ps

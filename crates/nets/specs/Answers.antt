@@ -25,6 +25,15 @@ abbrev pub answerOf : Outcome → Said
 answerOf (refused n vs) = refusing n vs
 answerOf (done a t net) = doing a t
 
+-- the counts in an answer; a refused pick reports none
+abbrev pub addedSaid : Said → ℕ
+addedSaid (refusing n vs) = 0
+addedSaid (doing a t) = a
+
+abbrev pub takenSaid : Said → ℕ
+takenSaid (refusing n vs) = 0
+takenSaid (doing a t) = t
+
 -- the paper's number of each refusal
 abbrev pub numberOf : Refusal → ℕ
 numberOf Unsound = 10

@@ -26,6 +26,7 @@ use Rattle.nets.specs.declared.Frame.{Frame}
 use Rattle.nets.specs.declared.TableVariable.{TableVariable}
 use Rattle.nets.specs.declared.Thread.{Thread}
 use Rattle.nets.specs.declared.Net.{Net}
+use Rattle.nets.specs.declared.Pick.{Pick}
 use Rattle.nets.specs.Nets as M
 use Rattle.nets.specs.Nets.{Kind, acting, other, insert, insertTable, delete, update, create, drop, select, selectRelation, aggregate, sequential, parallel, badKind, code, toRun, visiting}
 
@@ -74,6 +75,9 @@ noFrame = record { entry = Run 0; visit = [] }
 
 abbrev pub noThread : Thread
 noThread = record { site = noSite; vars = []; relations = []; stack = []; depth = 0 }
+
+abbrev pub noPick : Pick
+noPick = record { thread = 0; row = 0 }
 
 -- ── nodes ──
 

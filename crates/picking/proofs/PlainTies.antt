@@ -1,17 +1,17 @@
--- A table and a thread stored at their places, where no list grows or closes up. Assumes nothing.
-use Prim.Native.Nat.{ℕ, zero, suc, _<_, _≤_}
+-- Tables and threads stored at their places: one gives way to another, a new one goes last, a removed one closes up. Assumes nothing.
+use Prim.Native.Nat.{ℕ, zero, suc, _+_, _-_, _<_, _≤_}
 use mathlib.Core.Path.{_≡_, refl, ap, sym, subst, _∙_}
-use mathlib.Core.Bool.{Bool, true, false, cond, _||_}
+use mathlib.Core.Bool.{Bool, true, false, cond}
 use mathlib.Core.List.{List, [], _∷_, _++_, map, append-nil}
 use mathlib.Core.Option.{Option, some}
 use native.Mathlib.Omega.{arith}
 use lib.Dec.{T, eqb, ltb}
-use lib.ListN.{length, getD, set}
+use lib.ListN.{length, getD, set, length-set}
 use borrow.Author.Tests.{lt-ltb, eqb-false}
 use Rattle.values.specs.declared.Site.{Site}
 use Rattle.values.proofs.Bools.{T-of}
 use Rattle.values.proofs.Arrays.{map-set}
-use Rattle.values.proofs.Firsts.{firsts-at, firsts-set}
+use Rattle.values.proofs.Firsts.{firsts-at, firsts-push, firsts-set}
 use Rattle.changes.specs.Contracts.{Holds}
 use Rattle.turns.specs.declared.Decided.{Decided}
 use Rattle.turns.specs.Situations.{moved}
@@ -28,9 +28,11 @@ use Rattle.nets.specs.Steps.{settle}
 use Rattle.nets.specs.View.{noTable, noThread, kindAt, tableOf, variableOf, threadOf, tablesOf, threadsOf}
 use Rattle.acts.specs.Contracts.{isStep, putsRows}
 use Rattle.threads.specs.Contracts.{standing, forksOf}
-use Rattle.threads.proofs.ThreadLaws.{standing-there, settle-one}
+use Rattle.threads.proofs.ThreadLaws.{standing-gone, standing-there, settle-none, settle-one}
 use Rattle.lists.specs.Contracts.{withContent, putContent, tablesWith}
+use Rattle.lists.proofs.KindTies.{with-create, with-drop}
 use Rattle.nets.proofs.KindLaws.{at-one}
+use Rattle.picking.proofs.CloseLaws.{Closing, closing-ends}
 
 -- ── kinds ──
 
@@ -142,30 +144,50 @@ module _ (n : ℕ) (l : List Table) (at slot b : ℕ) (fresh : Table) (s : Site)
           ap (λ (t : Table). tablesOf n (set l slot t)) (rests e) ∙ ap (tablesOf n) (set-same l slot noTable)
           ∙ sym (with-same at (tablesOf n l) s d (relationOf (fresh .content)) (kindAt b) e no-create no-drop)
 
+-- a new one goes last
+pub table-created :
+    (n : ℕ) (l : List Table) (at b : ℕ) (s : Site) (d : M.Node) (q : Relation) (t : Table) → length l ≡ 8 → b ≡ 23 → n < 8 →
+    tableOf t ≡ record { site = s; name = d .name; content = record { columns = d .columns; rows = [] } } → tablesOf (n + 1) (set l n t) ≡ tablesWith (kindAt b) at (tablesOf n l) s d q
+table-created n l at b s d q t eight e room is = with-create at (tablesOf n l) s d q e is (firsts-push tableOf noTable n l t (omega (arith, eight)))
+
+-- a removed one closes up
+pub table-dropped :
+    (n : ℕ) (l : List Table) (at b : ℕ) (s : Site) (d : M.Node) (q : Relation) {new : List Table} {x : ℕ} → b ≡ 24 → at < n → Closing noTable l at x new → n - 1 ≤ x →
+    tablesOf (n - 1) new ≡ tablesWith (kindAt b) at (tablesOf n l) s d q
+table-dropped n l at b s d q e low c h = closing-ends tableOf noTable n c low h ∙ sym (with-drop at (tablesOf n l) s d q e)
+
 -- ── threads ──
 
-pub plain-threads :
-    (n : ℕ) (l : List Thread) (i : ℕ) (t fork : Thread) {f : Bool} → length l ≡ 8 → i < n → n ≤ 8 → 1 ≤ t .depth → f ≡ false →
-    threadsOf n (set l i t) ≡ settle i (standing (threadOf t)) (threadsOf n l) ++ forksOf f fork
-plain-threads n l i t fork eight low few deep e =
-    firsts-set threadOf noThread n l i t (omega (arith, eight, low, few))
-    ∙ sym (settle-one i (threadOf t) (threadsOf n l))
-    ∙ ap (λ (us : List M.Thread). settle i us (threadsOf n l)) (sym (standing-there t deep))
-    ∙ sym (append-nil (settle i (standing (threadOf t)) (threadsOf n l)))
-    ∙ ap (λ (b : Bool). settle i (standing (threadOf t)) (threadsOf n l) ++ forksOf b fork) (sym e)
+module _ (n : ℕ) (l : List Thread) (at : ℕ) (t fork : Thread) (low : at < n) where
+  -- without an entry it is removed
+  pub thread-gone :
+      {new : List Thread} {x : ℕ} → Closing noThread l at x new → n - 1 ≤ x → t .depth ≡ 0 → (f : Bool) → (T f → 1 ≤ t .depth) →
+      threadsOf (n - 1) new ≡ settle at (standing (threadOf t)) (threadsOf n l) ++ forksOf f fork
+  thread-gone c h e true k = absurd (omega (arith, k tt))
+  thread-gone c h e false k =
+      closing-ends threadOf noThread n c low h
+      ∙ sym (append-nil _ ∙ ap (λ (us : List M.Thread). settle at us (threadsOf n l)) (standing-gone t e) ∙ settle-none at (threadsOf n l))
+
+  module _ (eight : length l ≡ 8) (few : n ≤ 8) (deep : 1 ≤ t .depth) where
+    put : threadsOf n (set l at t) ≡ settle at (standing (threadOf t)) (threadsOf n l)
+    put =
+        firsts-set threadOf noThread n l at t (omega (arith, eight, low, few))
+        ∙ sym (settle-one at (threadOf t) (threadsOf n l))
+        ∙ ap (λ (us : List M.Thread). settle at us (threadsOf n l)) (sym (standing-there t deep))
+
+    pub thread-stays : {f : Bool} → f ≡ false → threadsOf n (set l at t) ≡ settle at (standing (threadOf t)) (threadsOf n l) ++ forksOf f fork
+    thread-stays e =
+        put ∙ sym (append-nil (settle at (standing (threadOf t)) (threadsOf n l)))
+        ∙ ap (λ (b : Bool). settle at (standing (threadOf t)) (threadsOf n l) ++ forksOf b fork) (sym e)
+
+    -- and a fork goes last
+    pub thread-forks : {f : Bool} → f ≡ true → n < 8 → threadsOf (n + 1) (set (set l at t) n fork) ≡ settle at (standing (threadOf t)) (threadsOf n l) ++ forksOf f fork
+    thread-forks e room =
+        firsts-push threadOf noThread n (set l at t) fork (omega (arith, length-set l at t, eight, room))
+        ∙ ap (_++ (threadOf fork ∷ [])) put
+        ∙ ap (λ (b : Bool). settle at (standing (threadOf t)) (threadsOf n l) ++ forksOf b fork) (sym e)
 
 -- ── the code's test ──
-
--- none of four
-pub none-of : (a b c d : Bool) → (((a || b) || c) || d) ≡ false → (a ≡ false) × (b ≡ false) × (c ≡ false) × (d ≡ false)
-none-of false false false false e = (refl, refl, refl, refl)
-none-of true b c d e = absurd (subst T e (or3 b c d))
-  where
-    or3 : (b c d : Bool) → T (((true || b) || c) || d)
-    or3 b c d = tt
-none-of false true c d e = absurd (subst T e tt)
-none-of false false true d e = absurd (subst T e tt)
-none-of false false false true e = absurd (subst T e tt)
 
 pub some-depth : (n : ℕ) → eqb n 0 ≡ false → 1 ≤ n
 some-depth n e = let d : n ≡ 0 → ⊥ = eqb-false n 0 e in omega arith

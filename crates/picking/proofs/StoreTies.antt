@@ -22,8 +22,8 @@ use Rattle.nets.specs.declared.Answer.the-variants.{Done, Refused}
 use Rattle.nets.specs.declared.Frame.{Frame}
 use Rattle.turns.specs.declared.Located.{Located}
 use Rattle.turns.specs.Situations.{Change}
-use Rattle.lists.specs.declared.TableList.{TableList}
-use Rattle.lists.specs.declared.ThreadList.{ThreadList}
+use Rattle.nets.specs.declared.Table.{Table}
+use Rattle.nets.specs.declared.Thread.{Thread}
 use Rattle.nets.specs.declared.Net.{Net}
 use Rattle.nets.specs.Nets as M
 use Rattle.nets.specs.Nets.{Kind, acting, other, insert, insertTable, delete, update, create, drop, select, selectRelation, aggregate, sequential, parallel, badKind, needsTable, isCreate, Outcome}
@@ -111,19 +111,10 @@ tables-as (other o) c q e h = refl
 
 -- ── a done step ──
 
--- the net with other tables and threads
-abbrev pub netWith : Net → TableList → ThreadList → Net
-netWith net ts hs =
-    record {
-      aliases = net .aliases;
-      aliascount = net .aliascount;
-      tables = ts .tables;
-      tablecount = ts .count;
-      nodes = net .nodes;
-      nodecount = net .nodecount;
-      threads = hs .threads;
-      threadcount = hs .count;
-    }
+-- the net with other tables and threads, and with these numbers of them
+abbrev pub netWith : Net → List Table → ℕ → List Thread → ℕ → Net
+netWith net ts n hs m =
+    record { aliases = net .aliases; aliascount = net .aliascount; tables = ts; tablecount = n; nodes = net .nodes; nodecount = net .nodecount; threads = hs; threadcount = m }
 
 module _
     (net : Net) (p : Pick) (ok : T (sound (view net))) (there : p .thread < net .threadcount)
@@ -149,7 +140,7 @@ module _
         ap₂ (λ (z : Site) (m : M.Node). placeAt z (m .name) (tablesOf (net .tablecount) (net .tables))) (site-read net p ok there r) (node-read net p ok there r)
         ∙ sym (r .place)
 
-    -- what `tables_after` requires
+    -- the table that the step needs is there, and a new one has room
     pub tables-ready : (net .tablecount ≤ 8) × (T (needsTable (kindAt (nodeRead net k .kind))) → at < net .tablecount) × (T (isCreate (kindAt (nodeRead net k .kind))) → net .tablecount < 8)
     unfolding table check20 sceneOf view
     tables-ready = (few-tables net ok, below, room)
@@ -166,7 +157,7 @@ module _
             (room-create (sceneOf (view net) p .node .kind) (sceneOf (view net) p) (and-l (roomBy (sceneOf (view net) p .node .kind) (sceneOf (view net) p)) _ (passed .1 .1 .1 .1 .1 .1 .1 .1 .0))
             (subst (λ (m : M.Node). T (isCreate (m .kind))) (sym (node-read net p ok there r)) n))
 
-    -- what `threads_after` requires
+    -- a fork has room, and the thread that forks goes on
     pub threads-ready : (p .thread < net .threadcount) × (net .threadcount ≤ 8) × (T (d .forks) → (net .threadcount < 8) × (1 ≤ d .thread .depth))
     unfolding sceneOf view
     threads-ready = (there, few-threads net ok, forks)
@@ -175,10 +166,10 @@ module _
         forks n = (subst (λ (i : ℕ). i < 8) (length-firsts threadOf noThread (net .threadcount) (net .threads)) (is .room n .0), is .room n .1)
 
     module _
-        (ts : TableList) (hs : ThreadList)
-        (tables : tablesOf (ts .count) (ts .tables) ≡ tablesWith (kindAt (nodeRead net k .kind)) at (tablesOf (net .tablecount) (net .tables)) s (nodeOf (nodeRead net k)) (relationOf (d .content)))
-        (threads : threadsOf (hs .count) (hs .threads) ≡ settle (p .thread) (standing (threadOf (d .thread))) (threadsOf (net .threadcount) (net .threads)) ++ forksOf (d .forks) (d .fork)) where
-      tables-stored : tablesOf (ts .count) (ts .tables) ≡ tablesBy (sceneOf (view net) p .node .kind) (sceneOf (view net) p)
+        (ts : List Table) (n : ℕ) (hs : List Thread) (m : ℕ)
+        (tables : tablesOf n ts ≡ tablesWith (kindAt (nodeRead net k .kind)) at (tablesOf (net .tablecount) (net .tables)) s (nodeOf (nodeRead net k)) (relationOf (d .content)))
+        (threads : threadsOf m hs ≡ settle (p .thread) (standing (threadOf (d .thread))) (threadsOf (net .threadcount) (net .threads)) ++ forksOf (d .forks) (d .fork)) where
+      tables-stored : tablesOf n ts ≡ tablesBy (sceneOf (view net) p .node .kind) (sceneOf (view net) p)
       unfolding sceneOf view
       tables-stored =
           tables
@@ -186,11 +177,11 @@ module _
           ∙ sym (ap (λ (i : ℕ). tablesWith (sceneOf (view net) p .node .kind) i (view net .tables) (site (sceneOf (view net) p)) (sceneOf (view net) p .node) (relationOf (d .content))) place-as)
           ∙ tables-as (sceneOf (view net) p .node .kind) (sceneOf (view net) p) (relationOf (d .content)) (λ n. let c = is .content is-doing n in λ j. record { columns = c .columns j; rows = c .rows j }) table-needed
 
-      threads-stored : threadsOf (hs .count) (hs .threads) ≡ threadsAfter (sceneOf (view net) p)
+      threads-stored : threadsOf m hs ≡ threadsAfter (sceneOf (view net) p)
       unfolding sceneOf view
       threads-stored = threads ∙ sym (is .threads is-doing)
 
-      pub done-is : StepIs net p (record { answer = d .answer; net = netWith net ts hs })
+      pub done-is : StepIs net p (record { answer = d .answer; net = netWith net ts n hs m })
       unfolding view sceneOf
       done-is =
           record {

@@ -1,20 +1,14 @@
 // Small parts that a step reads off a net.
-use nets::Entry;
-use nets::Node;
-use nets::Thread;
 use rows::Relation;
 use turns::Located;
 use values::Site;
 ghost use mathlib.Core.Path.{_≡_};
 ghost use mathlib.Core.Bool.{cond};
-ghost use Prim.Native.Nat.{_≤_};
-ghost use lib.Dec.{T, ltb};
-ghost use Rattle.values.specs.Lists.{all, any, orElse};
+ghost use lib.Dec.{ltb};
+ghost use Rattle.values.specs.Lists.{orElse};
 ghost use Rattle.rows.specs.Relations.{noRelation};
 ghost use Rattle.rows.specs.View.{relationOf};
-ghost use Rattle.nets.specs.Sound.{entryNode};
-ghost use Rattle.nets.specs.Steps.{holds};
-ghost use Rattle.nets.specs.View.{noSite, nodesOf, threadOf};
+ghost use Rattle.nets.specs.View.{noSite};
 ghost use Rattle.turns.specs.Contracts.{locatedOf};
 
 // Where L leads nowhere any site will do: check 13 refuses the step, whatever table is found there.
@@ -25,31 +19,6 @@ pub fn site_in(l: Located) -> Site
         Located::Nowhere => Site(0),
         Located::At(s) => s,
     }
-}
-
-// A loop entry of the stack holds the table variable.
-pub fn is_held(nodes: [Node; 128], count: usize, t: Thread, v: u8) -> bool
-    requires { ⌜ (count ≤ 128) × (t .depth ≤ 8) × T (all (λ x. ltb (entryNode x) count) (threadOf t .stack)) ⌝ }
-    ensures { λ r. ⌜ r ≡ any (holds (nodesOf count nodes) v) (threadOf t .stack) ⌝ }
-{
-    let depth = t.depth;
-    let mut i: usize = 0;
-    while i < depth {
-        let f = t.stack[i];
-        let e = f.entry;
-        i += 1;
-        match e {
-            Entry::Run(_) => {}
-            Entry::Loop(k) => {
-                let n = k as usize;
-                let d = nodes[n];
-                if d.read == v {
-                    return true;
-                }
-            }
-        }
-    }
-    false
 }
 
 // The place found; where none is, the first place of the array.

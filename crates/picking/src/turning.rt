@@ -1,5 +1,4 @@
-// Picks in turn on a net that stays where it is: its elements are read and stored at their places here.
-use crate::reading::is_held;
+// Picks carried out in turn on a net that stays where it is: its elements are read and stored at their places here, since a net handed on is a net copied.
 use crate::reading::over;
 use crate::reading::shown;
 use crate::reading::site_in;
@@ -9,48 +8,60 @@ use effects::effects::bound_after;
 use evaluating::eval::eval_in;
 use judging::judging::judged;
 use leaving::Gone;
+use lists::lists::created;
 use lists::lists::table_after;
-use lists::lists::tables_after;
-use lists::lists::threads_after;
 use nets::Answer;
+use nets::Entry;
 use nets::Net;
-use nets::Pick;
 use nets::Refusal;
 use nets::TableVariable;
 use nets::kinds::binds_relation;
 use nets::tables::find_table;
+use picklists::answers::has_room;
+use picklists::answers::put_answer_at;
+use picklists::picks::pick_at;
 use places::places::site_of;
 use threads::threads::forked;
 use threads::threads::node_of;
 use threads::threads::run_frame;
-use totals::Total;
 use totals::plus;
+use totals::zero;
 use turns::Setting;
 use turns::parts::source_of;
-ghost use Prim.Native.Nat.{_+_, _<_, _≤_, _^_};
+ghost use mathlib.Core.Path.{_≡_};
+ghost use Prim.Native.Nat.{_≤_};
 ghost use lib.Dec.{T};
-ghost use lib.ListN.{take};
+ghost use lib.ListN.{length};
+ghost use Rattle.stores.specs.Bytes.{putAll};
 ghost use Rattle.nets.specs.Sound.{sound};
 ghost use Rattle.nets.specs.View.{view};
+ghost use Rattle.picklists.specs.PickBytes.{picksIn};
+ghost use Rattle.picklists.specs.AnswerBytes.{answersPut};
 ghost use Rattle.leaving.specs.Turns.{GoneIs, stoodBy};
 
-// The net is to be sound where there is a pick; where there is none the answer is 10, whatever the net.
-pub fn turns_sound(from: Net, picks: [Pick; 128], count: usize, before: Total, gone: Total) -> Gone
-    requires { ⌜ (1 ≤ count → T (sound (view from))) × (count ≤ 128) × (before .high + 128 < 2 ^ 63) × (gone .high + 128 < 2 ^ 63) ⌝ }
-    ensures { λ r. ⌜ GoneIs from (take count picks) before gone (stoodBy from r) ⌝ }
+// Requires a sound net unless there is no pick; no pick answers 10. Every answer goes to the start of `out` if there is room for all of them, and none if there is not.
+pub fn carry_out(from: Net, picks: &[u8], out: &mut [u8]) -> Gone
+    requires { ⌜ (2 ≤ length (now picks) → T (sound (view from))) ⌝ }
+    ensures { λ r. ⌜ GoneIs from (picksIn (now (picks .entry))) (stoodBy from r) × (now (out .exit) ≡ putAll (answersPut (view from) (picksIn (now (picks .entry)))) (now (out .entry))) ⌝ }
 {
+    let count = picks.len() / 2;
+    let room = has_room(out.len(), count);
     let mut net = from;
-    let mut added = before;
-    let mut taken = gone;
+    let mut added = zero();
+    let mut taken = zero();
     let mut answer = Answer::Refused(Refusal::Unsound);
     let mut i: usize = 0;
     while i < count {
-        let pick = picks[i];
+        let turn = i;
+        let pick = pick_at(picks, turn);
         i += 1;
+
+        // ---- the thread, and the node of its top entry
         let p = pick.thread as usize;
         let running = net.threadcount;
         if running <= p {
             answer = Answer::Refused(Refusal::NoThread);
+            put_answer_at(out, room, turn, answer);
             continue;
         }
         let mut thread = net.threads[p];
@@ -60,12 +71,27 @@ pub fn turns_sound(from: Net, picks: [Pick; 128], count: usize, before: Total, g
         let k = node_of(frame) as usize;
         let node = net.nodes[k];
         let kind = node.kind;
+
+        // ---- whether a loop entry holds the table variable to be bound
         let binds = binds_relation(kind);
         let mut held = false;
         if binds {
-            let nodes = net.nodes;
-            held = is_held(nodes, net.nodecount, thread, node.bound);
+            let mut q: usize = 0;
+            while q < depth {
+                let other = thread.stack[q];
+                let entry = other.entry;
+                q += 1;
+                match entry {
+                    Entry::Run(_) => {}
+                    Entry::Loop(number) => {
+                        let n = number as usize;
+                        held = held | (node.bound == net.nodes[n].read);
+                    }
+                }
+            }
         }
+
+        // ---- the site that L means, and the table there
         let vars = thread.vars;
         let home = thread.site;
         let place = node.place;
@@ -80,6 +106,8 @@ pub fn turns_sound(from: Net, picks: [Pick; 128], count: usize, before: Total, g
         let inside = table.content;
         let found = at < standing;
         let content = shown(found, inside);
+
+        // ---- the rows spoken of, judged before the checks, and what the pick comes to
         let r = node.read as usize;
         let v = thread.relations[r];
         let source = source_of(kind, v, content);
@@ -94,11 +122,14 @@ pub fn turns_sound(from: Net, picks: [Pick; 128], count: usize, before: Total, g
         };
         let o = decide(thread, frame, node, content, source, j, s);
         answer = o.answer;
+        put_answer_at(out, room, turn, answer);
         let Answer::Done(a, t) = answer else {
             continue;
         };
         added = plus(added, a);
         taken = plus(taken, t);
+
+        // ---- the thread after it
         let fresh = table_after(table, node, content, source, vars, j);
         let after = o.vars;
         let waiting = o.frame;
@@ -115,24 +146,48 @@ pub fn turns_sound(from: Net, picks: [Pick; 128], count: usize, before: Total, g
                 content: rows,
             };
         }
-        if (o.depth == 0) | o.forks | (kind == 23) | (kind == 24) {
-            let inner = o.inner;
-            let rows = fresh.content;
-            let threads = net.threads;
-            let stood = net.tables;
-            let fork = forked(thread, inner, node.body);
-            let hs = threads_after(threads, running, p, thread, o.forks, fork);
-            let ts = tables_after(stood, standing, at, site, node, rows);
-            let newtables = ts.tables;
-            let newthreads = hs.threads;
-            net.tables = newtables;
-            net.tablecount = ts.count;
-            net.threads = newthreads;
-            net.threadcount = hs.count;
+
+        // ---- the tables: a new one goes last, a removed one closes up
+        match kind {
+            23 => {
+                net.tables[standing] = created(site, node, inside);
+                net.tablecount = standing + 1;
+            }
+            24 => {
+                let last = standing - 1;
+                let mut x = at;
+                while x < last {
+                    let y = x + 1;
+                    let moved = net.tables[y];
+                    net.tables[x] = moved;
+                    x = y;
+                }
+                net.tablecount = last;
+            }
+            _ => {
+                net.tables[slot] = fresh;
+            }
+        }
+
+        // ---- the threads: one without entries is removed, and the list closes up; a fork goes last
+        if o.depth == 0 {
+            let last = running - 1;
+            let mut x = p;
+            while x < last {
+                let y = x + 1;
+                let moved = net.threads[y];
+                net.threads[x] = moved;
+                x = y;
+            }
+            net.threadcount = last;
             continue;
         }
-        net.tables[slot] = fresh;
         net.threads[p] = thread;
+        if o.forks {
+            let inner = o.inner;
+            net.threads[running] = forked(thread, inner, node.body);
+            net.threadcount = running + 1;
+        }
     }
     let contents = net.tables;
     let processes = net.threads;

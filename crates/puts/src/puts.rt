@@ -11,7 +11,8 @@ ghost use mathlib.Core.List.{map};
 ghost use Prim.Native.Nat.{_*_, _≤_};
 ghost use lib.ListN.{length};
 ghost use Rattle.rows.specs.View.{valuesOf, relationOf};
-ghost use Rattle.codec.specs.Encoding.{rowBytes, tableBytes, endToEnd};
+ghost use Rattle.codec.specs.Encoding.{rowBytes, tableBytes};
+ghost use Rattle.stores.specs.Bytes.{endToEnd};
 
 // A row record.
 fn put_row(out: &mut [u8], site: Site, name: u32, row: Row, columns: usize)

@@ -19,8 +19,8 @@ use Rattle.nets.specs.Scenes.{top}
 use Rattle.nets.specs.View.{noThread, entryOf, threadOf, threadsOf}
 use Rattle.loops.proofs.MarkLaws.{marked-among}
 use Rattle.threads.proofs.ThreadLaws.{length-stack}
-use Rattle.codec.specs.Encoding.{endToEnd}
-use Rattle.codec.proofs.Stores.{all-stored, part-written, ends-more, ends-all}
+use Rattle.stores.specs.Bytes.{endToEnd}
+use Rattle.stores.proofs.Stores.{all-stored, part-written, ends-more, ends-all}
 use Rattle.calls.specs.Layouts.{entryKind, toVisit, visitBytes, headBytes, threadBytes}
 
 -- ── the rows still to visit ──

@@ -11,7 +11,7 @@ ghost use Prim.Native.Nat.{_*_, _<_, _≤_};
 ghost use lib.ListN.{length};
 ghost use Rattle.values.specs.Lists.{bit, among};
 ghost use Rattle.nets.specs.View.{entryOf, threadOf, threadsOf};
-ghost use Rattle.codec.specs.Encoding.{endToEnd};
+ghost use Rattle.stores.specs.Bytes.{endToEnd};
 ghost use Rattle.threads.specs.Contracts.{Stacked};
 ghost use Rattle.calls.specs.Layouts.{entryKind, toVisit, visitBytes, headBytes, threadBytes};
 ghost use Rattle.calls.specs.Openings.{AllStacked};

@@ -14,8 +14,8 @@ use Rattle.nets.specs.Accounts.{after}
 use Rattle.nets.specs.View.{noThread, threadOf, threadsOf, view}
 use Rattle.nets.proofs.SoundLaws.{clauses}
 use Rattle.picking.proofs.SceneTies.{thread-stacked}
-use Rattle.codec.specs.Encoding.{endToEnd}
-use Rattle.codec.proofs.Stores.{ends-length}
+use Rattle.stores.specs.Bytes.{endToEnd}
+use Rattle.stores.proofs.Stores.{ends-length}
 use Rattle.calls.specs.Layouts.{threadBytes, threadsPut}
 use Rattle.calls.specs.Openings.{AllStacked}
 use Rattle.stacks.proofs.ThreadLaws.{bytesOf, thread-length, threads-are}

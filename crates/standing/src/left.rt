@@ -9,7 +9,8 @@ ghost use lib.Dec.{T};
 ghost use Rattle.nets.specs.Sound.{sound};
 ghost use Rattle.nets.specs.View.{view};
 ghost use Rattle.calls.specs.Layouts.{threadsPut};
-ghost use Rattle.calls.specs.Calls.{picksIn, ifRoom, Gives, ThreadsIs};
+ghost use Rattle.picklists.specs.PickBytes.{picksIn};
+ghost use Rattle.calls.specs.Calls.{ifRoom, Gives, ThreadsIs};
 
 fn threads_left(net: Net, picks: &[u8], out: &mut [u8]) -> Reply
     requires { ⌜ T (sound (view net)) ⌝ }

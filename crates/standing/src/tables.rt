@@ -10,7 +10,8 @@ ghost use lib.Dec.{T};
 ghost use Rattle.nets.specs.Sound.{sound};
 ghost use Rattle.nets.specs.View.{view};
 ghost use Rattle.calls.specs.Layouts.{tablesPut};
-ghost use Rattle.calls.specs.Calls.{picksIn, ifRoom, Gives, TablesIs};
+ghost use Rattle.picklists.specs.PickBytes.{picksIn};
+ghost use Rattle.calls.specs.Calls.{ifRoom, Gives, TablesIs};
 
 fn tables_left(net: Net, picks: &[u8], out: &mut [u8]) -> Reply
     requires { ⌜ T (sound (view net)) ⌝ }

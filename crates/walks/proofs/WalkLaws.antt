@@ -18,7 +18,7 @@ use Rattle.codec.specs.Bytes.{at, part, parts}
 use Rattle.codec.specs.Decoding.{Record, Decoded, good, bad, judged, recordIn, wholeRecords, recordsIn}
 use Rattle.codec.specs.Judging.{groupAt}
 use Rattle.codec.proofs.ByteLaws.{not-this}
-use Rattle.codec.proofs.Stores.{part-size}
+use Rattle.stores.proofs.Stores.{part-size}
 use Rattle.codec.proofs.GroupLaws.{byGroup, by-group}
 use Rattle.walks.specs.declared.Reach.{Reach}
 use Rattle.files.specs.Loading.{Progress, groupOf, loadChecks, advance, failed, failing, stopped, proceed, readAll}

@@ -6,8 +6,9 @@ use native.Mathlib.Omega.{arith}
 use lib.ListN.{length, drop}
 use borrow.Author.Needs.{needs}
 use Rattle.nets.specs.Nets.{Net}
-use Rattle.calls.specs.Layouts.{answersPut}
-use Rattle.calls.specs.Calls.{picksIn, ifRoom, Gives}
+use Rattle.picklists.specs.AnswerBytes.{answersPut}
+use Rattle.picklists.specs.PickBytes.{picksIn}
+use Rattle.calls.specs.Calls.{ifRoom, Gives}
 use Rattle.calls.proofs.CallLaws.{gives-short, gives-put}
 use Rattle.layouts.proofs.AnswerLaws.{answers-size}
 use Rattle.answering.proofs.answers.answers_given.Statement.{statement}

@@ -10,9 +10,9 @@ use Rattle.values.specs.Lists.{firsts}
 use Rattle.nets.specs.Sound.{sound}
 use Rattle.nets.specs.Accounts.{answers}
 use Rattle.nets.specs.View.{view}
-use Rattle.codec.specs.Encoding.{endToEnd}
-use Rattle.codec.proofs.Stores.{kept-length}
-use Rattle.calls.specs.Calls.{picksIn}
+use Rattle.stores.specs.Bytes.{endToEnd}
+use Rattle.stores.proofs.Stores.{kept-length}
+use Rattle.picklists.specs.PickBytes.{picksIn}
 use Rattle.layouts.proofs.AnswerLaws.{bytesOf, noOutcome, answers-on, answer-more, answers-over}
 use Rattle.answering.proofs.answers.put_answers.Statement.{statement}
 use Rattle.answering.proofs.answers.put_answers.Tie as tie

@@ -8,7 +8,7 @@ use borrow.Author.Needs.{needs}
 use Rattle.nets.specs.Sound.{sound}
 use Rattle.nets.specs.Accounts.{after}
 use Rattle.nets.specs.View.{view}
-use Rattle.calls.specs.Calls.{picksIn}
+use Rattle.picklists.specs.PickBytes.{picksIn}
 use Rattle.calls.proofs.PickLaws.{step-on, run-over}
 use Rattle.answering.proofs.running.run_picks.Statement.{statement}
 use Rattle.answering.proofs.running.run_picks.Tie as tie

@@ -4,7 +4,7 @@ use mathlib.Core.Path.{_≡_, _∙_}
 use mathlib.Core.List.{List, [], _∷_}
 use lib.ListN.{length, getD, set}
 use Rattle.codec.specs.Encoding.{columnBytes}
-use Rattle.codec.proofs.Stores.{all-stored}
+use Rattle.stores.proofs.Stores.{all-stored}
 use borrow.Author.Needs.{needs}
 use Rattle.fields.proofs.fields.put_columns.Statement.{statement}
 use Rattle.fields.proofs.fields.put_columns.Tie as tie

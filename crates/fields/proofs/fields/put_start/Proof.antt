@@ -3,7 +3,7 @@ use lib.ListN.{length-set}
 use denote.Ref.{now}
 use native.Mathlib.Omega.{arith}
 use Rattle.codec.specs.Encoding.{startBytes}
-use Rattle.codec.proofs.Stores.{all-stored}
+use Rattle.stores.proofs.Stores.{all-stored}
 use borrow.Author.Needs.{needs}
 use Rattle.fields.proofs.fields.put_start.Statement.{statement}
 use Rattle.fields.proofs.fields.put_start.Tie as tie

@@ -9,8 +9,9 @@ use borrow.Rule.Slice.PartMut.{putMid}
 use Rattle.values.specs.Lists.{firsts}
 use Rattle.rows.specs.declared.Row.{Row}
 use Rattle.rows.specs.View.{noCell, valuesOf}
-use Rattle.codec.specs.Encoding.{endToEnd, operandBytes, tupleBytes}
-use Rattle.codec.proofs.Stores.{kept-length, drop-replicate, ends-more}
+use Rattle.codec.specs.Encoding.{operandBytes, tupleBytes}
+use Rattle.stores.specs.Bytes.{endToEnd}
+use Rattle.stores.proofs.Stores.{kept-length, drop-replicate, ends-more}
 use Rattle.fields.proofs.WriteLaws.{cellBytes, cell-length, tuple-is}
 use Rattle.fields.proofs.fields.put_tuple.Statement.{statement}
 use Rattle.fields.proofs.fields.put_tuple.Tie as tie

@@ -10,7 +10,8 @@ use borrow.Author.Needs.{sfits-of}
 use Rattle.values.specs.declared.Locality.{Locality}
 use Rattle.values.specs.declared.Value.{Value}
 use Rattle.values.specs.declared.Value.the-variants.{Int, Text, Loc}
-use Rattle.codec.specs.Encoding.{bits32, littleBytes, operandBytes}
+use Rattle.codec.specs.Encoding.{bits32, operandBytes}
+use Rattle.stores.specs.Bytes.{littleBytes}
 use Rattle.values.specs.Values.{bytesOf}
 use borrow.Author.Needs.{needs}
 use Rattle.fields.proofs.fields.put_value.Statement.{statement}

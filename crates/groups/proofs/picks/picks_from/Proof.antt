@@ -12,7 +12,8 @@ use Rattle.walks.specs.Walking.{Leads, Going, putPicks}
 use Rattle.walks.proofs.WalkLaws.{withGroup, leads-refl, list-stops, list-grows, near, sized, place-few, gone-on, gone-off, gone-by}
 use borrow.Author.Tests.{le-leb}
 use Rattle.nets.specs.declared.Pick.{Pick}
-use Rattle.files.specs.Engine.{noPick, picksOf}
+use Rattle.nets.specs.View.{noPick}
+use Rattle.files.specs.Engine.{picksOf}
 use Rattle.groups.proofs.picks.picks_from.Statement.{statement}
 use Rattle.groups.proofs.picks.picks_from.Tie as tie
 

@@ -12,8 +12,9 @@ use Rattle.values.proofs.Firsts.{map-firsts}
 use Rattle.rows.specs.declared.Row.{Row}
 use Rattle.rows.specs.declared.Relation.{Relation}
 use Rattle.rows.specs.View.{noRow, valuesOf, relationOf}
-use Rattle.codec.specs.Encoding.{endToEnd, rowBytes}
-use Rattle.codec.proofs.Stores.{kept-length, ends-more, ends-all}
+use Rattle.codec.specs.Encoding.{rowBytes}
+use Rattle.stores.specs.Bytes.{endToEnd}
+use Rattle.stores.proofs.Stores.{kept-length, ends-more, ends-all}
 use Rattle.fields.proofs.WriteLaws.{row-length}
 use Rattle.puts.proofs.puts.put_rows.Statement.{statement}
 use Rattle.puts.proofs.puts.put_rows.Tie as tie

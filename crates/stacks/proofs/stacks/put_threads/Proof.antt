@@ -7,8 +7,8 @@ use lib.ListN.{length, drop, length-take, length-drop}
 use borrow.Author.Needs.{needs}
 use Rattle.values.specs.Lists.{firsts}
 use Rattle.nets.specs.View.{noThread}
-use Rattle.codec.specs.Encoding.{endToEnd}
-use Rattle.codec.proofs.Stores.{kept-length}
+use Rattle.stores.specs.Bytes.{endToEnd}
+use Rattle.stores.proofs.Stores.{kept-length}
 use Rattle.stacks.proofs.ThreadLaws.{bytesOf, thread-more, threads-over}
 use Rattle.stacks.proofs.stacks.put_threads.Statement.{statement}
 use Rattle.stacks.proofs.stacks.put_threads.Tie as tie

@@ -12,7 +12,7 @@ use Rattle.nets.specs.Nets.{Net}
 use Rattle.nets.specs.Sound.{sound}
 use Rattle.nets.specs.Accounts.{after}
 use Rattle.nets.specs.View.{threadsOf, view}
-use Rattle.codec.specs.Encoding.{endToEnd}
+use Rattle.stores.specs.Bytes.{endToEnd}
 use Rattle.calls.specs.Layouts.{threadBytes, threadsPut}
 use Rattle.calls.specs.Calls.{ifRoom, Gives}
 use Rattle.calls.proofs.CallLaws.{gives-short, gives-put}

@@ -1,12 +1,12 @@
--- `layouts::answers::put_number` meets its contract: eight stores in turn fill the part. Assumes nothing.
+-- `picklists::answers::put_number` meets its contract: eight stores in turn fill the part. Assumes nothing.
 use lib.ListN.{length-set}
 use denote.Ref.{now}
 use native.Mathlib.Omega.{arith}
 use borrow.Author.Needs.{needs}
-use Rattle.codec.proofs.Stores.{all-stored}
-use Rattle.calls.specs.Layouts.{eightBytes}
-use Rattle.layouts.proofs.answers.put_number.Statement.{statement}
-use Rattle.layouts.proofs.answers.put_number.Tie as tie
+use Rattle.stores.proofs.Stores.{all-stored}
+use Rattle.stores.specs.Bytes.{eightBytes}
+use Rattle.picklists.proofs.answers.put_number.Statement.{statement}
+use Rattle.picklists.proofs.answers.put_number.Tie as tie
 
 returns : tie.Need-returns
 unfolding eightBytes

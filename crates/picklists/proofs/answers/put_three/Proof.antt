@@ -1,8 +1,8 @@
--- `layouts::answers::put_three` meets its contract: three adjacent parts fill the buffer. Assumes nothing.
+-- `picklists::answers::put_three` meets its contract: three adjacent parts fill the buffer. Assumes nothing.
 use borrow.Author.Needs.{needs}
-use Rattle.layouts.proofs.AnswerLaws.{three-numbers}
-use Rattle.layouts.proofs.answers.put_three.Statement.{statement}
-use Rattle.layouts.proofs.answers.put_three.Tie as tie
+use Rattle.picklists.proofs.AnswerLaws.{three-numbers}
+use Rattle.picklists.proofs.answers.put_three.Statement.{statement}
+use Rattle.picklists.proofs.answers.put_three.Tie as tie
 
 returns : tie.Need-returns
 returns c = search three-numbers

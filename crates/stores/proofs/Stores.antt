@@ -9,7 +9,7 @@ use lib.Seq.{sets, sets-eq, take-at, drop-at, drop-drop}
 use borrow.Rule.Slice.PartMut.{putMid, same-len-mid}
 use Rattle.values.specs.Lists.{firsts}
 use Rattle.values.proofs.Firsts.{firsts-next}
-use Rattle.codec.specs.Encoding.{endToEnd}
+use Rattle.stores.specs.Bytes.{endToEnd}
 
 -- a part of n elements from a on, as the code has it
 pub part-size : (a n : ℕ) → a + n - a ≡ n

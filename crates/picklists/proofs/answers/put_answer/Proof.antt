@@ -1,4 +1,4 @@
--- `layouts::answers::put_answer` meets its contract: done with both counts, or a number and no counts. Assumes nothing.
+-- `picklists::answers::put_answer` meets its contract: done with both counts, or a number and no counts. Assumes nothing.
 use Prim.Native.Nat.{ℕ}
 use mathlib.Core.Path.{_≡_}
 use mathlib.Core.List.{List}
@@ -7,9 +7,9 @@ use Rattle.nets.specs.declared.Refusal.{Refusal}
 use Rattle.nets.specs.declared.Answer.{Answer}
 use Rattle.nets.specs.declared.Answer.the-variants.{Done, Refused}
 use Rattle.nets.specs.Answers.{numberOf, saidOf}
-use Rattle.calls.specs.Layouts.{threeBytes, answerBytes}
-use Rattle.layouts.proofs.answers.put_answer.Statement.{statement}
-use Rattle.layouts.proofs.answers.put_answer.Tie as tie
+use Rattle.picklists.specs.AnswerBytes.{threeBytes, answerBytes}
+use Rattle.picklists.proofs.answers.put_answer.Statement.{statement}
+use Rattle.picklists.proofs.answers.put_answer.Tie as tie
 
 as-done : (a : Answer) (m n : ℕ) (out : List ℕ) → a ≡ Done m n → out ≡ threeBytes 0 m n → out ≡ answerBytes (saidOf a)
 unfolding answerBytes

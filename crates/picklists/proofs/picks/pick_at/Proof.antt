@@ -1,8 +1,8 @@
--- `calls::picking::pick_at` meets its contract: a pick is two bytes. Assumes nothing.
+-- `picklists::picks::pick_at` meets its contract: a pick is two bytes. Assumes nothing.
 use borrow.Author.Needs.{needs}
-use Rattle.calls.proofs.PickLaws.{picks-at}
-use Rattle.calls.proofs.picking.pick_at.Statement.{statement}
-use Rattle.calls.proofs.picking.pick_at.Tie as tie
+use Rattle.picklists.proofs.PickLaws.{picks-at}
+use Rattle.picklists.proofs.picks.pick_at.Statement.{statement}
+use Rattle.picklists.proofs.picks.pick_at.Tie as tie
 
 returns : tie.Need-returns
 returns c = picks-at (c .before .before .args .picks .now) (c .before .before .args .i) (c .before .before .pre)

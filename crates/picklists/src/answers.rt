@@ -1,10 +1,14 @@
-// One answer as 24 bytes.
+// Answers as bytes, 24 each.
 use nets::Answer;
 use nets::Refusal;
 ghost use mathlib.Core.Path.{_≡_};
+ghost use mathlib.Core.Bool.{cond};
+ghost use Prim.Native.Nat.{_+_, _*_, _≤_};
+ghost use lib.Dec.{T, leb};
 ghost use lib.ListN.{length};
+ghost use Rattle.stores.specs.Bytes.{eightBytes, putAt};
 ghost use Rattle.nets.specs.Answers.{numberOf, saidOf};
-ghost use Rattle.calls.specs.Layouts.{eightBytes, threeBytes, answerBytes};
+ghost use Rattle.picklists.specs.AnswerBytes.{threeBytes, answerBytes};
 
 // ---- one answer
 
@@ -51,7 +55,7 @@ fn put_three(out: &mut [u8], number: usize, added: usize, taken: usize)
     put_number(&mut out[16..24], taken);
 }
 
-pub fn put_answer(out: &mut [u8], answer: Answer)
+fn put_answer(out: &mut [u8], answer: Answer)
     requires { ⌜ length (now out) ≡ 24 ⌝ }
     ensures { λ _. ⌜ now (out .exit) ≡ answerBytes (saidOf answer) ⌝ }
 {
@@ -62,5 +66,24 @@ pub fn put_answer(out: &mut [u8], answer: Answer)
         Answer::Refused(why) => {
             put_three(out, number_of(why), 0, 0);
         }
+    }
+}
+
+// ---- the answers to a list
+
+// A buffer of this length has room for so many answers.
+pub fn has_room(length: usize, count: usize) -> bool
+    ensures { λ r. ⌜ r ≡ leb (count * 24) length ⌝ }
+{
+    count <= length / 24
+}
+
+// The answer to pick `i` at its place, if there is room for the answers to all picks.
+pub fn put_answer_at(out: &mut [u8], room: bool, i: usize, answer: Answer)
+    requires { ⌜ (T room → i * 24 + 24 ≤ length (now out)) ⌝ }
+    ensures { λ _. ⌜ now (out .exit) ≡ cond room (putAt (i * 24) (answerBytes (saidOf answer)) (now (out .entry))) (now (out .entry)) ⌝ }
+{
+    if room {
+        put_answer(&mut out[i * 24..i * 24 + 24], answer);
     }
 }

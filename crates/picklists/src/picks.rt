@@ -3,8 +3,8 @@ use nets::Pick;
 ghost use mathlib.Core.Path.{_≡_};
 ghost use Prim.Native.Nat.{_+_, _*_, _<_};
 ghost use lib.ListN.{length, getD};
-ghost use Rattle.files.specs.Engine.{noPick};
-ghost use Rattle.calls.specs.Calls.{picksIn};
+ghost use Rattle.nets.specs.View.{noPick};
+ghost use Rattle.picklists.specs.PickBytes.{picksIn};
 
 pub fn pick_at(picks: &[u8], i: usize) -> Pick
     requires { ⌜ i * 2 + 1 < length (now picks) ⌝ }

@@ -1,0 +1,3 @@
+-- Picks and answers as bytes.
+pub mod PickBytes
+pub mod AnswerBytes

@@ -1,0 +1,2 @@
+-- Laws of bytes stored one after the other.
+pub mod Stores

@@ -1,0 +1,2 @@
+-- Bytes one after the other.
+pub mod Bytes
