@@ -1,11 +1,10 @@
-// The single step: picks in turn, of which there is one, or none where the net is not sound.
+// The single step: one pick carried out, or none where the net is not sound.
 use leaving::left_by;
 use nets::Net;
 use nets::Pick;
 use nets::Stepped;
-use picking::turning::turns_sound;
+use picking::turning::carry_out;
 use soundness::whole::sound_parts;
-use totals::zero;
 ghost use mathlib.Core.Path.{_≡_};
 ghost use mathlib.Core.Bool.{cond};
 ghost use lib.Dec.{T};
@@ -13,11 +12,12 @@ ghost use Rattle.nets.specs.Sound.{sound};
 ghost use Rattle.nets.specs.Answers.{StepIs};
 ghost use Rattle.nets.specs.View.{view};
 
-pub fn one_if(sure: bool) -> usize
-    ensures { λ r. ⌜ r ≡ cond sure 1 0 ⌝ }
+// As many as there are, or none.
+pub fn count_if(sure: bool, count: usize) -> usize
+    ensures { λ r. ⌜ r ≡ cond sure count 0 ⌝ }
 {
     if sure {
-        return 1;
+        return count;
     }
     0
 }
@@ -27,9 +27,9 @@ pub fn step_sound(net: Net, pick: Pick) -> Stepped
     requires { ⌜ T (sound (view net)) ⌝ }
     ensures { λ r. ⌜ StepIs net pick r × T (sound (view (r .net))) ⌝ }
 {
-    let none = zero();
-    let picks = [pick; 128];
-    let g = turns_sound(net, picks, 1, none, none);
+    let picks = [pick.thread, pick.row];
+    let mut unused = [0u8; 0];
+    let g = carry_out(net, &picks, &mut unused);
     let answer = g.answer;
     let next = left_by(net, g);
     Stepped { answer, net: next }
@@ -53,10 +53,10 @@ pub fn step(net: Net, pick: Pick) -> Stepped
         threads,
         net.threadcount,
     );
-    let count = one_if(sure);
-    let none = zero();
-    let picks = [pick; 128];
-    let g = turns_sound(net, picks, count, none, none);
+    let picks = [pick.thread, pick.row];
+    let length = count_if(sure, 2);
+    let mut unused = [0u8; 0];
+    let g = carry_out(net, &picks[..length], &mut unused);
     let answer = g.answer;
     let next = left_by(net, g);
     Stepped { answer, net: next }
