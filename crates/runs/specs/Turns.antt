@@ -12,11 +12,11 @@ use Rattle.counts.specs.declared.Ran.{Ran}
 use Rattle.totals.specs.Totals.{totalOf}
 use Rattle.leaving.specs.Turns.{allRefused}
 
--- the flag is right, and the sums have room for a batch
+-- the flag is right, and the sums have room for a pick
 pub record Ready (s : Ran) : Type 0 where
   pub flag : s .sound ≡ sound (view (s .net))
-  pub added : s .added .high + 128 < 2 ^ 63
-  pub taken : s .taken .high + 128 < 2 ^ 63
+  pub added : s .added .high < 2 ^ 63
+  pub taken : s .taken .high < 2 ^ 63
 
 -- some picks further: as `RunIs` but for demand 3, from a state in the middle of a run; a pick moves a high half by one at most
 pub record Turned (s : Ran) (ps : List Pick) (r : Ran) : Type 0 where

@@ -1,2 +1,0 @@
--- Picks in a batch.
-pub mod Batches
