@@ -24,9 +24,9 @@
  *   1 to 9    The file was refused when it was loaded. *place is the place of the record at fault, counted from 0 (for number 1 the count of
  *             whole records, for number 2 always 256). README.md, "The numbers", says what each means and what to do.
  *   21        `out` is too short for what would be put there. *place is 0.
- *   22        The length of `picks` is odd. *place is 0.
+ *   100       The length of `picks` is odd. *place is 0. (Numbers that only these calls have begin at 100.)
  *
- * After 1 to 9, 21 and 22 every byte of `out` is as it was. 22 is judged first, then the file, then 21. There is no other number.
+ * After 1 to 9, 21 and 100 every byte of `out` is as it was. 100 is judged first, then the file, then 21. There is no other number.
  *
  * A refused pick is no error of a call: it changes nothing, is answered with its number, and the run goes on with the next pick.
  *

@@ -15,7 +15,7 @@ use Rattle.nets.specs.Nets.{Net}
 use Rattle.nets.specs.Sound.{sound}
 use Rattle.nets.specs.View.{view}
 use Rattle.files.specs.declared.Verdict.{Verdict}
-use Rattle.files.specs.declared.Verdict.the-variants.{Accepted, Fault}
+use Rattle.files.specs.declared.Verdict.the-variants as verdict
 use Rattle.files.specs.declared.Loaded.{Loaded}
 use Rattle.files.specs.declared.Written.{Written}
 use Rattle.files.specs.declared.Written.the-variants.{Length, Unsound, Short}
@@ -26,36 +26,44 @@ use Rattle.files.specs.Loading.{LoadAnswer, rejected, accepted, loadBytes, faul
 use Rattle.files.specs.Engine.{faultIn, LoadIs, saidWritten}
 use Rattle.files.proofs.FileLaws.{file-loaded}
 use Rattle.files.proofs.EngineLaws.{verdict-accepts}
+use Rattle.calls.specs.declared.Reply.{Reply}
+use Rattle.calls.specs.declared.NotOpened.{NotOpened}
+use Rattle.calls.specs.declared.NotOpened.the-variants.{OddPicks}
+use Rattle.calls.specs.declared.Opening.the-variants.{Accepted, Refused}
 use Rattle.calls.specs.declared.Opened.{Opened}
 use Rattle.picklists.specs.PickBytes.{picksIn}
 use Rattle.calls.specs.Calls.{Called, refusing, putting, ifRoom, onLoaded, called, Gives}
-use Rattle.calls.specs.Openings.{judged, OpenIs, replyTo}
+use Rattle.calls.specs.Openings.{openingBy, refusalReply, judged, OpenIs, replyTo}
 
 abbrev told : Option L.Fault → Called
 told none = refusing 0 0
 told (some f) = refusing (f .number) (f .place)
 
 -- the verdict of loading is the rule's
-judged-loaded : (v : Verdict) (x : LoadAnswer) (bytes : Net → List ℕ) (buffer : List ℕ) → faultIn v ≡ faultOf x → onLoaded bytes buffer x ≡ judged v (bytes (netLoaded x)) buffer
-judged-loaded Accepted (accepted net own) bytes buffer e = refl
-judged-loaded (Fault n i) (rejected m j) bytes buffer e = sym (ap told e)
-judged-loaded Accepted (rejected m j) bytes buffer e = let z : _≡_ {A = ℕ} 0 1 = cc in absurd (omega arith)
-judged-loaded (Fault n i) (accepted net own) bytes buffer e = let z : _≡_ {A = ℕ} 0 1 = cc in absurd (omega arith)
+judged-loaded : (v : Verdict) (x : LoadAnswer) (bytes : Net → List ℕ) (buffer : List ℕ) → faultIn v ≡ faultOf x → onLoaded bytes buffer x ≡ judged (openingBy v) (bytes (netLoaded x)) buffer
+judged-loaded verdict.Accepted (accepted net own) bytes buffer e = refl
+judged-loaded (verdict.Fault n i) (rejected m j) bytes buffer e = sym (ap told e)
+judged-loaded verdict.Accepted (rejected m j) bytes buffer e = let z : _≡_ {A = ℕ} 0 1 = cc in absurd (omega arith)
+judged-loaded (verdict.Fault n i) (accepted net own) bytes buffer e = let z : _≡_ {A = ℕ} 0 1 = cc in absurd (omega arith)
+
+verdict-of : (v : Verdict) → openingBy v ≡ Accepted → v ≡ verdict.Accepted
+verdict-of verdict.Accepted e = refl
+verdict-of (verdict.Fault n i) e = let z : _≡_ {A = ℕ} 0 1 = cc in absurd (omega arith)
 
 -- an odd number of bytes is no list of picks
-pub opens-odd : (file picks : List ℕ) (r : Opened) → (length picks % 2 ≡ 0 → ⊥) → r .verdict ≡ Fault 22 0 → OpenIs file picks r
+pub opens-odd : (file picks : List ℕ) (r : Opened) → (length picks % 2 ≡ 0 → ⊥) → r .opening ≡ Refused OddPicks → OpenIs file picks r
 unfolding called
 opens-odd file picks r h e = record {
   called = λ bytes buffer. rw (ne-eqb (length picks % 2) 0 h, e) refl;
   isSound = λ a. let z : _≡_ {A = ℕ} 0 1 = cc in absurd (omega arith);
 }
 
-pub opens-even : (file picks : List ℕ) (l : Loaded) (r : Opened) → length picks % 2 ≡ 0 → LoadIs file l → r .verdict ≡ l .verdict → r .net ≡ l .net → OpenIs file picks r
+pub opens-even : (file picks : List ℕ) (l : Loaded) (r : Opened) → length picks % 2 ≡ 0 → LoadIs file l → r .opening ≡ openingBy (l .verdict) → r .net ≡ l .net → OpenIs file picks r
 unfolding called
 opens-even file picks l r h is v n = record {
   called = λ bytes buffer.
       rw (eq-eqb (length picks % 2) 0 h, v, n, is .net) (judged-loaded (l .verdict) (loadBytes file) (λ (net : Net). bytes net (picksIn picks)) buffer (is .fault));
-  isSound = λ a. rw (n, is .net) (file-loaded file (verdict-accepts file l is (sym v ∙ a)) .isSound);
+  isSound = λ a. rw (n, is .net) (file-loaded file (verdict-accepts file l is (verdict-of (l .verdict) (sym v ∙ a))) .isSound);
 }
 
 -- ── tables written ──
@@ -81,14 +89,14 @@ wrote-all w m o out s = rw (is-true (sound m) s) (go w (written (m .tables)) (le
 
 -- ── a call, by what it opened ──
 
-pub call-sound : (file picks : List ℕ) (r : Opened) → OpenIs file picks r → r .verdict ≡ Accepted → T (sound (view (r .net)))
+pub call-sound : (file picks : List ℕ) (r : Opened) → OpenIs file picks r → r .opening ≡ Accepted → T (sound (view (r .net)))
 call-sound file picks r is e = is .isSound e
 
 module _ (bytes : Net → List Pick → List ℕ) (file picks o : List ℕ) (r : Opened) (is : OpenIs file picks r) where
-  pub call-refused : (n i : ℕ) → r .verdict ≡ Fault n i → Gives (called bytes file picks o) o o n i
-  call-refused n i e = rw (is .called bytes o, e) (record { number = refl; place = refl; buffer = refl })
+  pub call-refused : (why : NotOpened) (reply : Reply) → r .opening ≡ Refused why → reply ≡ refusalReply why → Gives (called bytes file picks o) o o (reply .number) (reply .place)
+  call-refused why reply e q = rw (is .called bytes o, e, q) (record { number = refl; place = refl; buffer = refl })
 
-  pub call-given : (out : List ℕ) (n i : ℕ) → r .verdict ≡ Accepted → Gives (ifRoom (bytes (view (r .net)) (picksIn picks)) o) o out n i → Gives (called bytes file picks o) o out n i
+  pub call-given : (out : List ℕ) (n i : ℕ) → r .opening ≡ Accepted → Gives (ifRoom (bytes (view (r .net)) (picksIn picks)) o) o out n i → Gives (called bytes file picks o) o out n i
   call-given out n i e g = rw (is .called bytes o, e) g
 
 -- ── a buffer, by its room ──

@@ -14,6 +14,10 @@ use Rattle.calls.specs.Layouts.{tablesPut, threadsPut}
 
 -- ── what a call comes to ──
 
+-- picks of an odd length; numbers that only calls have begin at 100, so that they never meet a number of the papers
+abbrev pub oddPicksNumber : ℕ
+oddPicksNumber = 100
+
 -- refused with a number and a place; or these bytes go to the start of the buffer
 pub data Called : Type 0 where
   refusing : ℕ → ℕ → Called
@@ -29,7 +33,7 @@ onLoaded bytes buffer (accepted net own) = ifRoom (bytes net) buffer
 -- the file's own picks are no matter
 unfoldable pub called : (Net → List Pick → List ℕ) → List ℕ → List ℕ → List ℕ → Called
 called bytes file picks buffer =
-    cond (eqb (length picks % 2) 0) (onLoaded (λ (net : Net). bytes net (picksIn picks)) buffer (loadBytes file)) (refusing 22 0)
+    cond (eqb (length picks % 2) 0) (onLoaded (λ (net : Net). bytes net (picksIn picks)) buffer (loadBytes file)) (refusing oddPicksNumber 0)
 
 -- ── what the caller gets ──
 

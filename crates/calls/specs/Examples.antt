@@ -87,8 +87,8 @@ pub thread-in-loop : (t : Thread) → threadBytes (record { site = record { 0 = 
 unfolding opened
 thread-in-loop t = refl
 
--- 22 comes before the file's own fault
-pub odd-first : called answersPut (z 103) (0 ∷ []) [] ≡ refusing 22 0
+-- 100 comes before the file's own fault
+pub odd-first : called answersPut (z 103) (0 ∷ []) [] ≡ refusing 100 0
 unfolding opened
 odd-first = refl
 

@@ -11,25 +11,39 @@ use Rattle.nets.specs.Sound.{sound}
 use Rattle.nets.specs.View.{noThread, view}
 use Rattle.threads.specs.Contracts.{Stacked}
 use Rattle.files.specs.declared.Verdict.{Verdict}
-use Rattle.files.specs.declared.Verdict.the-variants.{Accepted, Fault}
+use Rattle.files.specs.declared.Verdict.the-variants as verdict
 use Rattle.files.specs.declared.Written.{Written}
 use Rattle.files.specs.declared.Written.the-variants.{Length, Unsound, Short}
 use Rattle.calls.specs.declared.Reply.{Reply}
+use Rattle.calls.specs.declared.NotOpened.{NotOpened}
+use Rattle.calls.specs.declared.NotOpened.the-variants.{Fault, OddPicks}
+use Rattle.calls.specs.declared.Opening.{Opening}
+use Rattle.calls.specs.declared.Opening.the-variants.{Accepted, Refused}
 use Rattle.calls.specs.declared.Opened.{Opened}
 use Rattle.picklists.specs.PickBytes.{picksIn}
-use Rattle.calls.specs.Calls.{Called, refusing, ifRoom, called}
+use Rattle.calls.specs.Calls.{oddPicksNumber, Called, refusing, ifRoom, called}
 
 -- ── what a call begins with ──
 
--- by the verdict on file and picks
-abbrev pub judged : Verdict → List ℕ → List ℕ → Called
+-- picks of an even length leave it to the file
+abbrev pub openingBy : Verdict → Opening
+openingBy verdict.Accepted = Accepted
+openingBy (verdict.Fault n i) = Refused (Fault n i)
+
+-- number and place of each reason
+abbrev pub refusalReply : NotOpened → Reply
+refusalReply (Fault n i) = record { number = n; place = i }
+refusalReply OddPicks = record { number = oddPicksNumber; place = 0 }
+
+-- by what is said of file and picks
+abbrev pub judged : Opening → List ℕ → List ℕ → Called
 judged Accepted bs buffer = ifRoom bs buffer
-judged (Fault n i) bs buffer = refusing n i
+judged (Refused why) bs buffer = refusing (refusalReply why .number) (refusalReply why .place)
 
 -- whatever a call hands out of net and picks
 pub record OpenIs (file picks : List ℕ) (r : Opened) : Type 0 where
-  pub called : (bytes : Net → List Pick → List ℕ) (buffer : List ℕ) → called bytes file picks buffer ≡ judged (r .verdict) (bytes (view (r .net)) (picksIn picks)) buffer
-  pub isSound : r .verdict ≡ Accepted → T (sound (view (r .net)))
+  pub called : (bytes : Net → List Pick → List ℕ) (buffer : List ℕ) → called bytes file picks buffer ≡ judged (r .opening) (bytes (view (r .net)) (picksIn picks)) buffer
+  pub isSound : r .opening ≡ Accepted → T (sound (view (r .net)))
 
 -- ── writing ──
 

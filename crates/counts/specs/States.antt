@@ -5,8 +5,7 @@ use Rattle.nets.specs.declared.Net.{Net}
 use Rattle.nets.specs.declared.Stepped.{Stepped}
 use Rattle.nets.specs.Sound.{sound}
 use Rattle.nets.specs.View.{view}
-use Rattle.nets.specs.Answers.{saidOf}
-use Rattle.nets.specs.Answers.{addedSaid, takenSaid}
+use Rattle.nets.specs.Answers.{addedSaid, takenSaid, saidOf}
 use Rattle.totals.specs.Totals.{totalOf}
 use Rattle.counts.specs.declared.Ran.{Ran}
 

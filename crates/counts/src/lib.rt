@@ -8,8 +8,7 @@ use totals::plus;
 use totals::zero;
 ghost use mathlib.Core.Path.{_≡_};
 ghost use Prim.Native.Nat.{_<_, _^_};
-ghost use Rattle.nets.specs.Answers.{saidOf};
-ghost use Rattle.nets.specs.Answers.{addedSaid, takenSaid};
+ghost use Rattle.nets.specs.Answers.{addedSaid, takenSaid, saidOf};
 ghost use Rattle.counts.specs.States.{Begun, Tallied};
 
 pub struct Ran {

@@ -1,21 +1,36 @@
 // What every call begins with: the picks' length, and the file.
+use calls::NotOpened;
 use calls::Opened;
+use calls::Opening;
 use files::Verdict;
 use groups::blanks::blank_net;
 use records::loading::load;
-ghost use Rattle.calls.specs.Openings.{OpenIs};
+ghost use mathlib.Core.Path.{_≡_};
+ghost use Rattle.calls.specs.Openings.{openingBy, OpenIs};
+
+fn opening_by(verdict: Verdict) -> Opening
+    ensures { λ r. ⌜ r ≡ openingBy verdict ⌝ }
+{
+    match verdict {
+        Verdict::Accepted => Opening::Accepted,
+        Verdict::Fault(number, place) => Opening::Refused(NotOpened::Fault(number, place)),
+    }
+}
 
 pub fn open_file(file: &[u8], picks: &[u8]) -> Opened
     ensures { λ r. ⌜ OpenIs (now (file .entry)) (now (picks .entry)) r ⌝ }
 {
     if picks.len() % 2 != 0 {
         return Opened {
-            verdict: Verdict::Fault(22, 0),
+            opening: Opening::Refused(NotOpened::OddPicks),
             net: blank_net(),
         };
     }
     let loaded = load(file);
     let verdict = loaded.verdict;
     let net = loaded.net;
-    Opened { verdict, net }
+    Opened {
+        opening: opening_by(verdict),
+        net,
+    }
 }

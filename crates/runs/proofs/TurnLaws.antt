@@ -19,10 +19,9 @@ use Rattle.nets.specs.Sound.{sound}
 use Rattle.nets.specs.Steps.{step}
 use Rattle.nets.specs.Accounts.{netLeft, nextNet, after, answers, addedIn, takenIn, isDone, reportedAdded, reportedTaken}
 use Rattle.nets.specs.View.{view}
-use Rattle.nets.specs.Answers.{answerOf, saidOf, isRefused, StepIs}
+use Rattle.nets.specs.Answers.{addedSaid, takenSaid, answerOf, saidOf, isRefused, StepIs}
 use Rattle.values.proofs.Bools.{and-l, is-true}
 use Rattle.nets.proofs.AnswerLaws.{refuses-10}
-use Rattle.nets.specs.Answers.{addedSaid, takenSaid}
 use Rattle.files.proofs.EngineLaws.{said-added, said-taken, demand3-of, verdict-accepts}
 use Rattle.totals.specs.declared.Total.{Total}
 use Rattle.totals.specs.Totals.{totalOf}

@@ -60,10 +60,10 @@ fn file() -> Vec<u8> {
 }
 
 #[test]
-fn picks_of_an_odd_length_are_22_before_all_else() {
+fn picks_of_an_odd_length_are_100_before_all_else() {
     for call in CALLS {
-        assert_eq!(refused(call, &file(), &[0, 0, 0], 20_000), (22, 0));
-        assert_eq!(refused(call, &[1], &[0], 0), (22, 0));
+        assert_eq!(refused(call, &file(), &[0, 0, 0], 20_000), (100, 0));
+        assert_eq!(refused(call, &[1], &[0], 0), (100, 0));
     }
 }
 

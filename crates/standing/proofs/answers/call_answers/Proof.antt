@@ -1,4 +1,4 @@
--- `standing::answers::call_answers` meets its contract: refused by its verdict, or the answers to all picks. Assumes nothing.
+-- `standing::answers::call_answers` meets its contract: refused as opening says, or the answers to all picks. Assumes nothing.
 use borrow.Author.Needs.{needs}
 use Rattle.calls.proofs.CallLaws.{call-sound, call-refused, call-given}
 use Rattle.standing.proofs.answers.call_answers.Statement.{statement}
@@ -19,6 +19,7 @@ call-answers-spec =
     (tie.spec
     (λ c κs. search needs)
     (λ c. search needs)
+    (λ c κs. search needs)
     (λ c. search needs)
     answers-given-requires
     returns

@@ -1,4 +1,4 @@
--- `standing::left::call_threads` meets its contract: refused by its verdict, or the threads left. Assumes nothing.
+-- `standing::left::call_threads` meets its contract: refused as opening says, or the threads left. Assumes nothing.
 use borrow.Author.Needs.{needs}
 use Rattle.calls.proofs.CallLaws.{call-sound, call-refused, call-given}
 use Rattle.standing.proofs.left.call_threads.Statement.{statement}
@@ -19,6 +19,7 @@ call-threads-spec =
     (tie.spec
     (λ c κs. search needs)
     (λ c. search needs)
+    (λ c κs. search needs)
     (λ c. search needs)
     threads-left-requires
     returns

@@ -1,4 +1,4 @@
--- `standing::tables::call_tables` meets its contract: refused by its verdict, or the tables left. Assumes nothing.
+-- `standing::tables::call_tables` meets its contract: refused as opening says, or the tables left. Assumes nothing.
 use borrow.Author.Needs.{needs}
 use Rattle.calls.proofs.CallLaws.{call-sound, call-refused, call-given}
 use Rattle.standing.proofs.tables.call_tables.Statement.{statement}
@@ -19,6 +19,7 @@ call-tables-spec =
     (tie.spec
     (λ c κs. search needs)
     (λ c. search needs)
+    (λ c κs. search needs)
     (λ c. search needs)
     tables-left-requires
     returns
