@@ -1,7 +1,7 @@
 // Runs over picks held as bytes.
-use calls::picking::pick_at;
+use leaving::left_by;
 use nets::Net;
-use steps::stepping::step_sound;
+use picking::turning::carry_out;
 ghost use mathlib.Core.Path.{_≡_};
 ghost use lib.Dec.{T};
 ghost use Rattle.nets.specs.Sound.{sound};
@@ -14,13 +14,7 @@ pub fn run_picks(start: Net, picks: &[u8]) -> Net
     requires { ⌜ T (sound (view start)) ⌝ }
     ensures { λ r. ⌜ (view r ≡ after (view start) (picksIn (now (picks .entry)))) × T (sound (view r)) ⌝ }
 {
-    let count = picks.len() / 2;
-    let mut net = start;
-    let mut i = 0;
-    while i < count {
-        let stepped = step_sound(net, pick_at(picks, i));
-        net = stepped.net;
-        i += 1;
-    }
-    net
+    let mut unused = [0u8; 0];
+    let g = carry_out(start, picks, &mut unused);
+    left_by(start, g)
 }

@@ -31,6 +31,7 @@ use Rattle.calls.specs.declared.NotOpened.{NotOpened}
 use Rattle.calls.specs.declared.NotOpened.the-variants.{OddPicks}
 use Rattle.calls.specs.declared.Opening.the-variants.{Accepted, Refused}
 use Rattle.calls.specs.declared.Opened.{Opened}
+use Rattle.stores.specs.Bytes.{putAll}
 use Rattle.picklists.specs.PickBytes.{picksIn}
 use Rattle.calls.specs.Calls.{Called, refusing, putting, ifRoom, onLoaded, called, Gives}
 use Rattle.calls.specs.Openings.{openingBy, refusalReply, judged, OpenIs, replyTo}
@@ -109,3 +110,7 @@ module _ (bs o : List ℕ) (n : ℕ) (l : length bs ≡ n) where
   pub gives-put : (ys : List ℕ) → n ≤ length o → ys ≡ bs → Gives (ifRoom bs o) o (ys ++ drop (n - 0) o) 0 n
   unfolding ifRoom
   gives-put ys h e = rw (l, le-leb n (length o) h, e, sub-zero) (record { number = refl; place = sym l; buffer = rw l refl })
+
+  pub gives-all : (out : List ℕ) → n ≤ length o → out ≡ putAll bs o → Gives (ifRoom bs o) o out 0 n
+  unfolding ifRoom putAll
+  gives-all out h e = rw (e, l, le-leb n (length o) h) (record { number = refl; place = sym l; buffer = rw l refl })
