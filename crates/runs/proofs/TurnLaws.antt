@@ -103,27 +103,27 @@ so-far-ready net ys i s room g =
       taken = let z = ap (λ (t : Total). t .high) (g .begun .taken) in omega (arith, g .behind .takenRoom, z, n, room, g .upto);
     }
 
+-- what a run gives back, and so demand 3 of it
+pub run-made :
+    (net : Net) (ys : List Pick) (s : Ran) → view (s .net) ≡ after (view net) ys → totalOf (s .added) ≡ reportedAdded (view net) ys → totalOf (s .taken) ≡ reportedTaken (view net) ys →
+    (T (allRefused (view net) ys) → s .net ≡ net) → s .sound ≡ sound (view (s .net)) → RunIs net ys s
+run-made net ys s left more less kept flag = record {
+  after = left;
+  added = more;
+  taken = less;
+  kept = kept;
+  flag = flag;
+  demand3 = λ file l is e same.
+      demand3-of file (verdict-accepts file l is e) (view net) (ap view (sym same) ∙ is .net) ys (view (s .net)) (totalOf (s .added)) (totalOf (s .taken)) left more less;
+}
+
 -- from the first state on, all picks of a list
 run-is : (net : Net) (ys : List Pick) (f s : Ran) → Begun net f → Turned f ys s → RunIs net ys s
-run-is net ys f s b t = record {
-  after = after-is;
-  added = added-is;
-  taken = taken-is;
-  kept = λ h. t .kept (subst (λ (n : Net). T (allRefused (view n) ys)) (sym (b .same)) h) ∙ b .same;
-  flag = t .flag;
-  demand3 = λ file l is e same.
-      demand3-of file (verdict-accepts file l is e) (view net) (ap view (sym same) ∙ is .net) ys (view (s .net)) (totalOf (s .added)) (totalOf (s .taken))
-      after-is added-is taken-is;
-}
-  where
-    after-is : view (s .net) ≡ after (view net) ys
-    after-is = t .after ∙ ap (λ (n : Net). after (view n) ys) (b .same)
-
-    added-is : totalOf (s .added) ≡ reportedAdded (view net) ys
-    added-is = let n = ap (λ (n : Net). reportedAdded (view n) ys) (b .same) in let z = ap totalOf (b .added) in omega (arith, t .added, z, n)
-
-    taken-is : totalOf (s .taken) ≡ reportedTaken (view net) ys
-    taken-is = let n = ap (λ (n : Net). reportedTaken (view n) ys) (b .same) in let z = ap totalOf (b .taken) in omega (arith, t .taken, z, n)
+run-is net ys f s b t =
+    run-made net ys s (t .after ∙ ap (λ (n : Net). after (view n) ys) (b .same))
+    (let n = ap (λ (n : Net). reportedAdded (view n) ys) (b .same) in let z = ap totalOf (b .added) in omega (arith, t .added, z, n))
+    (let n = ap (λ (n : Net). reportedTaken (view n) ys) (b .same) in let z = ap totalOf (b .taken) in omega (arith, t .taken, z, n))
+    (λ h. t .kept (subst (λ (n : Net). T (allRefused (view n) ys)) (sym (b .same)) h) ∙ b .same) (t .flag)
 
 pub so-far-all : (net : Net) (ys : List Pick) (i : ℕ) (s : Ran) → length ys ≤ i → SoFar net ys i s → RunIs net ys s
 so-far-all net ys i s l g = run-is net ys (g .first) s (g .begun) (rw (← take-all i ys l) (g .behind))

@@ -1,2 +1,3 @@
 // Runs over a list of picks.
+pub mod bytes;
 pub mod running;
