@@ -2,19 +2,25 @@
 use counts::Ran;
 use files::Loaded;
 use files::Verdict;
-use lending::lending::run_first;
 use libc::STDIN_FILENO;
+use nets::Net;
+use nets::Pick;
+use picklists::picks::pick_bytes;
 use printing::faults::print_fault;
 use printing::faults::print_long;
 use printing::input::count_rest;
 use printing::lines::put_tables;
+use printing::pages::at_most;
 use printing::pages::put_byte;
 use printing::pages::put_bytes;
 use printing::pages::put_decimal;
 use printing::pages::write_page;
 use records::loading::load;
+use runs::bytes::run_bytes;
 use totals::Total;
 ghost use Prim.Native.Nat.{_≤_};
+ghost use lib.ListN.{take};
+ghost use Rattle.runs.specs.Runs.{RunIs};
 
 // The high half of a sum, where it counts.
 fn put_high(page: &mut [u8; 4096], at: usize, high: u64) -> usize
@@ -51,13 +57,23 @@ fn print_ran(ran: Ran) {
     write_page(&page, at);
 }
 
+// The first `count` picks of the array as one run.
+fn run_first(net: Net, picks: [Pick; 256], count: usize) -> Ran
+    requires { ⌜ count ≤ 256 ⌝ }
+    ensures { λ r. ⌜ RunIs net (take count picks) r ⌝ }
+{
+    let bytes = pick_bytes(picks);
+    let length = count * 2;
+    run_bytes(net, &bytes[..length])
+}
+
 fn print_loaded(loaded: Loaded) {
     let verdict = loaded.verdict;
     match verdict {
         Verdict::Accepted => {
             let net = loaded.net;
             let picks = loaded.picks;
-            print_ran(run_first(net, picks, loaded.pickcount));
+            print_ran(run_first(net, picks, at_most(loaded.pickcount, 256)));
         }
         Verdict::Fault(number, place) => {
             print_fault(number, place);

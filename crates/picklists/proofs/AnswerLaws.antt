@@ -6,7 +6,8 @@ use mathlib.Core.List.{List, [], _∷_, _++_, map, append-assoc, append-nil}
 use native.Mathlib.Omega.{arith}
 use lib.Dec.{T, leb}
 use lib.ListN.{length, take, drop, getD, length-append, length-take, length-drop, drop-of-length-le}
-use lib.Seq.{drop-drop}
+use lib.Seq.{drop-drop, take-at}
+use borrow.Author.Tests.{le-leb}
 use borrow.Rule.Slice.PartMut.{putMid}
 use Rattle.stores.specs.Bytes.{endToEnd, eightBytes, putAt, putAll}
 use Rattle.stores.proofs.Stores.{part-written, part-size, ends-length, ends-more}
@@ -106,3 +107,10 @@ put-over net ps room i o out e r k =
     k
     ∙ ap (λ (b : Bool). cond b (endToEnd (firsts bytesOf noOutcome i (answers net ps)) ++ drop (i * 24) o) o) r
     ∙ rw (e, answers-all net ps, answers-size net ps) refl
+
+-- where there is room the buffer begins with all of them
+pub put-begins : (net : Net) (ps : List Pick) (n : ℕ) (o out : List ℕ) → length ps ≡ n → n * 24 ≤ length o → out ≡ putAll (answersPut net ps) o → take (n * 24) out ≡ answersPut net ps
+unfolding putAll
+put-begins net ps n o out l h e =
+    let size : length (answersPut net ps) ≡ n * 24 = answers-size net ps ∙ ap (λ (m : ℕ). m * 24) l in
+    rw (e, size, le-leb (n * 24) (length o) h) (take-at (answersPut net ps) (drop (n * 24) o) (n * 24) size)

@@ -12,7 +12,7 @@ ghost use Rattle.picklists.specs.AnswerBytes.{threeBytes, answerBytes};
 
 // ---- one answer
 
-fn number_of(why: Refusal) -> usize
+pub fn number_of(why: Refusal) -> usize
     ensures { λ r. ⌜ r ≡ numberOf why ⌝ }
 {
     match why {

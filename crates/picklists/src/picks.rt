@@ -15,3 +15,18 @@ pub fn pick_at(picks: &[u8], i: usize) -> Pick
         row: picks[i * 2 + 1],
     }
 }
+
+// The picks of a file as bytes.
+pub fn pick_bytes(picks: [Pick; 256]) -> [u8; 512]
+    ensures { λ r. ⌜ picksIn r ≡ picks ⌝ }
+{
+    let mut bytes = [0u8; 512];
+    let mut i: usize = 0;
+    while i < 256 {
+        let p = picks[i];
+        bytes[i * 2] = p.thread;
+        bytes[i * 2 + 1] = p.row;
+        i += 1;
+    }
+    bytes
+}

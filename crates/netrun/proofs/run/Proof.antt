@@ -1,44 +1,60 @@
--- `netrun::run` meets its contract: after i picks the net is the one that the rules leave after them.
-use mathlib.Core.Path.{_≡_, refl}
-use Prim.Native.Nat.{_≤_, _-_}
-use lib.ListN.{take}
+-- `netrun::run` meets its contract: all picks of the list carried out, with room for all answers. Assumes nothing.
+use Prim.Native.Nat.{_*_, _≤_}
+use mathlib.Core.Path.{_≡_, sym, ap, subst, _∙_}
+use mathlib.Core.List.{List}
+use native.Mathlib.Omega.{arith}
+use lib.ListN.{length, take}
+use lib.Seq.{length-take-le}
+use borrow.Author.Needs.{needs}
+use Rattle.values.proofs.Arrays.{long}
+use Rattle.nets.specs.declared.Pick.{Pick}
 use Rattle.nets.specs.Accounts.{after}
 use Rattle.nets.specs.View.{view}
-use Rattle.netrun.proofs.Runs.{one-more, all-run}
-use native.Mathlib.Omega.{arith}
-use borrow.Author.Needs.{needs}
+use Rattle.picklists.specs.PickBytes.{picksIn}
+use Rattle.picklists.specs.AnswerBytes.{answersPut}
+use Rattle.picklists.proofs.PickLaws.{picks-take}
+use Rattle.picklists.proofs.AnswerLaws.{put-begins}
+use Rattle.leaving.specs.Leaving.{leftBy}
 use Rattle.netrun.proofs.run.Statement.{statement}
 use Rattle.netrun.proofs.run.Tie as tie
 
-abbrev Inv-loop : tie.InvT-loop
-Inv-loop page₀ count picks at₀ net₀ i₀ page at net i = (i ≤ count) × (count ≤ 256) × (at ≤ 4096) × (view net ≡ after (view net₀) (take i picks))
+abbrev start : tie.After-pick-bytes → tie.Start
+start c = c .before .before
 
-abbrev μ-loop : tie.MeasureT-loop
-μ-loop page₀ count picks at₀ net₀ i₀ page at net i = count - i
+bytes-long : (c : tie.After-pick-bytes) → length (c .pick-bytes .result) ≡ 512
+bytes-long c = search (long, c .pick-bytes .ok)
 
-loop-holds : tie.Need-loop-holds Inv-loop μ-loop
-unfolding after
-loop-holds c = (omega arith, c .pre, omega arith, refl)
+picks-long : (s : tie.Start) → length (s .args .picks) ≡ 256
+picks-long s = search (long, needs)
 
-loop-again : tie.Need-loop-again Inv-loop μ-loop
-loop-again c =
-    (omega arith, omega arith, omega (arith, c .before .put-pick .ensures), one-more _ _ _ (c .before .before .before .before .before .before .before .args .t3) (c .before .before .before .before .before .before .loop .i) _ (search needs) (c .before .before .before .before .before .before .loop .inv .3) (c .before .before .before .step .ensures .after))
+-- the picks lent
+lent : (c : tie.After-pick-bytes) → picksIn (take (start c .args .count * 2) (c .pick-bytes .result)) ≡ take (start c .args .count) (start c .args .picks)
+lent c = picks-take (c .pick-bytes .result) (start c .args .count) ∙ ap (take (start c .args .count)) (c .pick-bytes .ensures)
 
-returns : tie.Need-returns Inv-loop μ-loop
-returns c = (omega arith, all-run _ _ _ (c .before .loop .i) (c .before .before .args .count) (omega arith) (c .before .loop .inv .3))
+slice-aggregate-carry-out : tie.Need-slice-aggregate-carry-out
+slice-aggregate-carry-out c =
+    let b = c .before in
+    sym (length-take-le _ (b .pick-bytes .result) (omega (arith, bytes-long b, start b .pre .1)))
+
+returns : tie.Need-returns
+returns c =
+    let b = c .before .before .before .before .before in
+    let s = start b in
+    let a = s .args in
+    let g = c .before .before .carry-out .ensures in (
+      g .0 .left ∙ ap (after (view (a .start))) (lent b),
+      subst (λ (ps : List Pick). take (a .count * 24) (c .before .before .carry-out .last .1 .1 .0) ≡ answersPut (view (a .start)) ps) (lent b)
+          (put-begins (view (a .start)) _ (a .count) _ _ (ap length (lent b) ∙ length-take-le (a .count) (a .picks) (omega (arith, picks-long s, s .pre .1))) (omega (arith, s .pre .1, s .pre .2)) (g .1)),
+    )
 
 pub run-spec : {M : Type 1} → statement M
 run-spec =
     tie.close
     (tie.spec
-    Inv-loop
-    μ-loop
-    loop-holds
-    (λ c. search needs)
-    (λ c. search needs)
-    (λ c κs. search needs)
     (λ c κs. search needs)
     (λ c. search needs)
     (λ c. search needs)
-    loop-again
+    slice-aggregate-carry-out
+    (λ c κs. search needs)
+    (λ c. search needs)
     returns)

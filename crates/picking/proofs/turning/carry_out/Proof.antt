@@ -1032,7 +1032,6 @@ returns c =
       put-over (view (fromOf l)) (picksAt l) (roomAt l) (l .loop .i) (lentAt l) _ all room (l .loop .inv .put),
     )
 
-
 pub carry-out-spec : {M : Type 1} → statement M
 carry-out-spec =
     tie.close
