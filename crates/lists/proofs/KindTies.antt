@@ -49,10 +49,6 @@ found-passes p q d (a ∷ l) h k =
     go false t ih = ih
 
 module _ (at : ℕ) (ts : List M.Table) (s : Site) (d : M.Node) (q : Relation) where
-  pub with-put : {b : ℕ} → Puts b → tablesWith (kindAt b) at ts s d q ≡ putContent at q ts
-  unfolding kindAt tablesWith
-  with-put h = by-puts (λ (b : ℕ). tablesWith (kindAt b) at ts s d q ≡ putContent at q ts) refl refl refl refl h
-
   pub with-drop : {b : ℕ} → b ≡ 24 → tablesWith (kindAt b) at ts s d q ≡ removeAt at ts
   unfolding kindAt tablesWith
   with-drop h = ap (λ (b : ℕ). tablesWith (kindAt b) at ts s d q) h
@@ -60,24 +56,6 @@ module _ (at : ℕ) (ts : List M.Table) (s : Site) (d : M.Node) (q : Relation) w
   pub with-create : {b : ℕ} {t : M.Table} {rs : List M.Table} → b ≡ 23 → t ≡ record { site = s; name = d .name; content = record { columns = d .columns; rows = [] } } → rs ≡ ts ++ (t ∷ []) → rs ≡ tablesWith (kindAt b) at ts s d q
   unfolding kindAt tablesWith
   with-create h e k = k ∙ ap (λ (u : M.Table). ts ++ (u ∷ [])) e ∙ sym (ap (λ (b : ℕ). tablesWith (kindAt b) at ts s d q) h)
-
-  pub with-other : {b : ℕ} → ((n : ℕ) → 16 ≤ n → n < 19 → n ≡ b → ⊥) → (b ≡ 21 → ⊥) → (b ≡ 23 → ⊥) → (b ≡ 24 → ⊥) → ts ≡ tablesWith (kindAt b) at ts s d q
-  unfolding kindAt tablesWith
-  with-other {b} low n₂₁ n₂₃ n₂₄ =
-      go (kindAt b)
-      (found-passes (λ k. eqb (code k) b) (λ k. not (acts k)) (other badKind) kinds tt
-      (rw (
-        ne-eqb 16 b (low 16 (omega arith) (omega arith)),
-        ne-eqb 17 b (low 17 (omega arith) (omega arith)),
-        ne-eqb 18 b (low 18 (omega arith) (omega arith)),
-        ne-eqb 21 b (λ e. n₂₁ (sym e)),
-        ne-eqb 23 b (λ e. n₂₃ (sym e)),
-        ne-eqb 24 b (λ e. n₂₄ (sym e)),
-      ) tt))
-    where
-      go : (k : Kind) → T (not (acts k)) → ts ≡ tablesWith k at ts s d q
-      go (acting a) h = absurd h
-      go (other o) h = refl
 
 -- ── kinds that put rows, by their byte ──
 

@@ -1,5 +1,4 @@
 -- Laws that belong to no one function: from the net that the code holds to the rules.
-pub mod CloseLaws
 pub mod HeldLaws
 pub mod ListTies
 pub mod PlainTies

@@ -32,7 +32,7 @@ use Rattle.threads.proofs.ThreadLaws.{standing-gone, standing-there, settle-non
 use Rattle.lists.specs.Contracts.{withContent, putContent, tablesWith}
 use Rattle.lists.proofs.KindTies.{with-create, with-drop}
 use Rattle.nets.proofs.KindLaws.{at-one}
-use Rattle.picking.proofs.CloseLaws.{Closing, closing-ends}
+use Rattle.values.proofs.RemoveLaws.{Closing, closing-ends}
 
 -- ── kinds ──
 

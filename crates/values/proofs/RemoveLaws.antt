@@ -1,4 +1,4 @@
--- An element goes, and the array closes up: each later element moves one place down. Over any element type.
+-- An element goes, and the array closes up in place: each later element moves one place down. Over any element type. Assumes nothing.
 use Prim.Native.Nat.{ℕ, zero, suc, _+_, _-_, _<_, _≤_}
 use mathlib.Core.Path.{_≡_, refl, ap, ap₂, _∙_}
 use mathlib.Core.Bool.{Bool, true, false}
@@ -12,33 +12,35 @@ use lib.Seq.{getD-set-same, getD-set-other}
 use Rattle.values.specs.Lists.{firsts, removeAt}
 use Rattle.values.proofs.Firsts.{firsts-same}
 
--- the places of `new` from `at` up to `i` have what stood one place further on in `old`, and those in front of `at` what stood there
+-- the places of `new` from `at` up to `i` have what stood one place further on in `old`, and all others what stood there
 pub record Closing {A : Type 0} (z : A) (old : List A) (at i : ℕ) (new : List A) : Type 0 where
   pub size : length new ≡ length old
   pub low : at ≤ i
   pub same : (j : ℕ) → j < at → getD new j z ≡ getD old j z
   pub moved : (j : ℕ) → at ≤ j → j < i → getD new j z ≡ getD old (suc j) z
+  pub rest : (j : ℕ) → i ≤ j → getD new j z ≡ getD old j z
 
 module _ {A : Type 0} (z : A) (old : List A) (at : ℕ) where
   pub closing-starts : Closing z old at at old
-  closing-starts = record { size = refl; low = omega arith; same = λ j h. refl; moved = λ j h q. absurd (omega arith) }
+  closing-starts = record { size = refl; low = omega arith; same = λ j h. refl; moved = λ j h q. absurd (omega arith); rest = λ j h. refl }
 
   -- one more moved
-  pub closing-more : {i : ℕ} {new : List A} → Closing z old at i new → i < length old → Closing z old at (i + 1) (set new i (getD old (i + 1) z))
+  pub closing-more : {i : ℕ} {new : List A} → Closing z old at i new → i < length old → Closing z old at (i + 1) (set new i (getD new (i + 1) z))
   closing-more {i} {new} inv high =
       record {
-        size = length-set new i (getD old (i + 1) z) ∙ inv .size;
+        size = length-set new i (getD new (i + 1) z) ∙ inv .size;
         low = omega (arith, inv .low);
-        same = λ j h. getD-set-other new i j (getD old (i + 1) z) z (λ e. omega (arith, inv .low)) ∙ inv .same j h;
+        same = λ j h. getD-set-other new i j (getD new (i + 1) z) z (λ e. omega (arith, inv .low)) ∙ inv .same j h;
         moved = λ j h q. here j h q (ltb j i) refl;
+        rest = λ j h. getD-set-other new i j (getD new (i + 1) z) z (λ e. omega arith) ∙ inv .rest j (omega arith);
       }
     where
-      here : (j : ℕ) → at ≤ j → j < i + 1 → (b : Bool) → ltb j i ≡ b → getD (set new i (getD old (i + 1) z)) j z ≡ getD old (suc j) z
+      here : (j : ℕ) → at ≤ j → j < i + 1 → (b : Bool) → ltb j i ≡ b → getD (set new i (getD new (i + 1) z)) j z ≡ getD old (suc j) z
       here j h q true e =
-          getD-set-other new i j (getD old (i + 1) z) z (λ d. omega (arith, ltb-true j i e)) ∙ inv .moved j h (ltb-true j i e)
+          getD-set-other new i j (getD new (i + 1) z) z (λ d. omega (arith, ltb-true j i e)) ∙ inv .moved j h (ltb-true j i e)
       here j h q false e =
           let d : j ≡ i = omega (arith, ltb-false j i e) in
-          rw (d, getD-set-same new i (getD old (i + 1) z) z (omega (arith, inv .size)), add-one)
+          rw (d, getD-set-same new i (getD new (i + 1) z) z (omega (arith, inv .size)), inv .rest (i + 1) (omega arith), add-one)
 
 module _ {A B : Type 0} (f : A → B) (z : A) where
   -- the part in use, once all have moved

@@ -48,7 +48,7 @@ use Rattle.lists.proofs.KindTies.{either}
 use Rattle.leaving.specs.Turns.{Stood, stoodBy, GoneIs}
 use Rattle.leaving.proofs.TurnLaws.{Turned, gone-none, gone-again, gone-told, gone-room, said-here, turned-refused, turned-done}
 use Rattle.values.proofs.Bools.{T-of}
-use Rattle.picking.proofs.CloseLaws.{Closing, closing-starts, closing-more}
+use Rattle.values.proofs.RemoveLaws.{Closing, closing-starts, closing-more}
 use Rattle.picking.proofs.HeldLaws.{run-skips, loop-counts, loop-there}
 use Rattle.picking.proofs.SceneTies.{threadAt, few-tables, few-nodes, few-threads, few-aliases, thread-stacked}
 use Rattle.picking.proofs.ReadTies.{nodeRead, Read, situationIn, shown-content, thread-below, entries-there, number-below, read-meets, read-fine, frame-top, variable-read, slot-below, over-below}
