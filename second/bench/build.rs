@@ -28,13 +28,15 @@ fn has_sqlite() -> bool {
 fn link_proved() {
     let root = Path::new(env!("CARGO_MANIFEST_DIR")).join("../..");
     let directory = root.join("target/staticlib");
-    let library = directory.join("libbench.a");
-    assert!(
-        library.is_file(),
-        "{} is not there; make it with `rt staticlib bench` at the root of the repository",
-        library.display()
-    );
-    println!("cargo::rerun-if-changed={}", library.display());
     println!("cargo::rustc-link-search=native={}", directory.display());
-    println!("cargo::rustc-link-lib=static=bench");
+    for name in ["bench", "embedding"] {
+        let library = directory.join(format!("lib{name}.a"));
+        assert!(
+            library.is_file(),
+            "{} is not there; make it with `rt staticlib {name}` at the root of the repository",
+            library.display()
+        );
+        println!("cargo::rerun-if-changed={}", library.display());
+        println!("cargo::rustc-link-lib=static={name}");
+    }
 }

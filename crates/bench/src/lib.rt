@@ -1,7 +1,6 @@
 // Nets at the limits and chains of picks on them, one for each kind of step, for the benchmark of `second/bench`, which hands them over as two files, for the second engine and for this crate.
 // The calls take files, lists of picks as bytes, two for each, and plain numbers. A kind says which picks a chain has.
 use nets::Net;
-use soundness::whole::sound_net;
 
 pub mod loads;
 pub mod picking;
@@ -11,7 +10,6 @@ pub mod summing;
 pub mod whole;
 
 use running::chain;
-use running::chain_sound;
 use starting::start;
 use summing::with_net;
 
@@ -29,23 +27,6 @@ pub extern "C" fn bench_steps(tables: &[u8], program: &[u8], kind: u8, turns: u6
     let mut i: u64 = 0;
     while i < turns {
         let r = chain(Chained { net, sum }, kind);
-        sum = r.sum;
-        i += 1;
-    }
-    sum
-}
-
-// The same with soundness tested once, at the start.
-#[no_mangle]
-pub extern "C" fn bench_sound_steps(tables: &[u8], program: &[u8], kind: u8, turns: u64) -> u64 {
-    let net = start(tables, program);
-    if !sound_net(net) {
-        return 0;
-    }
-    let mut sum: u64 = 0;
-    let mut i: u64 = 0;
-    while i < turns {
-        let r = chain_sound(Chained { net, sum }, kind);
         sum = r.sum;
         i += 1;
     }

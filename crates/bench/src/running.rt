@@ -6,10 +6,6 @@ use crate::summing::with_answer;
 use nets::Answer;
 use nets::Stepped;
 use steps::stepping::step;
-use steps::stepping::step_sound;
-ghost use lib.Dec.{T};
-ghost use Rattle.nets.specs.Sound.{sound};
-ghost use Rattle.nets.specs.View.{view};
 
 // A chain, soundness tested at each step.
 pub fn chain(from: Chained, kind: u8) -> Chained {
@@ -21,26 +17,6 @@ pub fn chain(from: Chained, kind: u8) -> Chained {
     let mut n: u64 = 0;
     while n < count {
         s = step(s.net, pick_at(kind, n));
-        let a = s.answer;
-        sum = with_answer(sum, a);
-        n += 1;
-    }
-    let left = s.net;
-    Chained { net: left, sum }
-}
-
-// The same on a net known to be sound.
-pub fn chain_sound(from: Chained, kind: u8) -> Chained
-    requires { ⌜ T (sound (view (from .net))) ⌝ }
-{
-    let count = chain_length(kind);
-    let net = from.net;
-    let answer = Answer::Done(0, 0);
-    let mut sum = from.sum;
-    let mut s = Stepped { answer, net };
-    let mut n: u64 = 0;
-    while n < count {
-        s = step_sound(s.net, pick_at(kind, n));
         let a = s.answer;
         sum = with_answer(sum, a);
         n += 1;

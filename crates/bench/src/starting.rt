@@ -1,10 +1,9 @@
 // The net that chains and runs begin with.
 use crate::Chained;
 use crate::picking::EACH_THREAD;
-use crate::running::chain_sound;
+use crate::running::chain;
 use nets::Net;
 use records::loading::load;
-use soundness::whole::sound_net;
 
 // Aliases and tables of one net, nodes and threads of the other.
 pub fn joined(tables: Net, program: Net) -> Net {
@@ -20,12 +19,9 @@ pub fn joined(tables: Net, program: Net) -> Net {
 
 // Every thread has taken node 0, which binds its table variable 0.
 pub fn prepared(start: Net) -> Net {
-    if sound_net(start) {
-        let r = chain_sound(Chained { net: start, sum: 0 }, EACH_THREAD);
-        let net = r.net;
-        return net;
-    }
-    start
+    let r = chain(Chained { net: start, sum: 0 }, EACH_THREAD);
+    let net = r.net;
+    net
 }
 
 // A file has at most 256 records, which is too few for all of such a net, so there are two.

@@ -5,6 +5,7 @@ use crate::summing::with_net;
 use counts::Ran;
 use nets::Net;
 use nets::Pick;
+use runs::bytes::run_bytes;
 use runs::running::run;
 use soundness::whole::sound_net;
 ghost use Prim.Native.Nat.{_≤_};
@@ -46,27 +47,42 @@ pub fn picks_of(bytes: &[u8]) -> [Pick; 100000] {
     picks
 }
 
-// The sum over what a run gave back.
-pub fn total(sum: u64, r: Ran) -> u64 {
-    let added = r.added;
-    let taken = r.taken;
-    let left = r.net;
-    with_net(with(with(sum, added.low), taken.low), left)
-}
-
-// A number of runs, each over all picks from the start.
+// A number of runs, each over all picks from the start: the sum over their counts and the net that the last one left.
 #[no_mangle]
 pub extern "C" fn bench_runs(tables: &[u8], program: &[u8], bytes: &[u8], turns: u64) -> u64 {
     let net = start(tables, program);
     let picks = picks_of(bytes);
     let count = count_of(bytes);
+    let mut left = net;
     let mut sum: u64 = 0;
     let mut i: u64 = 0;
     while i < turns {
-        sum = total(sum, lend(net, picks, count));
+        let r = lend(net, picks, count);
+        let added = r.added;
+        let taken = r.taken;
+        sum = with(with(sum, added.low), taken.low);
+        left = r.net;
         i += 1;
     }
-    sum
+    with_net(sum, left)
+}
+
+// The same with the picks as bytes; there may be any number of them.
+#[no_mangle]
+pub extern "C" fn bench_bytes(tables: &[u8], program: &[u8], bytes: &[u8], turns: u64) -> u64 {
+    let net = start(tables, program);
+    let mut left = net;
+    let mut sum: u64 = 0;
+    let mut i: u64 = 0;
+    while i < turns {
+        let r = run_bytes(net, bytes);
+        let added = r.added;
+        let taken = r.taken;
+        sum = with(with(sum, added.low), taken.low);
+        left = r.net;
+        i += 1;
+    }
+    with_net(sum, left)
 }
 
 // A number of tests of soundness, of which a run has one.

@@ -1,49 +1,47 @@
 //! Loading files at the limits.
 
-use crate::chain::{with, with_net};
-use crate::nets::{files, NESTED};
+use crate::nets::nested;
 use crate::proved;
-use crate::timing::{best, timed};
+use crate::show::{beside, table};
+use crate::sums::{with, with_net};
+use crate::work::{best, Work};
 use engine::{load, Net};
 use std::hint::black_box;
-use std::time::Duration;
 
 const TURNS: u64 = 20;
-const ROUNDS: usize = 100;
+const ROUNDS: usize = 1_000;
 
-const HEAD: &str = "\
-| file | records | second `load` | proved `load` | ratio |
-|---|---:|---:|---:|---:|";
+const COLUMNS: [&str; 5] = ["file", "records", "second `load`", "proved `load`", "ratio"];
 
-pub fn report() {
-    println!("{HEAD}");
-    for (name, file) in files(NESTED) {
-        let second = best(ROUNDS, || {
-            timed(|| (0..TURNS).for_each(|_| _ = black_box(load(black_box(&file))))).1
-        });
-        let each = |time: Duration| time.as_nanos() as f64 / TURNS as f64;
-        let records = file.len() / 104;
-        match proved_time(&file) {
-            Some(proved) => {
-                let (second, proved) = (each(second), each(proved));
-                let ratio = proved / second;
-                println!("| {name} | {records} | {second:.0} | {proved:.0} | {ratio:.1} |");
-            }
-            None => println!("| {name} | {records} | {:.0} | - | - |", each(second)),
-        }
-    }
+pub fn section() -> String {
+    let files = nested::files();
+    let files = [("aliases, tables and rows", files.tables), ("nodes and starts", files.program)];
+    let rows = table(1, &COLUMNS, files.map(|(name, file)| row(name, &file)));
+    format!("Nanoseconds a load, the best of {ROUNDS} rounds of {TURNS} loads.\n\n{rows}")
 }
 
-/// The proved code sums over each net, which is taken off.
-fn proved_time(file: &[u8]) -> Option<Duration> {
+fn row(name: &str, file: &[u8]) -> Vec<String> {
+    let [second, proved] = times(file);
+    let names = vec![name.to_string(), (file.len() / 104).to_string()];
+    [names, beside(second, proved)].concat()
+}
+
+/// The proved code sums over each net that it loads; the same sums over one load are taken off.
+fn times(file: &[u8]) -> [Option<f64>; 2] {
+    let second = Work::new("second load", TURNS, TURNS, || {
+        (0..TURNS).filter(|_| black_box(load(black_box(file))).is_ok()).count() as u64
+    });
     let (net, _) = load(file).expect("a file that loads");
-    assert_eq!(proved::loads(file, 1)?, expected(&net), "the nets loaded differ");
-    let all = best(ROUNDS, || timed(|| proved::loads(file, TURNS + 1)).1);
-    let sums = best(ROUNDS, || timed(|| proved::loaded(file, TURNS + 1)).1);
-    Some(all.saturating_sub(sums))
+    let expected = (0..=TURNS).fold(0, |sum, _| with_loaded(sum, &net));
+    let proved = proved::LINKED.then(|| {
+        Work::new("load", TURNS, expected, || proved::loads(file, TURNS + 1))
+            .without(|| proved::loaded(file, TURNS + 1))
+    });
+    best(ROUNDS, [Some(second), proved])
 }
 
-fn expected(net: &Net) -> u64 {
-    let sum = with_net(with(0, 0), net);
+/// The sum with a net that was loaded.
+fn with_loaded(sum: u64, net: &Net) -> u64 {
+    let sum = with_net(with(sum, 0), net);
     net.nodes.iter().fold(sum, |sum, node| with(sum, u64::from(node.next.unwrap_or(255))))
 }

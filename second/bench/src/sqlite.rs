@@ -1,23 +1,27 @@
 //! The same update over 16 rows in SQLite: in memory, a prepared statement.
 
-use std::time::Duration;
-
-/// The time of one update, the best of a number of rounds; none where SQLite was not linked.
-pub fn update_time() -> Option<Duration> {
+/// Nanoseconds of one update, the best of a number of rounds; none where SQLite was not linked.
+pub fn update_time() -> Option<f64> {
     #[cfg(sqlite)]
-    return Some(linked::update_time());
+    return linked::update_time();
     #[cfg(not(sqlite))]
     None
 }
 
+pub fn section(update: Option<f64>) -> String {
+    match update {
+        Some(time) => format!("SQLite, the same update in memory, prepared: {time:.0} ns."),
+        None => "SQLite is not installed here, so it is not measured.".into(),
+    }
+}
+
 #[cfg(sqlite)]
 mod linked {
-    use crate::timing::{best, timed};
+    use crate::work::{best, Work};
     use std::ffi::{c_char, c_int, c_void, CStr};
     use std::ptr::{null, null_mut};
-    use std::time::Duration;
 
-    const UPDATES: u32 = 10_000;
+    const UPDATES: u64 = 10_000;
     const ROUNDS: usize = 10;
     const DONE: c_int = 101;
 
@@ -51,7 +55,7 @@ mod linked {
     const UPDATE: &CStr = c"UPDATE card SET a = a + 1 WHERE a < 1000000";
 
     /// All updates in one transaction, which is what suits SQLite best.
-    pub fn update_time() -> Duration {
+    pub fn update_time() -> Option<f64> {
         // SAFETY: the database and the statement are made here and used as SQLite asks; every text ends in a zero byte.
         unsafe {
             let (mut database, mut statement) = (null_mut(), null_mut());
@@ -60,17 +64,20 @@ mod linked {
             let prepared =
                 sqlite3_prepare_v2(database, UPDATE.as_ptr(), -1, &mut statement, null());
             assert_eq!(prepared, 0);
-            let round = || (0..UPDATES).for_each(|_| update(database, statement));
-            let time = best(ROUNDS, || timed(round).1) / UPDATES;
+            let round = || (0..UPDATES).map(|_| update(database, statement)).sum();
+            let work = Work::new("SQLite", UPDATES, 16 * UPDATES, round);
+            let [time] = best(ROUNDS, [Some(work)]);
             sqlite3_finalize(statement);
             sqlite3_close(database);
             time
         }
     }
 
-    unsafe fn update(database: *mut c_void, statement: *mut c_void) {
+    /// How many rows it changed.
+    unsafe fn update(database: *mut c_void, statement: *mut c_void) -> u64 {
         assert_eq!(sqlite3_step(statement), DONE);
-        assert_eq!(sqlite3_changes(database), 16);
+        let changed = sqlite3_changes(database);
         sqlite3_reset(statement);
+        changed as u64
     }
 }

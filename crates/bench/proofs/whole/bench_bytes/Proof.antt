@@ -1,0 +1,28 @@
+-- `bench::whole::bench_bytes` is safe and ends: as many runs as asked for.
+use borrow.Author.Needs.{needs}
+use Prim.Native.Nat.{_-_}
+use Rattle.bench.proofs.whole.bench_bytes.Statement.{statement}
+use Rattle.bench.proofs.whole.bench_bytes.Tie as tie
+
+abbrev Inv-loop : tie.InvT-loop
+Inv-loop tables program bytes turns net left₀ sum₀ i₀ left sum i = Unit {0}
+
+abbrev μ-loop : tie.MeasureT-loop
+μ-loop tables program bytes turns net left₀ sum₀ i₀ left sum i = turns - i
+
+pub bench-bytes-spec : {M : Type 1} → statement M
+bench-bytes-spec =
+    tie.close
+    (tie.spec
+    Inv-loop
+    μ-loop
+    (λ c κs. search needs)
+    (λ c. search needs)
+    (λ c κs. search needs)
+    (λ c κs. search needs)
+    (λ c κs. search needs)
+    (λ c. search needs)
+    (λ c. search needs)
+    (λ c. search needs)
+    (λ c κs. search needs)
+    (λ c. search needs))
