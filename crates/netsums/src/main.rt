@@ -58,7 +58,7 @@ fn print_ran(ran: Ran) {
 }
 
 // The first `count` picks of the array as one run.
-fn run_first(net: Net, picks: [Pick; 256], count: usize) -> Ran
+fn run_list(net: Net, picks: [Pick; 256], count: usize) -> Ran
     requires { ⌜ count ≤ 256 ⌝ }
     ensures { λ r. ⌜ RunIs net (take count picks) r ⌝ }
 {
@@ -73,7 +73,7 @@ fn print_loaded(loaded: Loaded) {
         Verdict::Accepted => {
             let net = loaded.net;
             let picks = loaded.picks;
-            print_ran(run_first(net, picks, at_most(loaded.pickcount, 256)));
+            print_ran(run_list(net, picks, at_most(loaded.pickcount, 256)));
         }
         Verdict::Fault(number, place) => {
             print_fault(number, place);

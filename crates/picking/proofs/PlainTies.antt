@@ -9,7 +9,6 @@ use lib.Dec.{T, eqb, ltb}
 use lib.ListN.{length, getD, set, length-set}
 use borrow.Author.Tests.{lt-ltb, eqb-false}
 use Rattle.values.specs.declared.Site.{Site}
-use Rattle.values.proofs.Bools.{T-of}
 use Rattle.values.proofs.Arrays.{map-set}
 use Rattle.values.proofs.Firsts.{firsts-at, firsts-push, firsts-set}
 use Rattle.changes.specs.Contracts.{Holds}
@@ -109,40 +108,28 @@ module _ (at : ℕ) (ts : List M.Table) (s : Site) (d : M.Node) (q : Relation) w
 
 -- ── tables ──
 
-set-same : {A : Type 0} (l : List A) (i : ℕ) (d : A) → set l i (getD l i d) ≡ l
-set-same [] i d = refl
-set-same (x ∷ l) zero d = refl
-set-same (x ∷ l) (suc i) d = ap (x ∷_) (set-same l i d)
-
 -- the table at `slot` gives way to `fresh`
-module _ (n : ℕ) (l : List Table) (at slot b : ℕ) (fresh : Table) (s : Site) (d : M.Node) (eight : length l ≡ 8) (few : n ≤ 8)
-    (slot-is : slot ≡ cond (ltb at n) at 0) (site-is : fresh .site ≡ getD l slot noTable .site) (name-is : fresh .name ≡ getD l slot noTable .name)
-    (rests : putsRows (kindAt b) ≡ false → fresh ≡ getD l slot noTable) (there : T (needsTable (kindAt b)) → at < n) where
-  put-table : T (putsRows (kindAt b)) → tablesOf n (set l slot fresh) ≡ putContent at (relationOf (fresh .content)) (tablesOf n l)
-  put-table h =
-      let low : at < n = there (puts-needs (kindAt b) h) in
-      let e : slot ≡ at = slot-is ∙ ap (λ (x : Bool). cond x at 0) (lt-ltb at n low) in
-      ap (λ (i : ℕ). tablesOf n (set l i fresh)) e
-      ∙ firsts-set tableOf noTable n l at fresh (omega (arith, low, eight, few))
-      ∙ ap (set (tablesOf n l) at)
-      ((λ i. record { site = (site-is ∙ ap (λ (j : ℕ). getD l j noTable .site) e) i; name = (name-is ∙ ap (λ (j : ℕ). getD l j noTable .name) e) i; content = relationOf (fresh .content) })
-      ∙ sym (ap (withContent (relationOf (fresh .content))) (firsts-at tableOf noTable n l at (tableOf noTable) low)))
+pub table-gives-way :
+    (n : ℕ) (l : List Table) (at slot b : ℕ) (fresh : Table) (s : Site) (d : M.Node) → length l ≡ 8 → n ≤ 8 → slot ≡ cond (ltb at n) at 0 → fresh .site ≡ getD l slot noTable .site → fresh .name ≡ getD l slot noTable .name →
+    (T (needsTable (kindAt b)) → at < n) → T (putsRows (kindAt b)) → tablesOf n (set l slot fresh) ≡ tablesWith (kindAt b) at (tablesOf n l) s d (relationOf (fresh .content))
+table-gives-way n l at slot b fresh s d eight few slot-is site-is name-is there h =
+    ap (λ (i : ℕ). tablesOf n (set l i fresh)) e
+    ∙ firsts-set tableOf noTable n l at fresh (omega (arith, low, eight, few))
+    ∙ ap (set (tablesOf n l) at)
+    ((λ i. record { site = (site-is ∙ ap (λ (j : ℕ). getD l j noTable .site) e) i; name = (name-is ∙ ap (λ (j : ℕ). getD l j noTable .name) e) i; content = relationOf (fresh .content) })
+    ∙ sym (ap (withContent (relationOf (fresh .content))) (firsts-at tableOf noTable n l at (tableOf noTable) low)))
+    ∙ sym (with-puts at (tablesOf n l) s d (relationOf (fresh .content)) (kindAt b) h)
+  where
+    low : at < n
+    low = there (puts-needs (kindAt b) h)
 
-  pub plain-tables : eqb b 23 ≡ false → eqb b 24 ≡ false → tablesOf n (set l slot fresh) ≡ tablesWith (kindAt b) at (tablesOf n l) s d (relationOf (fresh .content))
-  unfolding kindAt
-  plain-tables x y = go (putsRows (kindAt b)) refl
-    where
-      no-create : isCreate (kindAt b) ≡ false
-      no-create = sym (at-one isCreate 23 tt tt b) ∙ x
+    e : slot ≡ at
+    e = slot-is ∙ ap (λ (x : Bool). cond x at 0) (lt-ltb at n low)
 
-      no-drop : isDrop (kindAt b) ≡ false
-      no-drop = sym (at-one isDrop 24 tt tt b) ∙ y
-
-      go : (p : Bool) → putsRows (kindAt b) ≡ p → tablesOf n (set l slot fresh) ≡ tablesWith (kindAt b) at (tablesOf n l) s d (relationOf (fresh .content))
-      go true e = let h = T-of (putsRows (kindAt b)) e in put-table h ∙ sym (with-puts at (tablesOf n l) s d (relationOf (fresh .content)) (kindAt b) h)
-      go false e =
-          ap (λ (t : Table). tablesOf n (set l slot t)) (rests e) ∙ ap (tablesOf n) (set-same l slot noTable)
-          ∙ sym (with-same at (tablesOf n l) s d (relationOf (fresh .content)) (kindAt b) e no-create no-drop)
+-- no table does
+pub tables-stay : (b at : ℕ) (ts : List M.Table) (s : Site) (d : M.Node) (q : Relation) → putsRows (kindAt b) ≡ false → eqb b 23 ≡ false → eqb b 24 ≡ false → ts ≡ tablesWith (kindAt b) at ts s d q
+unfolding kindAt
+tables-stay b at ts s d q e x y = sym (with-same at ts s d q (kindAt b) e (sym (at-one isCreate 23 tt tt b) ∙ x) (sym (at-one isDrop 24 tt tt b) ∙ y))
 
 -- a new one goes last
 pub table-created :

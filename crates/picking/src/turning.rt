@@ -5,15 +5,17 @@ use crate::reading::site_in;
 use crate::reading::slot_at;
 use deciding::deciding::decide;
 use effects::effects::bound_after;
+use effects::effects::content_after;
 use evaluating::eval::eval_in;
 use judging::judging::judged;
 use leaving::Gone;
 use lists::lists::created;
-use lists::lists::table_after;
+use lists::lists::puts_rows;
 use nets::Answer;
 use nets::Entry;
 use nets::Net;
 use nets::Refusal;
+use nets::Table;
 use nets::TableVariable;
 use nets::kinds::binds_relation;
 use nets::tables::find_table;
@@ -130,7 +132,6 @@ pub fn carry_out(from: Net, picks: &[u8], out: &mut [u8]) -> Gone
         taken = plus(taken, t);
 
         // ---- the thread after it
-        let fresh = table_after(table, node, content, source, vars, j);
         let after = o.vars;
         let waiting = o.frame;
         let above = over(depth, top);
@@ -147,10 +148,10 @@ pub fn carry_out(from: Net, picks: &[u8], out: &mut [u8]) -> Gone
             };
         }
 
-        // ---- the tables: a new one goes last, a removed one closes up
+        // ---- the tables: the one found gives way, a new one goes last, a removed one closes up
         match kind {
             23 => {
-                net.tables[standing] = created(site, node, inside);
+                net.tables[standing] = created(site, node, content);
                 net.tablecount = standing + 1;
             }
             24 => {
@@ -165,7 +166,15 @@ pub fn carry_out(from: Net, picks: &[u8], out: &mut [u8]) -> Gone
                 net.tablecount = last;
             }
             _ => {
-                net.tables[slot] = fresh;
+                if puts_rows(kind) {
+                    let owner = table.site;
+                    let rows = content_after(node, content, source, vars, j);
+                    net.tables[slot] = Table {
+                        site: owner,
+                        name: table.name,
+                        content: rows,
+                    };
+                }
             }
         }
 

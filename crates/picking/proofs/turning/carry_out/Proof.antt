@@ -31,14 +31,15 @@ use Rattle.nets.specs.Scenes.{sceneOf, top}
 use Rattle.nets.specs.Steps.{holds, settle}
 use Rattle.nets.specs.Accounts.{answers}
 use Rattle.nets.specs.Answers.{saidOf, StepIs}
-use Rattle.nets.specs.View.{noFrame, entryOf, noTable, noThread, noPick, kindAt, nodesOf, stackOf, variableOf, nodeOf, bindingsOf, threadOf, tablesOf, threadsOf, view}
+use Rattle.nets.specs.View.{noContent, noFrame, entryOf, noTable, noThread, noPick, kindAt, nodesOf, stackOf, variableOf, nodeOf, bindingsOf, threadOf, tablesOf, threadsOf, view}
 use Rattle.picklists.specs.PickBytes.{picksIn}
 use Rattle.picklists.proofs.PickLaws.{picks-length}
 use Rattle.picklists.specs.AnswerBytes.{answerBytes}
 use Rattle.picklists.proofs.AnswerLaws.{putSoFar, put-none, put-more, put-length, put-over}
 use Rattle.turns.specs.Situations.{Situation, moved}
-use Rattle.acts.specs.Effects.{boundBy}
-use Rattle.acts.specs.Contracts.{isDoing, ActReady}
+use Rattle.changes.specs.Contracts.{Holds}
+use Rattle.acts.specs.Effects.{contentBy, boundBy}
+use Rattle.acts.specs.Contracts.{isDoing, putsRows, ActReady}
 use Rattle.threads.specs.Contracts.{Stacked, standing, forksOf}
 use Rattle.turns.specs.Contracts.{Fine, Sourced, Meets, DecidedIs, partsIn, Made, changed, ChangeIs}
 use Rattle.turns.proofs.SituationLaws.{fine-read, fine-bound, sourced, judge-ready, act-ready}
@@ -52,7 +53,7 @@ use Rattle.values.proofs.RemoveLaws.{Closing, closing-starts, closing-more}
 use Rattle.picking.proofs.HeldLaws.{run-skips, loop-counts, loop-there}
 use Rattle.picking.proofs.SceneTies.{threadAt, few-tables, few-nodes, few-threads, few-aliases, thread-stacked}
 use Rattle.picking.proofs.ReadTies.{nodeRead, Read, situationIn, shown-content, thread-below, entries-there, number-below, read-meets, read-fine, frame-top, variable-read, slot-below, over-below}
-use Rattle.picking.proofs.PlainTies.{puts-step, binds-step, plain-tables, table-created, table-dropped, thread-gone, thread-stays, thread-forks, some-depth, as-moved, bound-set, bound-none}
+use Rattle.picking.proofs.PlainTies.{puts-step, binds-step, table-gives-way, tables-stay, table-created, table-dropped, thread-gone, thread-stays, thread-forks, some-depth, as-moved, bound-set, bound-none}
 use Rattle.picking.proofs.StoreTies.{past-refused, change-refused, tables-ready, threads-ready, netWith, done-is}
 use Rattle.picking.proofs.turning.carry_out.Statement.{statement}
 use Rattle.picking.proofs.turning.carry_out.Tie as tie
@@ -526,20 +527,13 @@ ready c =
     let k = decided o .known (does c) in
     act-ready (situationAt s) (sourceOf o) (source (o .before .before) .source k) (fine s) k
 
-table-after-requires : tie.Need-table-after-requires Inv-loop2 μ-loop2 Inv-loop3 μ-loop3 Inv-loop4 μ-loop4 Inv-loop μ-loop
-table-after-requires c κs h =
-    let k = c .before .before in
-    let o = decidesIn k in
-    let step = puts-step (kindAt (situationAt (shownOf o) .node .kind)) h in
-    (ready k, step, o .before .judged .ensures, decided o .does (does k) step)
-
 -- ── the thread after it ──
 
 abbrev Runs : Type 0
 Runs = tie.After-run-frame Inv-loop2 μ-loop2 Inv-loop3 μ-loop3 Inv-loop4 μ-loop4 Inv-loop μ-loop
 
 abbrev toldOf : Runs → Told
-toldOf c = c .before .before .before .before .before .before .before
+toldOf c = c .before .before .before .before .before .before
 
 stacked : (c : Told) → Stacked (situationAt (shownIn c) .thread)
 stacked c = fine (shownIn c) .stacked
@@ -547,8 +541,8 @@ stacked c = fine (shownIn c) .stacked
 above-below : (c : Runs) → c .before .over .result < 8
 above-below c = over-below _ _ _ (stacked (toldOf c)) refl (c .before .over .ensures)
 
-mul-t75 : tie.Need-mul-t75 Inv-loop2 μ-loop2 Inv-loop3 μ-loop3 Inv-loop4 μ-loop4 Inv-loop μ-loop
-mul-t75 c = record { fits = let h = above-below c in omega (arith, h) }
+mul-t76 : tie.Need-mul-t76 Inv-loop2 μ-loop2 Inv-loop3 μ-loop3 Inv-loop4 μ-loop4 Inv-loop μ-loop
+mul-t76 c = record { fits = let h = above-below c in omega (arith, h) }
 
 element-set-from-thread : tie.Need-element-set-from-thread Inv-loop2 μ-loop2 Inv-loop3 μ-loop3 Inv-loop4 μ-loop4 Inv-loop μ-loop
 element-set-from-thread c = above-below c
@@ -596,9 +590,9 @@ netBy j = netOf (thereBy j)
 abbrev pickBy : Moved → Pick
 pickBy j = pickAt (thereBy j)
 
--- the table that the step found, after it
-abbrev tableOfStep : Moved → tie.After-table-after Inv-loop2 μ-loop2 Inv-loop3 μ-loop3 Inv-loop4 μ-loop4 Inv-loop μ-loop
-tableOfStep j = j .before .before .before .before .before
+-- where the sums have been added
+abbrev summed : Moved → tie.After-plus2 Inv-loop2 μ-loop2 Inv-loop3 μ-loop3 Inv-loop4 μ-loop4 Inv-loop μ-loop
+summed j = j .before .before .before .before .before
 
 abbrev movedIn : Moved → List TableVariable → Thread
 movedIn j vs = moved (situationBy j .thread) (decidesBy j .decide .result) (j .before .before .over .result) (j .before .run-frame .result) vs
@@ -608,28 +602,34 @@ moved-is j =
     either (j .if3 .came) (λ x. as-moved (situationBy j .thread) (decidesBy j .decide .result) (j .before .before .over .result) (j .before .run-frame .result) (x .3) refl)
     (λ x. as-moved (situationBy j .thread) (decidesBy j .decide .result) (j .before .before .over .result) (j .before .run-frame .result) (x .1) refl)
 
-bound-is :
-    (j : Moved) →
+abbrev BoundIs : Moved → Type 0
+BoundIs j =
     map variableOf (j .if3 .thread .relations)
     ≡ cond (bindsRelation (kindAt (situationBy j .node .kind)))
     (set (map variableOf (situationBy j .thread .relations)) (situationBy j .node .bound) (some (boundBy (kindAt (situationBy j .node .kind)) (partsIn (situationBy j) (sourceOf (decidesBy j))))))
     (map variableOf (situationBy j .thread .relations))
+
+bound-is : (j : Moved) → BoundIs j
 bound-is j =
     let b = heldOf (shownBy j) .before .binds-relation .ensures in
-    either (j .if3 .came) (λ x. ap (λ (t : Thread). map variableOf (t .relations)) (x .3) ∙ bound-set (situationBy j .thread .relations) _ (x .2 .result) _ (x .2 .ensures) (sym b ∙ x .0 .taken))
+    either {C = BoundIs j} (j .if3 .came) (λ x. ap (λ (t : Thread). map variableOf (t .relations)) (x .3) ∙ bound-set (situationBy j .thread .relations) _ (x .2 .result) _ (x .2 .ensures) (sym b ∙ x .0 .taken))
     (λ x. ap (λ (t : Thread). map variableOf (t .relations)) (x .1) ∙ bound-none (situationBy j .thread .relations) _ (sym b ∙ x .0 .left))
 
--- all that is made, with this thread as the fork if there is one
+-- what a kind that puts rows leaves of its table
+abbrev Puts : Moved → Relation → Type 0
+Puts j q = T (putsRows (kindAt (situationBy j .node .kind))) → Holds q (contentBy (kindAt (situationBy j .node .kind)) (partsIn (situationBy j) (sourceOf (decidesBy j))) .columns) (contentBy (kindAt (situationBy j .node .kind)) (partsIn (situationBy j) (sourceOf (decidesBy j))) .rows)
+
+-- all that is made, with this content, and this thread as the fork if there is one
 abbrev made :
-    (j : Moved) (fork : Thread) →
+    (j : Moved) (q : Relation) → Puts j q → (fork : Thread) →
     (T (decidesBy j .decide .result .forks) →
     threadOf fork
     ≡ record { site = situationBy j .thread .site; bindings = bindingsOf (decidesBy j .decide .result .inner) (j .if3 .thread .relations); stack = toRun (situationBy j .node .body) ∷ [] }) →
     Made (situationBy j) (sourceOf (decidesBy j)) (decidesBy j .decide .result)
-made j fork is =
+made j q put fork is =
     record {
-      content = tableOfStep j .table-after .result .content;
-      put = tableOfStep j .table-after .ensures .2;
+      content = q;
+      put = put;
       relations = j .if3 .thread .relations;
       bound = bound-is j;
       above = j .before .before .over .result;
@@ -650,26 +650,29 @@ change j m = decided (decidesBy j) .at _ (meets (shownBy j)) .change (does (told
 abbrev forkIn : Moved → Thread
 forkIn j = record { site = situationBy j .thread .site; vars = decidesBy j .decide .result .inner; relations = j .if3 .thread .relations; stack = j .before .run-frame .result ∷ []; depth = 1 }
 
-abbrev plain : (j : Moved) → Made (situationBy j) (sourceOf (decidesBy j)) (decidesBy j .decide .result)
-plain j =
-    made j (forkIn j)
-    (λ h.
-    ap (λ (x : Entry). record { site = situationBy j .thread .site; bindings = bindingsOf (decidesBy j .decide .result .inner) (j .if3 .thread .relations); stack = x ∷ [] }) (j .before .run-frame .ensures))
+fork-is :
+    (j : Moved) → T (decidesBy j .decide .result .forks) →
+    threadOf (forkIn j) ≡ record { site = situationBy j .thread .site; bindings = bindingsOf (decidesBy j .decide .result .inner) (j .if3 .thread .relations); stack = toRun (situationBy j .node .body) ∷ [] }
+fork-is j h =
+    ap (λ (x : Entry). record { site = situationBy j .thread .site; bindings = bindingsOf (decidesBy j .decide .result .inner) (j .if3 .thread .relations); stack = x ∷ [] }) (j .before .run-frame .ensures)
 
-tables-fit : (j : Moved) → (netBy j .tablecount ≤ 8) × (T (needsTable (kindAt (situationBy j .node .kind))) → placeOf (shownBy j) .find-table .result < netBy j .tablecount) × (T (isCreate (kindAt (situationBy j .node .kind))) → netBy j .tablecount < 8)
-tables-fit j = tables-ready (netBy j) (pickBy j) (okay (thereBy j)) (there (thereBy j)) (read (shownBy j)) (change j (plain j)) (says-done (toldBy j))
+tables-fit :
+    (j : Moved) (q : Relation) → Puts j q →
+    (netBy j .tablecount ≤ 8) × (T (needsTable (kindAt (situationBy j .node .kind))) → placeOf (shownBy j) .find-table .result < netBy j .tablecount) × (T (isCreate (kindAt (situationBy j .node .kind))) → netBy j .tablecount < 8)
+tables-fit j q put = tables-ready (netBy j) (pickBy j) (okay (thereBy j)) (there (thereBy j)) (read (shownBy j)) (change j (made j q put (forkIn j) (fork-is j))) (says-done (toldBy j))
 
-threads-fit : (j : Moved) → T (decidesBy j .decide .result .forks) → (netBy j .threadcount < 8) × (1 ≤ decidesBy j .decide .result .depth)
-threads-fit j = threads-ready (netBy j) (pickBy j) (okay (thereBy j)) (there (thereBy j)) (read (shownBy j)) (change j (plain j)) (says-done (toldBy j)) .2
+-- no rows are put
+no-puts : (j : Moved) (q : Relation) → putsRows (kindAt (situationBy j .node .kind)) ≡ false → Puts j q
+no-puts j q e h = absurd (subst T e h)
 
 -- ── the tables: a new one goes last ──
 
 new-fits : (c : tie.At-match3-keys1 Inv-loop2 μ-loop2 Inv-loop3 μ-loop3 Inv-loop4 μ-loop4 Inv-loop μ-loop) → netBy (c .before) .tablecount < 8
 unfolding kindAt
-new-fits c = tables-fit (c .before) .2 (subst (λ (b : ℕ). T (isCreate (kindAt b))) (sym (c .match3 .keys1)) tt)
+new-fits c = tables-fit (c .before) noContent (no-puts (c .before) noContent (ap (λ (b : ℕ). putsRows (kindAt b)) (c .match3 .keys1))) .2 (subst (λ (b : ℕ). T (isCreate (kindAt b))) (sym (c .match3 .keys1)) tt)
 
-mul-t115 : tie.Need-mul-t115 Inv-loop2 μ-loop2 Inv-loop3 μ-loop3 Inv-loop4 μ-loop4 Inv-loop μ-loop
-mul-t115 c = record { fits = let h = new-fits (c .before) in omega (arith, h) }
+mul-t116 : tie.Need-mul-t116 Inv-loop2 μ-loop2 Inv-loop3 μ-loop3 Inv-loop4 μ-loop4 Inv-loop μ-loop
+mul-t116 c = record { fits = let h = new-fits (c .before) in omega (arith, h) }
 
 element-set-from-net : tie.Need-element-set-from-net Inv-loop2 μ-loop2 Inv-loop3 μ-loop3 Inv-loop4 μ-loop4 Inv-loop μ-loop
 element-set-from-net c = new-fits (c .before)
@@ -684,7 +687,7 @@ Drops = tie.At-match3-keys2 Inv-loop2 μ-loop2 Inv-loop3 μ-loop3 Inv-loop4 μ-l
 
 dropped-there : (c : Drops) → placeOf (shownBy (c .before)) .find-table .result < netBy (c .before) .tablecount
 unfolding kindAt
-dropped-there c = tables-fit (c .before) .1 (subst (λ (b : ℕ). T (needsTable (kindAt b))) (sym (c .match3 .keys2)) tt)
+dropped-there c = tables-fit (c .before) noContent (no-puts (c .before) noContent (ap (λ (b : ℕ). putsRows (kindAt b)) (c .match3 .keys2))) .1 (subst (λ (b : ℕ). T (needsTable (kindAt b))) (sym (c .match3 .keys2)) tt)
 
 sub-last : tie.Need-sub-last Inv-loop2 μ-loop2 Inv-loop3 μ-loop3 Inv-loop4 μ-loop4 Inv-loop μ-loop
 sub-last c = let h = dropped-there c in omega (arith, h)
@@ -697,7 +700,7 @@ moves-table : (c : tie.In-loop3 Inv-loop2 μ-loop2 Inv-loop3 μ-loop3 Inv-loop4 
 moves-table c =
     let j = c .before .before .before in
     let h = c .loop3-test .taken in
-    omega (arith, h, tables-fit j .0)
+    omega (arith, h, few-tables (netBy j) (okay (thereBy j)))
 
 add-y : tie.Need-add-y Inv-loop2 μ-loop2 Inv-loop3 μ-loop3 Inv-loop4 μ-loop4 Inv-loop μ-loop
 add-y c = record { fits = let h = moves-table c in omega (arith, h) }
@@ -729,11 +732,26 @@ loop3-again c =
 
 -- ── the table found gives way ──
 
-mul-fresh : tie.Need-mul-fresh Inv-loop2 μ-loop2 Inv-loop3 μ-loop3 Inv-loop4 μ-loop4 Inv-loop μ-loop
-mul-fresh c = record { fits = let h = slot-few (slotOf (shownBy (c .before))) in omega (arith, h) }
+abbrev Given : Type 0
+Given = tie.After-content-after Inv-loop2 μ-loop2 Inv-loop3 μ-loop3 Inv-loop4 μ-loop4 Inv-loop μ-loop
 
-element-set-from-fresh : tie.Need-element-set-from-fresh Inv-loop2 μ-loop2 Inv-loop3 μ-loop3 Inv-loop4 μ-loop4 Inv-loop μ-loop
-element-set-from-fresh c = slot-few (slotOf (shownBy (c .before)))
+-- the kind puts rows
+given-puts : (c : tie.Then4 Inv-loop2 μ-loop2 Inv-loop3 μ-loop3 Inv-loop4 μ-loop4 Inv-loop μ-loop) → T (putsRows (kindAt (situationBy (c .before .before .before) .node .kind)))
+given-puts c = T-of _ (sym (c .before .puts-rows .ensures) ∙ c .if4 .taken)
+
+content-after-requires : tie.Need-content-after-requires Inv-loop2 μ-loop2 Inv-loop3 μ-loop3 Inv-loop4 μ-loop4 Inv-loop μ-loop
+content-after-requires c κs =
+    let p = given-puts (c .before) in
+    let j = c .before .before .before .before in
+    let k = toldBy j in
+    let step = puts-step (kindAt (situationBy j .node .kind)) p in
+    (ready k, step, decidesBy j .before .judged .ensures, p, decided (decidesBy j) .does (does k) step)
+
+mul-t128 : tie.Need-mul-t128 Inv-loop2 μ-loop2 Inv-loop3 μ-loop3 Inv-loop4 μ-loop4 Inv-loop μ-loop
+mul-t128 c = record { fits = let h = slot-few (slotOf (shownBy (c .before .before .before .before .before))) in omega (arith, h) }
+
+element-set-from-net-2 : tie.Need-element-set-from-net-2 Inv-loop2 μ-loop2 Inv-loop3 μ-loop3 Inv-loop4 μ-loop4 Inv-loop μ-loop
+element-set-from-net-2 c = slot-few (slotOf (shownBy (c .before .before .before .before .before)))
 
 -- ── the tables after it ──
 
@@ -746,42 +764,82 @@ record Stored (n m : Net) (ts : List M.Table) : Type 0 where
   eight : length (m .tables) ≡ 8
   rest : m ≡ netWith n (m .tables) (m .tablecount) (n .threads) (n .threadcount)
 
-abbrev tablesLeft : Moved → List M.Table
-tablesLeft j =
-    tablesWith (kindAt (situationBy j .node .kind)) (placeOf (shownBy j) .find-table .result) (tablesOf (netBy j .tablecount) (netBy j .tables)) (siteOf (shownBy j) .site-in .result) (nodeOf (situationBy j .node))
-    (relationOf (tableOfStep j .table-after .result .content))
+abbrev tablesLeft : Moved → Relation → List M.Table
+tablesLeft j q =
+    tablesWith (kindAt (situationBy j .node .kind)) (placeOf (shownBy j) .find-table .result) (tablesOf (netBy j .tablecount) (netBy j .tables)) (siteOf (shownBy j) .site-in .result) (nodeOf (situationBy j .node)) (relationOf q)
 
-stored : (c : Tabled) → Stored (netBy (c .before)) (c .match3 .net) (tablesLeft (c .before))
-stored c =
+-- with the content that the step puts, if it puts any
+record Left (j : Moved) (m : Net) : Type 0 where
+  content : Relation
+  put : Puts j content
+  stored : Stored (netBy j) m (tablesLeft j content)
+
+-- a byte of a kind that puts none
+none-at : {b m : ℕ} → b ≡ m → putsRows (kindAt m) ≡ false → putsRows (kindAt b) ≡ false
+none-at e h = ap (λ (b : ℕ). putsRows (kindAt b)) e ∙ h
+
+left : (c : Tabled) → Left (c .before) (c .match3 .net)
+unfolding kindAt
+left c =
     let j = c .before in
     let n = netBy j in
     let eight = atOf (pickedOf (thereBy j)) .loop .inv .sized .tables in
-    either (c .match3 .came)
+    let few = few-tables n (okay (thereBy j)) in
+    either {C = Left j (c .match3 .net)} (c .match3 .came)
     (λ x.
-    subst (λ (m : Net). Stored n m (tablesLeft j)) (sym (x .2))
-    (record {
-      tables = table-created (n .tablecount) (n .tables) _ _ _ _ _ (x .1 .result) eight (x .0 .keys1) (new-fits (record { before = j; match3 = x .0 })) (x .1 .ensures);
-      eight = length-set (n .tables) (n .tablecount) (x .1 .result) ∙ eight;
-      rest = refl;
-    }))
+    record {
+      content = noContent;
+      put = no-puts j noContent (none-at (x .0 .keys1) refl);
+      stored =
+          subst (λ (m : Net). Stored n m (tablesLeft j noContent)) (sym (x .2))
+          (record {
+            tables = table-created (n .tablecount) (n .tables) _ _ _ _ _ (x .1 .result) eight (x .0 .keys1) (new-fits (record { before = j; match3 = x .0 })) (x .1 .ensures);
+            eight = length-set (n .tables) (n .tablecount) (x .1 .result) ∙ eight;
+            rest = refl;
+          });
+    })
     (λ x.
-    either x
+    either {C = Left j (c .match3 .net)} x
     (λ y.
-    subst (λ (m : Net). Stored n m (tablesLeft j)) (sym (y .3))
-    (record {
-      tables = table-dropped (n .tablecount) (n .tables) _ _ _ _ _ (y .0 .keys2) (dropped-there (record { before = j; match3 = y .0 })) (y .1 .inv .1) (y .2 .left);
-      eight = y .1 .inv .1 .size ∙ eight;
-      rest = ap (λ (k : Net). netWith k (y .1 .net .tables) (n .tablecount - 1) (k .threads) (k .threadcount)) (y .1 .inv .2);
-    }))
+    record {
+      content = noContent;
+      put = no-puts j noContent (none-at (y .0 .keys2) refl);
+      stored =
+          subst (λ (m : Net). Stored n m (tablesLeft j noContent)) (sym (y .3))
+          (record {
+            tables = table-dropped (n .tablecount) (n .tables) _ _ _ _ _ (y .0 .keys2) (dropped-there (record { before = j; match3 = y .0 })) (y .1 .inv .1) (y .2 .left);
+            eight = y .1 .inv .1 .size ∙ eight;
+            rest = ap (λ (k : Net). netWith k (y .1 .net .tables) (n .tablecount - 1) (k .threads) (k .threadcount)) (y .1 .inv .2);
+          });
+    })
     (λ y.
-    let fresh = tableOfStep j .table-after in
-    subst (λ (m : Net). Stored n m (tablesLeft j)) (sym (y .1))
-    (record {
-      tables =
-          plain-tables (n .tablecount) (n .tables) _ (slotOf (shownBy j) .slot-at .result) (situationBy j .node .kind) (fresh .result) _ _ eight (tables-fit j .0) (slotOf (shownBy j) .slot-at .ensures)
-          (fresh .ensures .0) (fresh .ensures .1) (fresh .ensures .3) (tables-fit j .1) (ne-eqb _ 23 (y .0 .rest .0 .1)) (ne-eqb _ 24 (y .0 .rest .1));
-      eight = length-set (n .tables) (slotOf (shownBy j) .slot-at .result) (fresh .result) ∙ eight;
-      rest = refl;
+    either {C = Left j (c .match3 .net)} y
+    (λ z.
+    let slot = slotOf (shownBy j) .slot-at in
+    let old = getD (n .tables) (slot .result) noTable in
+    let q = z .4 .result in
+    let p = T-of (putsRows (kindAt (situationBy j .node .kind))) (sym (z .1 .ensures) ∙ z .2 .taken) in
+    record {
+      content = q;
+      put = λ h. z .4 .ensures;
+      stored =
+          subst (λ (m : Net). Stored n m (tablesLeft j q)) (sym (z .5))
+          (record {
+            tables =
+                table-gives-way (n .tablecount) (n .tables) _ (slot .result) (situationBy j .node .kind) (record { site = old .site; name = old .name; content = q }) _ _ eight few (slot .ensures) refl refl
+                (tables-fit j q (λ h. z .4 .ensures) .1) p;
+            eight = length-set (n .tables) (slot .result) (record { site = old .site; name = old .name; content = q }) ∙ eight;
+            rest = refl;
+          });
+    })
+    (λ z.
+    let none = sym (z .1 .ensures) ∙ z .2 .left in
+    record {
+      content = noContent;
+      put = no-puts j noContent none;
+      stored =
+          subst (λ (m : Net). Stored n m (tablesLeft j noContent)) (sym (z .3))
+          (record { tables = tables-stay (situationBy j .node .kind) (placeOf (shownBy j) .find-table .result) (tablesOf (n .tablecount) (n .tables)) (siteOf (shownBy j) .site-in .result) (nodeOf (situationBy j .node)) (relationOf noContent) none (ne-eqb _ 23 (z .0 .rest .0 .1)) (ne-eqb _ 24 (z .0 .rest .1)); eight = eight; rest = refl });
     })))
 
 -- ── one pick more, with these tables and threads ──
@@ -819,8 +877,8 @@ again :
     (record {
       net = n;
       answer = Done (toldBy (c .before) .before .answer .given .0 .0) (toldBy (c .before) .before .answer .given .0 .1 .0);
-      added = tableOfStep (c .before) .before .before .plus .result;
-      taken = tableOfStep (c .before) .before .plus2 .result;
+      added = summed (c .before) .before .plus .result;
+      taken = summed (c .before) .plus2 .result;
     })
     (atOf (pickedOf (thereBy (c .before))) .loop .i + 1)
 again c fork is hs k eight threads e =
@@ -828,16 +886,23 @@ again c fork is hs k eight threads e =
     let t = toldBy j in
     let h = thereBy j in
     let l = atOf (pickedOf h) in
-    let s = stored c in
-    let step = done-is (netBy j) (pickBy j) (okay h) (there h) (read (shownBy j)) (change j (made j fork is)) (says-done t) (c .match3 .net .tables) (c .match3 .net .tablecount) hs k (s .tables) threads in
+    let q = left c in
+    let s = q .stored in
+    let step = done-is (netBy j) (pickBy j) (okay h) (there h) (read (shownBy j)) (change j (made j (q .content) (q .put) fork is)) (says-done t) (c .match3 .net .tables) (c .match3 .net .tablecount) hs k (s .tables) threads in
     told-as (sym e) (says-done t)
     (more (pickedOf h)
-    (turned-done (goneAt l) (pickBy j) (decidesBy j .decide .result .answer) _ (tableOfStep j .before .before .plus .result) (tableOfStep j .before .plus2 .result) (says-done t) step (tableOfStep j .before .before .plus .ensures) (tableOfStep j .before .plus2 .ensures))
+    (turned-done (goneAt l) (pickBy j) (decidesBy j .decide .result .answer) _ (summed j .before .plus .result) (summed j .plus2 .result) (says-done t) step (summed j .before .plus .ensures) (summed j .plus2 .ensures))
     (saidOfStep j .before .before .put-answer-at2 .ensures) (sized-with (l .loop .inv .sized) (s .eight) eight))
+
+threads-fit : (c : Tabled) → T (decidesBy (c .before) .decide .result .forks) → (netBy (c .before) .threadcount < 8) × (1 ≤ decidesBy (c .before) .decide .result .depth)
+threads-fit c =
+    let j = c .before in
+    let q = left c in
+    threads-ready (netBy j) (pickBy j) (okay (thereBy j)) (there (thereBy j)) (read (shownBy j)) (change j (made j (q .content) (q .put) (forkIn j) (fork-is j))) (says-done (toldBy j)) .2
 
 -- the threads are still those that the step found
 threads-same : (c : Tabled) → c .match3 .net .threads ≡ netBy (c .before) .threads
-threads-same c = ap (λ (n : Net). n .threads) (stored c .rest)
+threads-same c = ap (λ (n : Net). n .threads) (left c .stored .rest)
 
 threads-long : (c : Tabled) → length (c .match3 .net .threads) ≡ 8
 threads-long c = ap length (threads-same c) ∙ atOf (pickedOf (thereBy (c .before))) .loop .inv .sized .threads
@@ -845,7 +910,7 @@ threads-long c = ap length (threads-same c) ∙ atOf (pickedOf (thereBy (c .befo
 -- ── the thread is gone ──
 
 abbrev Gone : Type 0
-Gone = tie.Then4 Inv-loop2 μ-loop2 Inv-loop3 μ-loop3 Inv-loop4 μ-loop4 Inv-loop μ-loop
+Gone = tie.Then5 Inv-loop2 μ-loop2 Inv-loop3 μ-loop3 Inv-loop4 μ-loop4 Inv-loop μ-loop
 
 abbrev tabledOf : Gone → Tabled
 tabledOf c = c .before .before
@@ -905,15 +970,15 @@ loop-again-3 c =
     let j = t .before in
     let k = netBy j .threadcount in
     let u = movedIn j (j .if3 .thread .relations) in
-    again t (forkIn j) (plain j .forked) (l .net .threads) (k - 1) (l .inv .1 .size ∙ threads-long t)
+    again t (forkIn j) (fork-is j) (l .net .threads) (k - 1) (l .inv .1 .size ∙ threads-long t)
     (subst (λ (hs : List Thread). threadsOf (k - 1) (l .net .threads) ≡ settle (pickBy j .thread) (standing (threadOf u)) (threadsOf k hs) ++ forksOf (decidesBy j .decide .result .forks) (forkIn j)) (threads-same t)
-    (thread-gone k (t .match3 .net .threads) (pickBy j .thread) u (forkIn j) (picked-there t) (l .inv .1) (c .loop4-test .left) (g .if4 .taken) (decidesBy j .decide .result .forks) (λ h. threads-fit j h .1)))
-    (ap (λ (n : Net). netWith n (n .tables) (n .tablecount) (l .net .threads) (k - 1)) (l .inv .2) ∙ ap (λ (n : Net). netWith n (t .match3 .net .tables) (t .match3 .net .tablecount) (l .net .threads) (k - 1)) (stored t .rest))
+    (thread-gone k (t .match3 .net .threads) (pickBy j .thread) u (forkIn j) (picked-there t) (l .inv .1) (c .loop4-test .left) (g .if5 .taken) (decidesBy j .decide .result .forks) (λ h. threads-fit t h .1)))
+    (ap (λ (n : Net). netWith n (n .tables) (n .tablecount) (l .net .threads) (k - 1)) (l .inv .2) ∙ ap (λ (n : Net). netWith n (t .match3 .net .tables) (t .match3 .net .tablecount) (l .net .threads) (k - 1)) (left t .stored .rest))
 
 -- ── it goes on ──
 
 abbrev Stays : Type 0
-Stays = tie.Else4 Inv-loop2 μ-loop2 Inv-loop3 μ-loop3 Inv-loop4 μ-loop4 Inv-loop μ-loop
+Stays = tie.Else5 Inv-loop2 μ-loop2 Inv-loop3 μ-loop3 Inv-loop4 μ-loop4 Inv-loop μ-loop
 
 abbrev tabledIn : Stays → Tabled
 tabledIn c = c .before .before
@@ -921,14 +986,14 @@ tabledIn c = c .before .before
 thread-few : (c : Stays) → pickBy (tabledIn c .before) .thread < 8
 thread-few c = let h = picked-there (tabledIn c) in omega (arith, h, few-running (tabledIn c))
 
-mul-t75-2 : tie.Need-mul-t75-2 Inv-loop2 μ-loop2 Inv-loop3 μ-loop3 Inv-loop4 μ-loop4 Inv-loop μ-loop
-mul-t75-2 c = record { fits = let h = thread-few c in omega (arith, h) }
+mul-t76-2 : tie.Need-mul-t76-2 Inv-loop2 μ-loop2 Inv-loop3 μ-loop3 Inv-loop4 μ-loop4 Inv-loop μ-loop
+mul-t76-2 c = record { fits = let h = thread-few c in omega (arith, h) }
 
-element-set-from-net-2 : tie.Need-element-set-from-net-2 Inv-loop2 μ-loop2 Inv-loop3 μ-loop3 Inv-loop4 μ-loop4 Inv-loop μ-loop
-element-set-from-net-2 c = thread-few c
+element-set-from-net-3 : tie.Need-element-set-from-net-3 Inv-loop2 μ-loop2 Inv-loop3 μ-loop3 Inv-loop4 μ-loop4 Inv-loop μ-loop
+element-set-from-net-3 c = thread-few c
 
 deep : (c : Stays) → 1 ≤ decidesBy (tabledIn c .before) .decide .result .depth
-deep c = let h : decidesBy (tabledIn c .before) .decide .result .depth ≡ 0 → ⊥ = c .if4 .left in omega arith
+deep c = let h : decidesBy (tabledIn c .before) .decide .result .depth ≡ 0 → ⊥ = c .if5 .left in omega arith
 
 deep-thread : (c : Stays) → 1 ≤ tabledIn c .before .if3 .thread .depth
 deep-thread c = subst (λ (t : Thread). 1 ≤ t .depth) (sym (moved-is (tabledIn c .before))) (deep c)
@@ -944,10 +1009,10 @@ loop-again-5 c =
     let u = j .if3 .thread in
     let l = netBy j .threads in
     let eight = atOf (pickedOf (thereBy j)) .loop .inv .sized .threads in
-    again t (forkIn j) (plain j .forked) (set l (pickBy j .thread) u) k (length-set l (pickBy j .thread) u ∙ eight)
-    (thread-stays k l (pickBy j .thread) u (forkIn j) (picked-there t) eight (few-running t) (deep-thread (c .before)) (c .if5 .left)
+    again t (forkIn j) (fork-is j) (set l (pickBy j .thread) u) k (length-set l (pickBy j .thread) u ∙ eight)
+    (thread-stays k l (pickBy j .thread) u (forkIn j) (picked-there t) eight (few-running t) (deep-thread (c .before)) (c .if6 .left)
     ∙ ap (λ (v : Thread). settle (pickBy j .thread) (standing (threadOf v)) (threadsOf k l) ++ forksOf (decidesBy j .decide .result .forks) (forkIn j)) (moved-is j))
-    (ap (λ (n : Net). withThreads n (set (n .threads) (pickBy j .thread) u)) (stored t .rest))
+    (ap (λ (n : Net). withThreads n (set (n .threads) (pickBy j .thread) u)) (left t .stored .rest))
 
 -- ── and a fork goes last ──
 
@@ -958,13 +1023,13 @@ abbrev staysOf : Forks → Stays
 staysOf c = c .before .before .before
 
 fork-few : (c : Forks) → netBy (tabledIn (staysOf c) .before) .threadcount < 8
-fork-few c = threads-fit (tabledIn (staysOf c) .before) (T-of _ (c .before .before .if5 .taken)) .0
+fork-few c = threads-fit (tabledIn (staysOf c)) (T-of _ (c .before .before .if6 .taken)) .0
 
-mul-t139 : tie.Need-mul-t139 Inv-loop2 μ-loop2 Inv-loop3 μ-loop3 Inv-loop4 μ-loop4 Inv-loop μ-loop
-mul-t139 c = record { fits = let h = fork-few c in omega (arith, h) }
+mul-t142 : tie.Need-mul-t142 Inv-loop2 μ-loop2 Inv-loop3 μ-loop3 Inv-loop4 μ-loop4 Inv-loop μ-loop
+mul-t142 c = record { fits = let h = fork-few c in omega (arith, h) }
 
-element-set-from-net-3 : tie.Need-element-set-from-net-3 Inv-loop2 μ-loop2 Inv-loop3 μ-loop3 Inv-loop4 μ-loop4 Inv-loop μ-loop
-element-set-from-net-3 c = fork-few c
+element-set-from-net-4 : tie.Need-element-set-from-net-4 Inv-loop2 μ-loop2 Inv-loop3 μ-loop3 Inv-loop4 μ-loop4 Inv-loop μ-loop
+element-set-from-net-4 c = fork-few c
 
 add-net-2 : tie.Need-add-net-2 Inv-loop2 μ-loop2 Inv-loop3 μ-loop3 Inv-loop4 μ-loop4 Inv-loop μ-loop
 add-net-2 c = record { fits = let h = fork-few c in omega (arith, h) }
@@ -986,9 +1051,9 @@ loop-again-4 c =
     c .forked .ensures .0
     ∙ ap (λ (v : Thread). record { site = v .site; bindings = bindingsOf (decidesBy j .decide .result .inner) (u .relations); stack = toRun (situationBy j .node .body) ∷ [] }) (moved-is j))
     (set (set l (pickBy j .thread) u) k f) (k + 1) (length-set (set l (pickBy j .thread) u) k f ∙ length-set l (pickBy j .thread) u ∙ eight)
-    (thread-forks k l (pickBy j .thread) u f (picked-there t) eight (few-running t) (deep-thread (staysOf c)) (c .before .before .if5 .taken) (fork-few c)
+    (thread-forks k l (pickBy j .thread) u f (picked-there t) eight (few-running t) (deep-thread (staysOf c)) (c .before .before .if6 .taken) (fork-few c)
     ∙ ap (λ (v : Thread). settle (pickBy j .thread) (standing (threadOf v)) (threadsOf k l) ++ forksOf (decidesBy j .decide .result .forks) f) (moved-is j))
-    (ap (λ (n : Net). netWith n (n .tables) (n .tablecount) (set (set (n .threads) (pickBy j .thread) u) k f) (k + 1)) (stored t .rest))
+    (ap (λ (n : Net). netWith n (n .tables) (n .tablecount) (set (set (n .threads) (pickBy j .thread) u) k f) (k + 1)) (left t .stored .rest))
 
 -- ── after the last pick ──
 
@@ -1098,10 +1163,9 @@ carry-out-spec =
     loop-again-2
     plus-requires
     plus-requires-2
-    table-after-requires
     (λ c κs. search needs)
     (λ c κs. search needs)
-    mul-t75
+    mul-t76
     element-set-from-thread
     mul-waiting
     element-set-from-waiting
@@ -1110,7 +1174,7 @@ carry-out-spec =
     (λ c. search needs)
     element-set-from-thread-2
     (λ c κs. search needs)
-    mul-t115
+    mul-t116
     element-set-from-net
     add-net
     sub-last
@@ -1122,8 +1186,10 @@ carry-out-spec =
     element-set-from-moved
     loop3-less
     loop3-again
-    mul-fresh
-    element-set-from-fresh
+    (λ c κs. search needs)
+    content-after-requires
+    mul-t128
+    element-set-from-net-2
     sub-last-2
     loop4-holds
     add-y-2
@@ -1135,11 +1201,11 @@ carry-out-spec =
     loop4-again
     loop-less-3
     loop-again-3
-    mul-t75-2
-    element-set-from-net-2
-    (λ c κs. search needs)
-    mul-t139
+    mul-t76-2
     element-set-from-net-3
+    (λ c κs. search needs)
+    mul-t142
+    element-set-from-net-4
     add-net-2
     loop-less-4
     loop-again-4

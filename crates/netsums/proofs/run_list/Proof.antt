@@ -1,4 +1,4 @@
--- `netsums::run_first` meets its contract: a run over the bytes of the picks. Assumes nothing.
+-- `netsums::run_list` meets its contract: a run over the bytes of the picks. Assumes nothing.
 use mathlib.Core.Path.{_≡_, sym, ap, subst, _∙_}
 use mathlib.Core.List.{List}
 use native.Mathlib.Omega.{arith}
@@ -9,8 +9,8 @@ use Rattle.values.proofs.Arrays.{long}
 use Rattle.nets.specs.declared.Pick.{Pick}
 use Rattle.picklists.proofs.PickLaws.{picks-take}
 use Rattle.runs.specs.Runs.{RunIs}
-use Rattle.netsums.proofs.run_first.Statement.{statement}
-use Rattle.netsums.proofs.run_first.Tie as tie
+use Rattle.netsums.proofs.run_list.Statement.{statement}
+use Rattle.netsums.proofs.run_list.Tie as tie
 
 bytes-long : (c : tie.After-pick-bytes) → length (c .pick-bytes .result) ≡ 512
 bytes-long c = search (long, c .pick-bytes .ok)
@@ -26,8 +26,8 @@ returns c =
     let a = b .before .args in
     subst (λ (ps : List Pick). RunIs (a .net) ps (c .run-bytes .result)) (picks-take (b .pick-bytes .result) (a .count) ∙ ap (take (a .count)) (b .pick-bytes .ensures)) (c .run-bytes .ensures)
 
-pub run-first-spec : {M : Type 1} → statement M
-run-first-spec =
+pub run-list-spec : {M : Type 1} → statement M
+run-list-spec =
     tie.close
     (tie.spec
     (λ c κs. search needs)
