@@ -12,13 +12,12 @@ use Rattle.rows.specs.declared.Relation as Code
 use Rattle.rows.specs.Relations.{Row}
 use Rattle.rows.specs.Matching.{hits, selected}
 use Rattle.rows.specs.View.{noRow, valuesOf, columnsOf, relationOf, operandsOf, selectorOf, Shaped, Short}
-use Rattle.changes.specs.Changes.{changes, updated, selectedColumns, selection}
+use Rattle.changes.specs.Changes.{changes, updated, selection}
 use Rattle.changes.specs.Aggregates.{aggregated, columnFits}
 use Rattle.changes.specs.Contracts.{Complete, marks, sift}
 use Rattle.nets.specs.declared.Node.{Node}
 use Rattle.acts.specs.declared.Judged.{Judged}
-use Rattle.acts.specs.declared.Shape.{Shape}
-use Rattle.nets.specs.Nets.{Kind, code, hasTest, isSelect, readsRelation, isLoop}
+use Rattle.nets.specs.Nets.{Kind, code, isSelect, readsRelation, isLoop}
 use Rattle.nets.specs.View.{kindAt, nodeOf}
 use Rattle.nets.specs.Answers.{Said, refusing, doing}
 use Rattle.acts.specs.Effects.{Parts, saidBy}
@@ -71,18 +70,6 @@ hitIn d vs = hits (varsOf vs) (selectorOf (d .selector))
 
 abbrev pub changedIn : Node → Code.Relation → List Slot → Row → Bool
 changedIn d q vs = changes (varsOf vs) (selectorOf (d .selector)) (operandsOf (d .tuple)) (relationOf q .columns)
-
--- columns of what a step makes of a row
-pub record ShapeIs (d : Node) (q : Code.Relation) (vs : List Slot) (s : Shape) : Type 0 where
-  pub short : s .columns ≤ 4
-  pub select : isSelect (kindAt (d .kind)) ≡ true →
-      (s .columns ≡ d .tuple .count) × (columnsOf (s .columns) (s .kinds) ≡ selectedColumns (varsOf vs) (operandsOf (d .selector .template)) (operandsOf (d .tuple)) (columnsOf (d .selector .template .count) (q .kinds)))
-  pub own : isSelect (kindAt (d .kind)) ≡ false → (s .columns ≡ q .columns) × (s .kinds ≡ q .kinds)
-
--- how many rows are looked at
-pub record LookedAt (d : Node) (q : Code.Relation) (n : ℕ) : Type 0 where
-  pub few : n ≤ 16
-  pub all-rows : hasTest (kindAt (d .kind)) ≡ true → Long d q → n ≡ q .count
 
 -- what was judged, kind by kind
 pub record JudgedIs (d : Node) (q : Code.Relation) (vs : List Slot) (j : Judged) : Type 0 where

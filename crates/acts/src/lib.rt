@@ -4,12 +4,6 @@ use values::Got;
 
 pub mod saying;
 
-// Columns and their kinds.
-pub struct Shape {
-    pub columns: usize,
-    pub kinds: [u8; 4],
-}
-
 // The rows that a step speaks of, judged before anything is changed: columns of what it makes of them, the rows with new ones at their places, which rows
 // are selected (and, in an update, fit), and an aggregate's result.
 pub struct Judged {

@@ -1,7 +1,7 @@
 -- The rows judged: from what a pass over the source gave to what the step's kind wants of it. Assumes nothing.
 use Prim.Native.Nat.{ℕ, _≤_}
-use mathlib.Core.Path.{_≡_, refl, ap, ap₂, sym, _∙_, subst}
-use mathlib.Core.Bool.{Bool, true, false, not, _&&_, _||_}
+use mathlib.Core.Path.{_≡_, ap, ap₂, sym, _∙_, subst}
+use mathlib.Core.Bool.{Bool, true, false, not, _||_}
 use mathlib.Core.List.{List, map}
 use mathlib.Core.Logic.{_⊎_, inl, inr}
 use borrow.Author.Tests.{eq-eqb}
@@ -28,61 +28,57 @@ use Rattle.changes.specs.Contracts.{marks, sift, SweptIs}
 use Rattle.changes.proofs.Prepared.{Planned, Termed, planned, termed, columns-same, marks-are, number-is, hits-marked, picked, changes-marked, replaced}
 use Rattle.changes.proofs.SweepLaws.{sift-marked}
 use Rattle.nets.specs.declared.Node.{Node}
-use Rattle.nets.specs.Nets.{Kind, code, hasTest, isSelect}
+use Rattle.nets.specs.Nets.{isSelect}
 use Rattle.nets.specs.View.{kindAt}
-use Rattle.acts.specs.declared.Judged.{Judged}
-use Rattle.acts.specs.declared.Shape.{Shape}
-use Rattle.acts.specs.Contracts.{Long, hitIn, changedIn, JudgeReady, ShapeIs, LookedAt, JudgedIs}
+use Rattle.acts.specs.Contracts.{Long, hitIn, changedIn, JudgeReady, JudgedIs}
 
 never : {A : Type 0} {b : Bool} → b ≡ true → b ≡ false → A
 never p q = absurd (subst T (sym p ∙ q) tt)
 
--- ── the shape, and how many rows ──
+-- ── the shape ──
 
-module _ (d : Node) (q : Code.Relation) (vars : List Slot) {x : Bool} (sel : x ≡ isSelect (kindAt (d .kind))) where
-  pub shape-select : x ≡ true → d .tuple .count ≤ 4 → (ks : List ℕ) →
-      columnsOf (d .tuple .count) ks ≡ selectedColumns (varsOf vars) (operandsOf (d .selector .template)) (operandsOf (d .tuple)) (columnsOf (d .selector .template .count) (q .kinds)) →
-      ShapeIs d q vars (record { columns = d .tuple .count; kinds = ks })
-  shape-select is short ks made = record { short = short; select = λ k. (refl, made); own = λ k. never (sym sel ∙ is) k }
+-- the columns of what a step makes of a row: a select's own, or the relation's
+pub record ShapeIs (d : Node) (q : Code.Relation) (vs : List Slot) (columns : ℕ) (kinds : List ℕ) : Type 0 where
+  pub short : columns ≤ 4
+  pub select : isSelect (kindAt (d .kind)) ≡ true →
+      (columns ≡ d .tuple .count) × (columnsOf columns kinds ≡ selectedColumns (varsOf vs) (operandsOf (d .selector .template)) (operandsOf (d .tuple)) (columnsOf (d .selector .template .count) (q .kinds)))
+  pub own : isSelect (kindAt (d .kind)) ≡ false → (columns ≡ q .columns) × (kinds ≡ q .kinds)
 
-  pub shape-own : x ≡ false → q .columns ≤ 4 → ShapeIs d q vars (record { columns = q .columns; kinds = q .kinds })
-  shape-own is short = record { short = short; select = λ k. never k (sym sel ∙ is); own = λ k. (refl, refl) }
+module _ (d : Node) (q : Code.Relation) (vars : List Slot) {x : Bool} (sel : x ≡ isSelect (kindAt (d .kind))) {columns : ℕ} {kinds : List ℕ} where
+  pub shape-select : x ≡ true → d .tuple .count ≤ 4 → columns ≡ d .tuple .count →
+      columnsOf (d .tuple .count) kinds ≡ selectedColumns (varsOf vars) (operandsOf (d .selector .template)) (operandsOf (d .tuple)) (columnsOf (d .selector .template .count) (q .kinds)) →
+      ShapeIs d q vars columns kinds
+  shape-select is short e made = record { short = rw e short; select = λ k. (e, rw e made); own = λ k. never (sym sel ∙ is) k }
 
-pub looked-none : (d : Node) (q : Code.Relation) {x : Bool} → x ≡ hasTest (kindAt (d .kind)) → (x && eqb (d .selector .template .count) (q .columns)) ≡ false → 0 ≤ 16 → LookedAt d q 0
-looked-none d q test none-at few =
-    record { few = few; all-rows = λ t l. never (ap₂ _&&_ (test ∙ t) (eq-eqb (d .selector .template .count) (q .columns) l)) none-at }
+  pub shape-own : x ≡ false → q .columns ≤ 4 → columns ≡ q .columns → kinds ≡ q .kinds → ShapeIs d q vars columns kinds
+  shape-own is short e f = record { short = rw e short; select = λ k. never k (sym sel ∙ is); own = λ k. (e, f) }
 
 -- ── which kinds are judged how ──
 
--- a delete or an aggregate has a test and no new rows
-plain : {b : ℕ} → (b ≡ 18) ⊎ (b ≡ 22) → (hasTest (kindAt b) ≡ true) × (not (isSelect (kindAt b) || eqb b 21) ≡ true)
+-- a delete or an aggregate has no new rows
+plain : {b : ℕ} → (b ≡ 18) ⊎ (b ≡ 22) → not (isSelect (kindAt b) || eqb b 21) ≡ true
 unfolding kindAt
-plain (inl e) = (ap (λ (i : ℕ). hasTest (kindAt i)) e, ap (λ (i : ℕ). not (isSelect (kindAt i) || eqb i 21)) e)
-plain (inr e) = (ap (λ (i : ℕ). hasTest (kindAt i)) e, ap (λ (i : ℕ). not (isSelect (kindAt i) || eqb i 21)) e)
+plain (inl e) = ap (λ (i : ℕ). not (isSelect (kindAt i) || eqb i 21)) e
+plain (inr e) = ap (λ (i : ℕ). not (isSelect (kindAt i) || eqb i 21)) e
 
-update-kind : {b : ℕ} → b ≡ 21 → (hasTest (kindAt b) ≡ true) × (isSelect (kindAt b) ≡ false)
+update-kind : {b : ℕ} → b ≡ 21 → isSelect (kindAt b) ≡ false
 unfolding kindAt
-update-kind e = (ap (λ (i : ℕ). hasTest (kindAt i)) e, ap (λ (i : ℕ). isSelect (kindAt i)) e)
-
--- a select has a test
-more : (a b c d e : Bool) → (b || (c || false)) ≡ true → (a || (b || (c || (d || (e || false))))) ≡ true
-more true b c d e h = refl
-more false true c d e h = refl
-more false false true d e h = refl
-more false false false d e h = cc
-
-select-tests : (k : Kind) → isSelect k ≡ true → hasTest k ≡ true
-select-tests k h = more (eqb (code k) 18) (eqb (code k) 19) (eqb (code k) 20) (eqb (code k) 21) (eqb (code k) 22) h
+update-kind e = ap (λ (i : ℕ). isSelect (kindAt i)) e
 
 -- ── the rows judged ──
 
+-- an aggregate's result, over the rows that are marked
+abbrev pub ResultIs : Node → Code.Relation → List Bool → Got → Type 0
+ResultIs d q flags g =
+    d .kind ≡ 22 → T (columnFits (d .function) (d .column) (relationOf q .columns)) → g ≡ aggregated (d .function) (d .column) (sift true (marks (q .count) flags) (relationOf q .rows))
+
 module _ (d : Node) (q : Code.Relation) (vars : List Slot) (sixteen : length vars ≡ 16) (ready : JudgeReady d q) {vs : List Val} (good : Is R.the-row q vs)
-    (s : Shape) (shape : ShapeIs d q vars s) (plan : Plan)
+    {columns : ℕ} {kinds : List ℕ} (shape : ShapeIs d q vars columns kinds) (plan : Plan)
     (plans : (row : Row) → length (row .cells) ≡ 4 → planHits plan row ≡ hits (varsOf vars) (selectorOf (d .selector)) (valuesOf (d .selector .template .count) row))
     (terms : Terms) (made : termsIn terms ≡ map (termOf (varsOf vars) (operandsOf (d .selector .template))) (operandsOf (d .tuple))) (as-many : terms .count ≡ d .tuple .count)
-    {n : ℕ} (looked : LookedAt d q n) {x : Bool} (sel : x ≡ isSelect (kindAt (d .kind))) (o : Swept)
-    (swept : SweptIs plan (x || eqb (d .kind) 21) x terms (s .columns) (s .kinds) n (q .rows) o) (g : Got)
-    (res : T (columnFits (d .function) (d .column) (relationOf q .columns)) → g ≡ aggregated (d .function) (d .column) (sift true (marks (q .count) (o .flags)) (relationOf q .rows))) where
+    {n : ℕ} (all-rows : Long d q → n ≡ q .count) {x : Bool} (sel : x ≡ isSelect (kindAt (d .kind))) (o : Swept)
+    (swept : SweptIs plan (x || eqb (d .kind) 21) x terms columns kinds n (q .rows) o) (g : Got)
+    (res : ResultIs d q (o .flags) g) where
   fine : Long d q → Ready q (d .selector)
   fine l = record { columns = ready .source .columns; count = ready .source .count; long = l }
 
@@ -92,31 +88,31 @@ module _ (d : Node) (q : Code.Relation) (vars : List Slot) (sixteen : length var
   t : Long d q → Termed q (d .selector) (varsOf vars) (operandsOf (d .tuple)) terms
   t l = termed (fine l) vars sixteen (d .tuple) terms made
 
-  all-swept : hasTest (kindAt (d .kind)) ≡ true → Long d q → SweptIs plan (x || eqb (d .kind) 21) x terms (s .columns) (s .kinds) (q .count) (q .rows) o
-  all-swept test l = subst (λ (m : ℕ). SweptIs plan (x || eqb (d .kind) 21) x terms (s .columns) (s .kinds) m (q .rows) o) (looked .all-rows test l) swept
+  all-swept : Long d q → SweptIs plan (x || eqb (d .kind) 21) x terms columns kinds (q .count) (q .rows) o
+  all-swept l = subst (λ (m : ℕ). SweptIs plan (x || eqb (d .kind) 21) x terms columns kinds m (q .rows) o) (all-rows l) swept
 
   hit-is : (d .kind ≡ 18) ⊎ (d .kind ≡ 22) → Long d q →
       (marks (q .count) (o .flags) ≡ map (hitIn d vars) (relationOf q .rows)) × (count (λ (b : Bool). b) (o .flags) ≡ count (hitIn d vars) (relationOf q .rows))
   hit-is k l =
-      let a = all-swept (plain k .0) l in
-      let free : not (x || eqb (d .kind) 21) ≡ true = ap (λ (b : Bool). not (b || eqb (d .kind) 21)) sel ∙ plain k .1 in
+      let a = all-swept l in
+      let free : not (x || eqb (d .kind) 21) ≡ true = ap (λ (b : Bool). not (b || eqb (d .kind) 21)) sel ∙ plain k in
       (marks-are (p l) (t l) a (hitIn d vars) (hits-marked (p l) (t l) a free), number-is (p l) (t l) a (hitIn d vars) (hits-marked (p l) (t l) a free))
 
-  pub judged-is : JudgedIs d q vars (record { columns = s .columns; kinds = s .kinds; rows = o .rows; flags = o .flags; result = g })
+  pub judged-is : JudgedIs d q vars (record { columns = columns; kinds = kinds; rows = o .rows; flags = o .flags; result = g })
   judged-is =
       record {
         short = shape .short;
         hit = hit-is;
         update =
             λ k l.
-            let a = all-swept (update-kind k .0) l in
-            let own = shape .own (update-kind k .1) in
-            let strict = sel ∙ update-kind k .1 in
+            let a = all-swept l in
+            let own = shape .own (update-kind k) in
+            let strict = sel ∙ update-kind k in
             let drafts : (x || eqb (d .kind) 21) ≡ true = ap₂ _||_ strict (eq-eqb (d .kind) 21 k) in
             (replaced (p l) (t l) a drafts strict (own .0) (own .1), number-is (p l) (t l) a (changedIn d q vars) (changes-marked (p l) (t l) a drafts strict (own .0) (own .1)));
         select =
             λ k l complete.
-            let a = all-swept (select-tests (kindAt (d .kind)) k) l in
+            let a = all-swept l in
             let loose = sel ∙ k in
             let drafts : (x || eqb (d .kind) 21) ≡ true = ap (_|| eqb (d .kind) 21) loose in (
               columns-same (fine l) (varsOf vars) (operandsOf (d .tuple)) (shape .select k .1),
@@ -125,6 +121,6 @@ module _ (d : Node) (q : Code.Relation) (vars : List Slot) (sixteen : length var
             );
         result =
             λ k l f.
-            res f
+            res k f
             ∙ ap (aggregated (d .function) (d .column)) (ap (λ (m : List Bool). sift true m (relationOf q .rows)) (hit-is (inr k) l .0) ∙ sift-marked (hitIn d vars) (relationOf q .rows));
       }

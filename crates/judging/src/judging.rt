@@ -1,6 +1,5 @@
 // The rows that a step speaks of are judged once, as they stood before.
 use acts::Judged;
-use acts::Shape;
 use acts::saying::column_fits;
 use aggregates::aggregates::aggregate;
 use changes::sifting::sifted;
@@ -17,47 +16,10 @@ use values::Slot;
 ghost use mathlib.Core.Path.{_≡_};
 ghost use mathlib.Core.Bool.{true};
 ghost use lib.Dec.{T};
-ghost use Rattle.rows.specs.View.{Shaped, Short, relationOf};
+ghost use Rattle.rows.specs.View.{Shaped, relationOf};
 ghost use Rattle.changes.specs.Contracts.{marks, sift};
 ghost use Rattle.changes.specs.Aggregates.{columnFits, aggregated};
-ghost use Rattle.acts.specs.Contracts.{JudgeReady, JudgedIs, ShapeIs, LookedAt};
-
-// The columns of what the step makes of a row: a select's own, or the relation's.
-pub fn shape_of(node: Node, r: Relation, vars: [Slot; 16]) -> Shape
-    requires { ⌜ Shaped r × Short (node .selector .template) × Short (node .tuple) ⌝ }
-    ensures { λ s. ⌜ ShapeIs node r vars s ⌝ }
-{
-    let kind = node.kind;
-    let selector = node.selector;
-    let template = selector.template;
-    let tuple = node.tuple;
-    let own = r.kinds;
-    if is_select(kind) {
-        let kinds = selected_kinds(tuple, template, own, vars);
-        return Shape {
-            columns: tuple.count,
-            kinds,
-        };
-    }
-    Shape {
-        columns: r.columns,
-        kinds: own,
-    }
-}
-
-// How many rows the step looks at. Where T is not as long as the columns, check 16 comes first.
-pub fn looked_at(node: Node, r: Relation) -> usize
-    requires { ⌜ Shaped r ⌝ }
-    ensures { λ n. ⌜ LookedAt node r n ⌝ }
-{
-    let kind = node.kind;
-    let selector = node.selector;
-    let template = selector.template;
-    if has_test(kind) & (template.count == r.columns) {
-        return r.count;
-    }
-    0
-}
+ghost use Rattle.acts.specs.Contracts.{JudgeReady, JudgedIs};
 
 // Over the rows that are marked. Where the column does not fit, check 16 comes first.
 pub fn result_of(node: Node, source: Relation, flags: [bool; 16]) -> Got
@@ -73,7 +35,8 @@ pub fn result_of(node: Node, source: Relation, flags: [bool; 16]) -> Got
     Got::Nothing
 }
 
-// In a pass over the rows.
+// In a pass over the rows. The columns of what the step makes of a row are a select's own, or the relation's; where T is not as long as the relation's,
+// check 16 comes first and no row is looked at.
 fn judged_rows(node: Node, source: Relation, vars: [Slot; 16]) -> Judged
     requires { ⌜ JudgeReady node source ⌝ }
     ensures { λ j. ⌜ JudgedIs node source vars j ⌝ }
@@ -82,18 +45,28 @@ fn judged_rows(node: Node, source: Relation, vars: [Slot; 16]) -> Judged
     let selector = node.selector;
     let template = selector.template;
     let tuple = node.tuple;
-    let shape = shape_of(node, source, vars);
-    let columns = shape.columns;
-    let kinds = shape.kinds;
+    let select = is_select(kind);
+    let mut columns = source.columns;
+    let mut kinds = source.kinds;
+    if select {
+        columns = tuple.count;
+        let made = selected_kinds(tuple, template, kinds, vars);
+        kinds = made;
+    }
     let plan = plan_of(selector, vars);
     let terms = terms_of(tuple, template, vars);
-    let n = looked_at(node, source);
-    let select = is_select(kind);
+    let mut n: usize = 0;
+    if template.count == source.columns {
+        n = source.count;
+    }
     let drafts = select | (kind == 21);
     let s = swept(source, n, plan, drafts, select, terms, columns, kinds);
     let rows = s.rows;
     let flags = s.flags;
-    let result = result_of(node, source, flags);
+    let mut result = Got::Nothing;
+    if kind == 22 {
+        result = result_of(node, source, flags);
+    }
     Judged {
         columns,
         kinds,

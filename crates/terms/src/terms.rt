@@ -36,22 +36,33 @@ pub fn is_formal_of(i: u8, op: Operand) -> bool
 }
 
 // The last place of T whose formal is variable i, as bindings go from first to last; 4 where there is none.
+// Four tests in place of a loop: it is asked for every operand of a pick.
 pub fn formal_place(i: u8, template: Operands) -> usize
     requires { ⌜ Short template ⌝ }
     ensures { λ r. ⌜ r ≡ formalPlace i 4 0 (operandsOf template) ⌝ }
 {
     let count = template.count;
-    let mut at: usize = 4;
-    let mut n: usize = 0;
-    while n < count {
-        let f = template.fields[n];
-        let op = f.operand;
-        if is_formal_of(i, op) {
-            at = n;
-        }
-        n += 1;
+    let a = template.fields[0];
+    let b = template.fields[1];
+    let c = template.fields[2];
+    let d = template.fields[3];
+    let w = a.operand;
+    let x = b.operand;
+    let y = c.operand;
+    let z = d.operand;
+    if (3 < count) & is_formal_of(i, z) {
+        return 3;
     }
-    at
+    if (2 < count) & is_formal_of(i, y) {
+        return 2;
+    }
+    if (1 < count) & is_formal_of(i, x) {
+        return 1;
+    }
+    if (0 < count) & is_formal_of(i, w) {
+        return 0;
+    }
+    4
 }
 
 pub fn source_of(i: u8, template: Operands, vars: [Slot; 16]) -> Source
