@@ -7,7 +7,6 @@ use nets::Entry;
 use nets::Frame;
 use nets::Node;
 use nets::Refusal;
-use nets::Thread;
 use nets::kinds::has_place;
 use nets::kinds::is_loop;
 use nets::kinds::needs_table;
@@ -18,10 +17,10 @@ use threads::Turn;
 use threads::threads::node_of;
 use turns::Decided;
 use turns::Setting;
-use turns::parts::bound_tables;
 use turns::parts::is_located;
 use turns::parts::onward;
 use turns::parts::refuses;
+use values::Slot;
 ghost use mathlib.Core.Path.{_≡_};
 ghost use mathlib.Core.Bool.{true};
 ghost use lib.Dec.{T};
@@ -31,32 +30,31 @@ ghost use Rattle.nets.specs.Steps.{check13, check14, check15};
 ghost use Rattle.nets.specs.View.{kindAt};
 ghost use Rattle.nets.specs.Answers.{saidOf};
 ghost use Rattle.acts.specs.Contracts.{isStep, isDoing, JudgedIs, Doing};
-ghost use Rattle.turns.specs.Situations.{situation};
-ghost use Rattle.turns.specs.Contracts.{Meets, Fine, Known, SourceIs, Sourced, DecidedAt, DecidedIs};
+ghost use Rattle.turns.specs.Situations.{situation, Rest, whole, Handed};
+ghost use Rattle.turns.specs.Contracts.{Meets, Fine, Known, Flagged, SourceIs, Sourced, DecidedAt, DecidedIs};
 
 // A loop: a round, or over and on to next.
 pub fn decide_loop(
-    thread: Thread,
+    vars: [Slot; 16],
+    depth: usize,
     frame: Frame,
     node: Node,
     content: Relation,
     source: Relation,
     s: Setting,
 ) -> Decided
-    requires { ⌜ Fine (situation thread frame node content s) × T (isLoop (kindAt (node .kind))) × Known (situation thread frame node content s) × SourceIs (situation thread frame node content s) source ⌝ }
-    ensures { λ r. ⌜ ((c : Scene) → Meets (situation thread frame node content s) c → DecidedAt (situation thread frame node content s) source c r) ⌝ }
+    requires { ⌜ T (isLoop (kindAt (node .kind))) × Handed (λ w. Fine (situation (whole vars depth w) frame node content s) × Known (situation (whole vars depth w) frame node content s) × SourceIs (situation (whole vars depth w) frame node content s) source) ⌝ }
+    ensures { λ r. ⌜ ((w : Rest) → Fine (situation (whole vars depth w) frame node content s) → Known (situation (whole vars depth w) frame node content s) → SourceIs (situation (whole vars depth w) frame node content s) source → (c : Scene) → Meets (situation (whole vars depth w) frame node content s) c → DecidedAt (situation (whole vars depth w) frame node content s) source c r) ⌝ }
 {
     let selector = node.selector;
     let template = selector.template;
-    let vars = thread.vars;
-    let depth = thread.depth;
     let parallel = node.kind == 26;
     let room = (parallel & (s.threads < 8)) | (!parallel & (depth < 8));
     let r = round(template, source, frame, vars, s.row, room);
     let turn = r.turn;
     match turn {
-        Turn::Stopped(why) => refuses(why, thread, frame),
-        Turn::Over => onward(thread, frame, node.next, vars, 0, 0),
+        Turn::Stopped(why) => refuses(why, vars, depth, frame),
+        Turn::Over => onward(depth, frame, node.next, vars, 0, 0),
         Turn::Opened => {
             let visit = r.visit;
             let inner = r.vars;
@@ -85,7 +83,8 @@ pub fn decide_loop(
 }
 
 pub fn decide_act(
-    thread: Thread,
+    vars: [Slot; 16],
+    depth: usize,
     frame: Frame,
     node: Node,
     content: Relation,
@@ -93,23 +92,24 @@ pub fn decide_act(
     j: Judged,
     s: Setting,
 ) -> Decided
-    requires { ⌜ Fine (situation thread frame node content s) × T (isStep (kindAt (node .kind))) × Known (situation thread frame node content s) × SourceIs (situation thread frame node content s) source × JudgedIs node source (thread .vars) j ⌝ }
-    ensures { λ r. ⌜ ((c : Scene) → Meets (situation thread frame node content s) c → check13 c ≡ true → check14 c ≡ true → check15 c ≡ true → DecidedAt (situation thread frame node content s) source c r) × (T (isDoing (saidOf (r .answer))) → Doing node content source (thread .vars)) ⌝ }
+    requires { ⌜ T (isStep (kindAt (node .kind))) × JudgedIs node source vars j × Handed (λ w. Fine (situation (whole vars depth w) frame node content s) × Known (situation (whole vars depth w) frame node content s) × SourceIs (situation (whole vars depth w) frame node content s) source) ⌝ }
+    ensures { λ r. ⌜ ((w : Rest) → Fine (situation (whole vars depth w) frame node content s) → Known (situation (whole vars depth w) frame node content s) → SourceIs (situation (whole vars depth w) frame node content s) source → (c : Scene) → Meets (situation (whole vars depth w) frame node content s) c → check13 c ≡ true → check14 c ≡ true → check15 c ≡ true → DecidedAt (situation (whole vars depth w) frame node content s) source c r) × (T (isDoing (saidOf (r .answer))) → Doing node content source vars) ⌝ }
 {
-    let vars = thread.vars;
     let answer = says(node, content, source, vars, j, s.held, s.tables);
     match answer {
-        Answer::Refused(why) => refuses(why, thread, frame),
+        Answer::Refused(why) => refuses(why, vars, depth, frame),
         Answer::Done(a, t) => {
             let after = vars_after(node, content, source, vars, j);
-            onward(thread, frame, node.next, after, a, t)
+            onward(depth, frame, node.next, after, a, t)
         }
     }
 }
 
-// What a pick comes to in its thread, whose top frame is `frame`, at a node.
+// What a pick comes to at a node, in a thread of these variables, with a stack of this height and `frame` on top, and with these table variables bound. The contract is for any thread that has these parts: handing on all of it would copy it.
 pub fn decide(
-    thread: Thread,
+    vars: [Slot; 16],
+    depth: usize,
+    bound: [bool; 2],
     frame: Frame,
     node: Node,
     content: Relation,
@@ -117,27 +117,26 @@ pub fn decide(
     j: Judged,
     s: Setting,
 ) -> Decided
-    requires { ⌜ Fine (situation thread frame node content s) × Sourced (situation thread frame node content s) source × JudgedIs node source (thread .vars) j ⌝ }
-    ensures { λ r. ⌜ DecidedIs (situation thread frame node content s) source r ⌝ }
+    requires { ⌜ JudgedIs node source vars j × Handed (λ w. Fine (situation (whole vars depth w) frame node content s) × Flagged w bound × Sourced (situation (whole vars depth w) frame node content s) source) ⌝ }
+    ensures { λ r. ⌜ ((w : Rest) → Fine (situation (whole vars depth w) frame node content s) → Flagged w bound → Sourced (situation (whole vars depth w) frame node content s) source → DecidedIs (situation (whole vars depth w) frame node content s) source r) ⌝ }
 {
     let kind = node.kind;
-    let vars = thread.vars;
     let located = s.located;
     let found = s.found;
-    if !reads_ok(node, vars, bound_tables(thread)) {
-        return refuses(Refusal::Unbound, thread, frame);
+    if !reads_ok(node, vars, bound) {
+        return refuses(Refusal::Unbound, vars, depth, frame);
     }
     if has_place(kind) & !is_located(located) {
-        return refuses(Refusal::NoPlace, thread, frame);
+        return refuses(Refusal::NoPlace, vars, depth, frame);
     }
     if needs_table(kind) & !found {
-        return refuses(Refusal::NoTable, thread, frame);
+        return refuses(Refusal::NoTable, vars, depth, frame);
     }
     if (kind == 23) & found {
-        return refuses(Refusal::TableThere, thread, frame);
+        return refuses(Refusal::TableThere, vars, depth, frame);
     }
     if is_loop(kind) {
-        return decide_loop(thread, frame, node, content, source, s);
+        return decide_loop(vars, depth, frame, node, content, source, s);
     }
-    decide_act(thread, frame, node, content, source, j, s)
+    decide_act(vars, depth, frame, node, content, source, j, s)
 }

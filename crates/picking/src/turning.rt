@@ -29,6 +29,7 @@ use threads::threads::run_frame;
 use totals::plus;
 use totals::zero;
 use turns::Setting;
+use turns::parts::bound_tables;
 use turns::parts::source_of;
 ghost use mathlib.Core.Path.{_≡_};
 ghost use Prim.Native.Nat.{_≤_};
@@ -122,7 +123,8 @@ pub fn carry_out(from: Net, picks: &[u8], out: &mut [u8]) -> Gone
             threads: running,
             row: pick.row,
         };
-        let o = decide(thread, frame, node, content, source, j, s);
+        let bound = bound_tables(thread);
+        let o = decide(vars, depth, bound, frame, node, content, source, j, s);
         answer = o.answer;
         put_answer_at(out, room, turn, answer);
         let Answer::Done(a, t) = answer else {

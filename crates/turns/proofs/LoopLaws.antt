@@ -26,7 +26,7 @@ use Rattle.turns.proofs.TurnLaws.{loop-relations, same-bindings, RoundA
 
 module _ (s : Situation) (q : Code.Relation) (c : Scene) (o : Round) (at : RoundAt s c o) (ok : Stacked (s .thread)) (eight : length (s .thread .stack) ≡ 8) (r : Decided) (done : r .answer ≡ Done 0 0) where
   -- the loop is over
-  pub over-at : o .turn ≡ Over → r .forks ≡ false → r .vars ≡ s .thread .vars → Onward (s .thread) (s .node .next) r → DecidedAt s q c r
+  pub over-at : o .turn ≡ Over → r .forks ≡ false → r .vars ≡ s .thread .vars → Onward (s .thread .depth) (s .node .next) r → DecidedAt s q c r
   over-at e f v g =
       record {
         answer = ap saidOf done ∙ turn-says s c o at e;

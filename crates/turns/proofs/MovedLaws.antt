@@ -85,7 +85,7 @@ module _ (t : Thread) (r : Decided) (above : ℕ) (over : above ≡ overOf (t .d
   moved-ends e = moved-as e ∙ ap (movedTo t r vs) (stack-ends (t .stack) f (r .frame) eight (t .depth) (ok .some))
 
   -- on to next
-  pub goes-on : (next : ℕ) → Onward t next r → standing (threadOf (moved t r above f vs)) ≡ goOn next (withBindings (threadOf t) (bindingsOf (r .vars) vs)) (below (threadOf t .stack))
+  pub goes-on : (next : ℕ) → Onward (t .depth) next r → standing (threadOf (moved t r above f vs)) ≡ goOn next (withBindings (threadOf t) (bindingsOf (r .vars) vs)) (below (threadOf t .stack))
   goes-on next o = go (eqb next 255) refl
     where
       u : M.Thread
@@ -101,9 +101,9 @@ clash : (b : Bool) → b ≡ true → b ≡ false → ⊥
 clash true e f = subst T f tt
 clash false e f = subst T (sym e) tt
 
-pub onward-ends : (t : Thread) (next : ℕ) (r : Decided) → next ≡ 255 → r .depth ≡ t .depth - 1 → Onward t next r
-onward-ends t next r e d =
+pub onward-ends : (n : ℕ) (next : ℕ) (r : Decided) → next ≡ 255 → r .depth ≡ n - 1 → Onward n next r
+onward-ends m next r e d =
     record { ends = λ h. d; stays = λ h. absurd (clash (eqb next 255) (eq-eqb next 255 e) h); goes = λ h. absurd (clash (eqb next 255) (eq-eqb next 255 e) h) }
 
-pub onward-goes : (t : Thread) (next : ℕ) (r : Decided) → (next ≡ 255 → ⊥) → r .depth ≡ t .depth → entryOf (r .frame) ≡ toRun next → Onward t next r
-onward-goes t next r n d x = record { ends = λ h. absurd (clash (eqb next 255) h (ne-eqb next 255 n)); stays = λ h. d; goes = λ h. x }
+pub onward-goes : (n : ℕ) (next : ℕ) (r : Decided) → (next ≡ 255 → ⊥) → r .depth ≡ n → entryOf (r .frame) ≡ toRun next → Onward n next r
+onward-goes m next r n d x = record { ends = λ h. absurd (clash (eqb next 255) h (ne-eqb next 255 n)); stays = λ h. d; goes = λ h. x }

@@ -1,7 +1,7 @@
 -- What the functions that decide on a step require and give back, part by part.
 use Prim.Native.Nat.{ℕ, _≤_, _<_}
 use mathlib.Core.Path.{_≡_}
-use mathlib.Core.Bool.{false, cond}
+use mathlib.Core.Bool.{Bool, false, cond}
 use mathlib.Core.List.{List, [], _∷_, _++_, map}
 use mathlib.Core.Option.{Option, none, some}
 use lib.Dec.{T, ltb}
@@ -18,7 +18,7 @@ use Rattle.nets.specs.declared.Frame.{Frame}
 use Rattle.nets.specs.declared.TableVariable.{TableVariable}
 use Rattle.nets.specs.declared.Thread.{Thread}
 use Rattle.turns.specs.declared.Decided.{Decided}
-use Rattle.turns.specs.Situations.{Situation, Change, overOf, moved}
+use Rattle.turns.specs.Situations.{Situation, Rest, Change, overOf, moved}
 use Rattle.nets.specs.Nets as M
 use Rattle.nets.specs.Nets.{isLoop, readsRelation, bindsRelation, toRun, Outcome}
 use Rattle.nets.specs.Tables.{tableAt, contentOf, rowsOf, columnsOf}
@@ -27,6 +27,7 @@ use Rattle.nets.specs.Scenes.{Scene, site, siteOfL, table}
 use Rattle.nets.specs.Steps.{isBound, isBoundTable, readsOk, holds, settle, tablesBy, threadsAfter, performed, Check, check, check12, check13, check14, check15, check16, check17, check18, check19, check20, judge}
 use Rattle.nets.specs.View.{kindAt, nodeOf, entryOf, variableOf, bindingsOf, threadOf}
 use Rattle.nets.specs.Answers.{answerOf, saidOf}
+use Rattle.reading.specs.Contracts.{flagAt}
 use Rattle.acts.specs.Effects.{Parts, contentBy, boundBy}
 use Rattle.acts.specs.Contracts.{isDoing, isStep, putsRows, partsOf, Doing}
 use Rattle.threads.specs.Contracts.{visitOf, Stacked, standing, forksOf}
@@ -87,6 +88,10 @@ pub record Fine (s : Situation) : Type 0 where
 -- check 12 passed, said of the parts
 pub record Known (s : Situation) : Type 0 where
   pub reads : T (readsOk (isBound (threadOf (s .thread) .bindings .vars)) (isBoundTable (threadOf (s .thread) .bindings .relations)) (nodeOf (s .node)))
+
+-- the flags are those of a thread's table variables
+pub record Flagged (w : Rest) (flags : List Bool) : Type 0 where
+  pub bound : (i : ℕ) → flagAt flags i ≡ isBoundTable (map variableOf (w .relations)) i
 
 -- the source of rows: what the table variable read holds, or the table's content
 pub record SourceIs (s : Situation) (r : Code.Relation) : Type 0 where

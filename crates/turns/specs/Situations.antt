@@ -4,7 +4,9 @@ use mathlib.Core.Path.{_≡_}
 use mathlib.Core.Bool.{Bool, true, false, cond}
 use mathlib.Core.List.{List}
 use lib.Dec.{eqb, ltb}
-use lib.ListN.{set}
+use lib.ListN.{set, length}
+use Rattle.values.specs.declared.Site.{Site}
+use Rattle.values.specs.declared.Slot.{Slot}
 use Rattle.rows.specs.declared.Relation.{Relation}
 use Rattle.nets.specs.declared.Answer.{Answer}
 use Rattle.nets.specs.declared.Frame.{Frame}
@@ -46,6 +48,21 @@ situation t f d q s =
       row = s .row;
     }
 
+-- what a thread has beside its variables and the height of its stack, which alone are handed on
+pub record Rest : Type 0 where
+  pub site : Site
+  pub relations : List TableVariable
+  pub stack : List Frame
+  pub long : length stack ≡ 8
+
+abbrev pub whole : List Slot → ℕ → Rest → Thread
+whole vs n w = record { site = w .site; vars = vs; relations = w .relations; stack = w .stack; depth = n }
+
+-- the thread whose parts are handed on is one of which this is true
+pub record Handed (P : Rest → Type 0) : Type 0 where
+  pub rest : Rest
+  pub facts : P rest
+
 -- the answer, the content of the table afterwards, the thread, which is gone where its stack is empty, and the new thread of a parallel round
 pub record Change : Type 0 where
   pub answer : Answer
@@ -72,7 +89,7 @@ moved t r i f vs =
     }
 
 -- to next, or the top entry is removed
-pub record Onward (t : Thread) (next : ℕ) (r : Decided) : Type 0 where
-  pub ends : eqb next 255 ≡ true → r .depth ≡ t .depth - 1
-  pub stays : eqb next 255 ≡ false → r .depth ≡ t .depth
+pub record Onward (depth : ℕ) (next : ℕ) (r : Decided) : Type 0 where
+  pub ends : eqb next 255 ≡ true → r .depth ≡ depth - 1
+  pub stays : eqb next 255 ≡ false → r .depth ≡ depth
   pub goes : eqb next 255 ≡ false → entryOf (r .frame) ≡ toRun next

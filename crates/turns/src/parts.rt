@@ -12,27 +12,26 @@ use threads::threads::run_frame;
 use values::Slot;
 ghost use mathlib.Core.Path.{_≡_};
 ghost use mathlib.Core.Bool.{false, cond, _&&_};
-ghost use Prim.Native.Nat.{ℕ};
+ghost use Prim.Native.Nat.{ℕ, _≤_};
+ghost use lib.ListN.{length};
 ghost use Rattle.values.specs.Lists.{isSome};
 ghost use Rattle.nets.specs.Nets.{readsRelation};
 ghost use Rattle.nets.specs.Steps.{isBoundTable};
 ghost use Rattle.nets.specs.View.{kindAt, threadOf};
 ghost use Rattle.reading.specs.Contracts.{flagAt};
-ghost use Rattle.threads.specs.Contracts.{Stacked};
 ghost use Rattle.turns.specs.Situations.{Onward};
 ghost use Rattle.turns.specs.Contracts.{locatedOf};
 
 // Refused: of the other parts none is looked at.
-pub fn refuses(r: Refusal, thread: Thread, frame: Frame) -> Decided
+pub fn refuses(r: Refusal, vars: [Slot; 16], depth: usize, frame: Frame) -> Decided
     ensures { λ o. ⌜ (o .answer ≡ Answer.Refused r) × (o .forks ≡ false) ⌝ }
 {
-    let vars = thread.vars;
     let answer = Answer::Refused(r);
     Decided {
         answer,
         forks: false,
         frame,
-        depth: thread.depth,
+        depth,
         vars,
         inner: vars,
     }
@@ -40,17 +39,16 @@ pub fn refuses(r: Refusal, thread: Thread, frame: Frame) -> Decided
 
 // Done: to next, or with 255 the entry is removed.
 pub fn onward(
-    thread: Thread,
+    depth: usize,
     frame: Frame,
     next: u8,
     vars: [Slot; 16],
     added: usize,
     taken: usize,
 ) -> Decided
-    requires { ⌜ Stacked thread ⌝ }
-    ensures { λ o. ⌜ (o .answer ≡ Answer.Done added taken) × (o .forks ≡ false) × (o .vars ≡ vars) × Onward thread next o ⌝ }
+    requires { ⌜ 1 ≤ depth ⌝ }
+    ensures { λ o. ⌜ (o .answer ≡ Answer.Done added taken) × (o .forks ≡ false) × (o .vars ≡ vars) × Onward depth next o ⌝ }
 {
-    let depth = thread.depth;
     if next == 255 {
         return Decided {
             answer: Answer::Done(added, taken),
@@ -80,9 +78,9 @@ pub fn is_located(l: Located) -> bool
     }
 }
 
-// The table variables that are bound.
+// The table variables that are bound. The contract also says how long the stack's array is, which a caller that reads the thread from a list can't tell by itself.
 pub fn bound_tables(t: Thread) -> [bool; 2]
-    ensures { λ r. ⌜ ((i : ℕ) → flagAt r i ≡ isBoundTable (threadOf t .bindings .relations) i) ⌝ }
+    ensures { λ r. ⌜ ((i : ℕ) → flagAt r i ≡ isBoundTable (threadOf t .bindings .relations) i) × (length (t .stack) ≡ 8) ⌝ }
 {
     let a = t.relations[0];
     let b = t.relations[1];

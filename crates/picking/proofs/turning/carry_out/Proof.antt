@@ -36,7 +36,7 @@ use Rattle.picklists.specs.PickBytes.{picksIn}
 use Rattle.picklists.proofs.PickLaws.{picks-length}
 use Rattle.picklists.specs.AnswerBytes.{answerBytes}
 use Rattle.picklists.proofs.AnswerLaws.{putSoFar, put-none, put-more, put-length, put-over}
-use Rattle.turns.specs.Situations.{Situation, moved}
+use Rattle.turns.specs.Situations.{Situation, Rest, moved}
 use Rattle.changes.specs.Contracts.{Holds}
 use Rattle.acts.specs.Effects.{contentBy, boundBy}
 use Rattle.acts.specs.Contracts.{isDoing, putsRows, ActReady}
@@ -442,20 +442,30 @@ source c =
 judged-requires : tie.Need-judged-requires Inv-loop2 μ-loop2 Inv-loop3 μ-loop3 Inv-loop4 μ-loop4 Inv-loop μ-loop
 judged-requires c κs = let s = c .before .before .before in judge-ready (situationAt s) (fine s) (c .source-of .result) (source c .shaped)
 
+-- what the thread has beside the parts that `decide` is handed
+abbrev Flags : Type 0
+Flags = tie.After-bound-tables Inv-loop2 μ-loop2 Inv-loop3 μ-loop3 Inv-loop4 μ-loop4 Inv-loop μ-loop
+
+abbrev restAt : Flags → Rest
+restAt c =
+    let t = situationAt (c .before .before .before .before .before) .thread in
+    record { site = t .site; relations = t .relations; stack = t .stack; long = c .bound-tables .ensures .1 }
+
 decide-requires : tie.Need-decide-requires Inv-loop2 μ-loop2 Inv-loop3 μ-loop3 Inv-loop4 μ-loop4 Inv-loop μ-loop
-decide-requires c κs = (fine (c .before .before .before .before), source (c .before), c .judged .ensures)
+decide-requires c κs = (c .before .judged .ensures, record { rest = restAt c; facts = (fine (c .before .before .before .before .before), record { bound = c .bound-tables .ensures .0 }, source (c .before .before)) })
 
 abbrev Decides : Type 0
 Decides = tie.After-decide Inv-loop2 μ-loop2 Inv-loop3 μ-loop3 Inv-loop4 μ-loop4 Inv-loop μ-loop
 
 abbrev shownOf : Decides → Shown
-shownOf c = c .before .before .before .before .before
+shownOf c = c .before .before .before .before .before .before
 
 abbrev sourceOf : Decides → Relation
-sourceOf c = c .before .before .source-of .result
+sourceOf c = c .before .before .before .source-of .result
 
 decided : (c : Decides) → DecidedIs (situationAt (shownOf c)) (sourceOf c) (c .decide .result)
-decided c = c .decide .ensures
+decided c =
+    c .decide .ensures (restAt (c .before)) (fine (shownOf c)) (record { bound = c .before .bound-tables .ensures .0 }) (source (c .before .before .before))
 
 abbrev pickedIn : Decides → Picked
 pickedIn c = pickedOf (thereIn (shownOf c))
@@ -525,7 +535,7 @@ ready c =
     let o = decidesIn c in
     let s = shownOf o in
     let k = decided o .known (does c) in
-    act-ready (situationAt s) (sourceOf o) (source (o .before .before) .source k) (fine s) k
+    act-ready (situationAt s) (sourceOf o) (source (o .before .before .before) .source k) (fine s) k
 
 -- ── the thread after it ──
 
@@ -541,8 +551,8 @@ stacked c = fine (shownIn c) .stacked
 above-below : (c : Runs) → c .before .over .result < 8
 above-below c = over-below _ _ _ (stacked (toldOf c)) refl (c .before .over .ensures)
 
-mul-t76 : tie.Need-mul-t76 Inv-loop2 μ-loop2 Inv-loop3 μ-loop3 Inv-loop4 μ-loop4 Inv-loop μ-loop
-mul-t76 c = record { fits = let h = above-below c in omega (arith, h) }
+mul-t77 : tie.Need-mul-t77 Inv-loop2 μ-loop2 Inv-loop3 μ-loop3 Inv-loop4 μ-loop4 Inv-loop μ-loop
+mul-t77 c = record { fits = let h = above-below c in omega (arith, h) }
 
 element-set-from-thread : tie.Need-element-set-from-thread Inv-loop2 μ-loop2 Inv-loop3 μ-loop3 Inv-loop4 μ-loop4 Inv-loop μ-loop
 element-set-from-thread c = above-below c
@@ -559,7 +569,7 @@ bound-after-requires c κs =
     let o = decidesIn k in
     let binds : T (bindsRelation (kindAt (situationAt (shownOf o) .node .kind))) = T-of _ (sym (heldOf (shownOf o) .before .binds-relation .ensures) ∙ c .before .if3 .taken) in
     let step = binds-step (kindAt (situationAt (shownOf o) .node .kind)) binds in
-    (ready k, step, o .before .judged .ensures, binds, decided o .does (does k) step)
+    (ready k, step, o .before .before .judged .ensures, binds, decided o .does (does k) step)
 
 element-set-from-thread-2 : tie.Need-element-set-from-thread-2 Inv-loop2 μ-loop2 Inv-loop3 μ-loop3 Inv-loop4 μ-loop4 Inv-loop μ-loop
 element-set-from-thread-2 c = let s = shownIn (toldOf (c .before .before .before)) in fine-bound (situationAt s) (fine s)
@@ -671,8 +681,8 @@ new-fits : (c : tie.At-match3-keys1 Inv-loop2 μ-loop2 Inv-loop3 μ-loop3 Inv-lo
 unfolding kindAt
 new-fits c = tables-fit (c .before) noContent (no-puts (c .before) noContent (ap (λ (b : ℕ). putsRows (kindAt b)) (c .match3 .keys1))) .2 (subst (λ (b : ℕ). T (isCreate (kindAt b))) (sym (c .match3 .keys1)) tt)
 
-mul-t116 : tie.Need-mul-t116 Inv-loop2 μ-loop2 Inv-loop3 μ-loop3 Inv-loop4 μ-loop4 Inv-loop μ-loop
-mul-t116 c = record { fits = let h = new-fits (c .before) in omega (arith, h) }
+mul-t117 : tie.Need-mul-t117 Inv-loop2 μ-loop2 Inv-loop3 μ-loop3 Inv-loop4 μ-loop4 Inv-loop μ-loop
+mul-t117 c = record { fits = let h = new-fits (c .before) in omega (arith, h) }
 
 element-set-from-net : tie.Need-element-set-from-net Inv-loop2 μ-loop2 Inv-loop3 μ-loop3 Inv-loop4 μ-loop4 Inv-loop μ-loop
 element-set-from-net c = new-fits (c .before)
@@ -745,10 +755,10 @@ content-after-requires c κs =
     let j = c .before .before .before .before in
     let k = toldBy j in
     let step = puts-step (kindAt (situationBy j .node .kind)) p in
-    (ready k, step, decidesBy j .before .judged .ensures, p, decided (decidesBy j) .does (does k) step)
+    (ready k, step, decidesBy j .before .before .judged .ensures, p, decided (decidesBy j) .does (does k) step)
 
-mul-t128 : tie.Need-mul-t128 Inv-loop2 μ-loop2 Inv-loop3 μ-loop3 Inv-loop4 μ-loop4 Inv-loop μ-loop
-mul-t128 c = record { fits = let h = slot-few (slotOf (shownBy (c .before .before .before .before .before))) in omega (arith, h) }
+mul-t129 : tie.Need-mul-t129 Inv-loop2 μ-loop2 Inv-loop3 μ-loop3 Inv-loop4 μ-loop4 Inv-loop μ-loop
+mul-t129 c = record { fits = let h = slot-few (slotOf (shownBy (c .before .before .before .before .before))) in omega (arith, h) }
 
 element-set-from-net-2 : tie.Need-element-set-from-net-2 Inv-loop2 μ-loop2 Inv-loop3 μ-loop3 Inv-loop4 μ-loop4 Inv-loop μ-loop
 element-set-from-net-2 c = slot-few (slotOf (shownBy (c .before .before .before .before .before)))
@@ -986,8 +996,8 @@ tabledIn c = c .before .before
 thread-few : (c : Stays) → pickBy (tabledIn c .before) .thread < 8
 thread-few c = let h = picked-there (tabledIn c) in omega (arith, h, few-running (tabledIn c))
 
-mul-t76-2 : tie.Need-mul-t76-2 Inv-loop2 μ-loop2 Inv-loop3 μ-loop3 Inv-loop4 μ-loop4 Inv-loop μ-loop
-mul-t76-2 c = record { fits = let h = thread-few c in omega (arith, h) }
+mul-t77-2 : tie.Need-mul-t77-2 Inv-loop2 μ-loop2 Inv-loop3 μ-loop3 Inv-loop4 μ-loop4 Inv-loop μ-loop
+mul-t77-2 c = record { fits = let h = thread-few c in omega (arith, h) }
 
 element-set-from-net-3 : tie.Need-element-set-from-net-3 Inv-loop2 μ-loop2 Inv-loop3 μ-loop3 Inv-loop4 μ-loop4 Inv-loop μ-loop
 element-set-from-net-3 c = thread-few c
@@ -1025,8 +1035,8 @@ staysOf c = c .before .before .before
 fork-few : (c : Forks) → netBy (tabledIn (staysOf c) .before) .threadcount < 8
 fork-few c = threads-fit (tabledIn (staysOf c)) (T-of _ (c .before .before .if6 .taken)) .0
 
-mul-t142 : tie.Need-mul-t142 Inv-loop2 μ-loop2 Inv-loop3 μ-loop3 Inv-loop4 μ-loop4 Inv-loop μ-loop
-mul-t142 c = record { fits = let h = fork-few c in omega (arith, h) }
+mul-t143 : tie.Need-mul-t143 Inv-loop2 μ-loop2 Inv-loop3 μ-loop3 Inv-loop4 μ-loop4 Inv-loop μ-loop
+mul-t143 c = record { fits = let h = fork-few c in omega (arith, h) }
 
 element-set-from-net-4 : tie.Need-element-set-from-net-4 Inv-loop2 μ-loop2 Inv-loop3 μ-loop3 Inv-loop4 μ-loop4 Inv-loop μ-loop
 element-set-from-net-4 c = fork-few c
@@ -1155,6 +1165,7 @@ carry-out-spec =
     element-copy-out-v
     (λ c κs. search needs)
     judged-requires
+    (λ c κs. search needs)
     decide-requires
     put-answer-at-requires-2
     (λ c. search needs)
@@ -1165,7 +1176,7 @@ carry-out-spec =
     plus-requires-2
     (λ c κs. search needs)
     (λ c κs. search needs)
-    mul-t76
+    mul-t77
     element-set-from-thread
     mul-waiting
     element-set-from-waiting
@@ -1174,7 +1185,7 @@ carry-out-spec =
     (λ c. search needs)
     element-set-from-thread-2
     (λ c κs. search needs)
-    mul-t116
+    mul-t117
     element-set-from-net
     add-net
     sub-last
@@ -1188,7 +1199,7 @@ carry-out-spec =
     loop3-again
     (λ c κs. search needs)
     content-after-requires
-    mul-t128
+    mul-t129
     element-set-from-net-2
     sub-last-2
     loop4-holds
@@ -1201,10 +1212,10 @@ carry-out-spec =
     loop4-again
     loop-less-3
     loop-again-3
-    mul-t76-2
+    mul-t77-2
     element-set-from-net-3
     (λ c κs. search needs)
-    mul-t142
+    mul-t143
     element-set-from-net-4
     add-net-2
     loop-less-4

@@ -31,7 +31,7 @@ two-flags (v ∷ w ∷ []) e (suc (suc i)) = refl
 two-flags (v ∷ w ∷ x ∷ vs) e i = absurd (omega (arith, e))
 
 returns : tie.Need-returns
-returns c = let vs = c .before .before .args .t1 .relations in two-flags vs (search (long, needs))
+returns c = let t = c .before .before .args .t1 in (two-flags (t .relations) (search (long, needs)), search (long, needs))
 
 pub bound-tables-spec : {M : Type 1} → statement M
 bound-tables-spec = tie.close (tie.spec (λ c. search needs) (λ c. search needs) returns)
