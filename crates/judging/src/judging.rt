@@ -35,7 +35,7 @@ pub fn result_of(node: Node, source: Relation, flags: [bool; 16]) -> Got
     Got::Nothing
 }
 
-// In a pass over the rows. The columns of what the step makes of a row are a select's own, or the relation's; where T is not as long as the relation's,
+// Of a step with a predicate, in one pass over the rows. The columns of what the step makes of a row are a select's own, or the relation's; where T is not as long as the relation's,
 // check 16 comes first and no row is looked at.
 fn judged_rows(node: Node, source: Relation, vars: [Slot; 16]) -> Judged
     requires { ⌜ JudgeReady node source ⌝ }
@@ -76,7 +76,7 @@ fn judged_rows(node: Node, source: Relation, vars: [Slot; 16]) -> Judged
     }
 }
 
-// A step without a predicate speaks of no rows, so that none are judged.
+// Only steps with a predicate judge rows; for any other none are judged.
 pub fn judged(node: Node, source: Relation, vars: [Slot; 16]) -> Judged
     requires { ⌜ JudgeReady node source ⌝ }
     ensures { λ j. ⌜ JudgedIs node source vars j ⌝ }

@@ -200,12 +200,6 @@ turned-done g p x n u v says is h k =
       takenRoom = k .1;
     }
 
--- an answer told by another name
-pub gone-told :
-    {net : Net} {ps : List Pick} {n : Net} {u v : Total} {x y : Answer} → x ≡ y → GoneIs net ps (record { net = n; answer = x; added = u; taken = v }) →
-    GoneIs net ps (record { net = n; answer = y; added = u; taken = v })
-gone-told {net = net} {ps = ps} {n = n} {u = u} {v = v} e g = subst (λ (z : Answer). GoneIs net ps (record { net = n; answer = z; added = u; taken = v })) e g
-
 -- the sums have room for one pick more
 pub gone-room :
     (net : Net) (ps : List Pick) (i : ℕ) (g : Stood) → GoneIs net (take i ps) g → i < length ps → length ps < 2 ^ 63 → (g .added .high < 2 ^ 63) × (g .taken .high < 2 ^ 63)

@@ -12,10 +12,10 @@ use Rattle.values.specs.Lists.{all, find, first, orElse, removeAt}
 use Rattle.values.proofs.Bools.{and-l, and-r, not-T→false}
 use Rattle.rows.specs.Relations.{Relation}
 use Rattle.nets.specs.Nets as M
-use Rattle.nets.specs.Nets.{Kind, acting, other, badKind, code, acts}
+use Rattle.nets.specs.Nets.{other, badKind, code}
 use Rattle.nets.specs.View.{kinds, kindAt}
 use Rattle.acts.specs.Contracts.{putsRows}
-use Rattle.lists.specs.Contracts.{putContent, tablesWith}
+use Rattle.lists.specs.Contracts.{tablesWith}
 
 -- a byte of a kind that puts rows
 abbrev pub Puts : ℕ → Type 0

@@ -1,5 +1,5 @@
 -- Tables and threads stored at their places: one gives way to another, a new one goes last, a removed one closes up. Assumes nothing.
-use Prim.Native.Nat.{ℕ, zero, suc, _+_, _-_, _<_, _≤_}
+use Prim.Native.Nat.{ℕ, _+_, _-_, _<_, _≤_}
 use mathlib.Core.Path.{_≡_, refl, ap, sym, subst, _∙_}
 use mathlib.Core.Bool.{Bool, true, false, cond}
 use mathlib.Core.List.{List, [], _∷_, _++_, map, append-nil}
@@ -7,7 +7,7 @@ use mathlib.Core.Option.{Option, some}
 use native.Mathlib.Omega.{arith}
 use lib.Dec.{T, eqb, ltb}
 use lib.ListN.{length, getD, set, length-set}
-use borrow.Author.Tests.{lt-ltb, eqb-false}
+use borrow.Author.Tests.{lt-ltb}
 use Rattle.values.specs.declared.Site.{Site}
 use Rattle.values.proofs.Arrays.{map-set}
 use Rattle.values.proofs.Firsts.{firsts-at, firsts-push, firsts-set}
@@ -173,11 +173,6 @@ module _ (n : ℕ) (l : List Thread) (at : ℕ) (t fork : Thread) (low : at < n)
         firsts-push threadOf noThread n (set l at t) fork (omega (arith, length-set l at t, eight, room))
         ∙ ap (_++ (threadOf fork ∷ [])) put
         ∙ ap (λ (b : Bool). settle at (standing (threadOf t)) (threadsOf n l) ++ forksOf b fork) (sym e)
-
--- ── the code's test ──
-
-pub some-depth : (n : ℕ) → eqb n 0 ≡ false → 1 ≤ n
-some-depth n e = let d : n ≡ 0 → ⊥ = eqb-false n 0 e in omega arith
 
 -- ── what is stored in the thread ──
 

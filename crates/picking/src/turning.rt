@@ -42,7 +42,7 @@ ghost use Rattle.picklists.specs.PickBytes.{picksIn};
 ghost use Rattle.picklists.specs.AnswerBytes.{answersPut};
 ghost use Rattle.leaving.specs.Turns.{GoneIs, stoodBy};
 
-// Requires a sound net unless there is no pick; no pick answers 10. Every answer goes to the start of `out` if there is room for all of them, and none if there is not.
+// The net is to be sound if there is a pick; where there is none the answer is 10. The answers go to the start of `out` if there is room for all of them; else `out` stays as it is.
 pub fn carry_out(from: Net, picks: &[u8], out: &mut [u8]) -> Gone
     requires { ⌜ (2 ≤ length (now picks) → T (sound (view from))) ⌝ }
     ensures { λ r. ⌜ GoneIs from (picksIn (now (picks .entry))) (stoodBy from r) × (now (out .exit) ≡ putAll (answersPut (view from) (picksIn (now (picks .entry)))) (now (out .entry))) ⌝ }

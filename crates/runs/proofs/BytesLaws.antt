@@ -4,7 +4,6 @@ use mathlib.Core.Path.{_≡_, refl, ap, sym, subst, _∙_}
 use mathlib.Core.Bool.{Bool, true, false, cond}
 use mathlib.Core.List.{List, [], _∷_}
 use native.Mathlib.Omega.{arith}
-use lib.Dec.{T}
 use lib.ListN.{length, take}
 use lib.Seq.{take-all, length-take-le}
 use Rattle.nets.specs.declared.Pick.{Pick}
@@ -18,8 +17,7 @@ use Rattle.nets.specs.View.{view}
 use Rattle.values.proofs.Bools.{T-of, is-true}
 use Rattle.nets.proofs.AnswerLaws.{refuses-10}
 use Rattle.picklists.specs.PickBytes.{picksIn}
-use Rattle.leaving.specs.Turns.{allRefused, Stood, GoneIs}
-use Rattle.counts.specs.declared.Ran.{Ran}
+use Rattle.leaving.specs.Turns.{Stood, GoneIs}
 use Rattle.runs.specs.Runs.{RunIs}
 use Rattle.runs.proofs.TurnLaws.{run-made}
 

@@ -1,6 +1,6 @@
 -- `netrun::print_file` is safe: what loading accepts is sound. Assumes nothing.
 use Prim.Native.Nat.{ℕ}
-use mathlib.Core.Path.{_≡_, sym}
+use mathlib.Core.Path.{_≡_}
 use mathlib.Core.List.{List}
 use lib.Dec.{T}
 use borrow.Author.Needs.{needs}

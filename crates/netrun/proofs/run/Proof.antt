@@ -1,5 +1,5 @@
 -- `netrun::run` meets its contract: all picks of the list carried out, with room for all answers. Assumes nothing.
-use Prim.Native.Nat.{_*_, _≤_}
+use Prim.Native.Nat.{_*_}
 use mathlib.Core.Path.{_≡_, sym, ap, subst, _∙_}
 use mathlib.Core.List.{List}
 use native.Mathlib.Omega.{arith}
@@ -14,7 +14,6 @@ use Rattle.picklists.specs.PickBytes.{picksIn}
 use Rattle.picklists.specs.AnswerBytes.{answersPut}
 use Rattle.picklists.proofs.PickLaws.{picks-take}
 use Rattle.picklists.proofs.AnswerLaws.{put-begins}
-use Rattle.leaving.specs.Leaving.{leftBy}
 use Rattle.netrun.proofs.run.Statement.{statement}
 use Rattle.netrun.proofs.run.Tie as tie
 

@@ -1,6 +1,6 @@
 -- `deciding::deciding::decide_loop` meets its contract: the round's turn is the step's, and a done one changes the threads as the step does. Assumes nothing.
 use Prim.Native.Nat.{_<_}
-use mathlib.Core.Path.{_≡_, refl}
+use mathlib.Core.Path.{refl}
 use lib.Dec.{eqb, ltb}
 use borrow.Author.Needs.{needs}
 use borrow.Author.Tests.{ltb-true}

@@ -2,7 +2,7 @@
 -- there, its answer goes to its place in the buffer, and what is stored is the net after the step. Assumes nothing.
 use Prim.Native.Nat.{ℕ, _+_, _-_, _*_, _/_, _<_, _≤_, _^_}
 use mathlib.Core.Path.{_≡_, refl, sym, ap, subst, _∙_}
-use mathlib.Core.Bool.{Bool, true, false, cond}
+use mathlib.Core.Bool.{Bool, false, cond}
 use mathlib.Core.List.{List, [], _∷_, _++_, map}
 use mathlib.Core.Option.{some}
 use native.Mathlib.Omega.{arith}
@@ -30,7 +30,7 @@ use Rattle.nets.specs.Sound.{sound}
 use Rattle.nets.specs.Scenes.{sceneOf, top}
 use Rattle.nets.specs.Steps.{holds, settle}
 use Rattle.nets.specs.Accounts.{answers}
-use Rattle.nets.specs.Answers.{saidOf, StepIs}
+use Rattle.nets.specs.Answers.{saidOf}
 use Rattle.nets.specs.View.{noContent, noFrame, entryOf, noTable, noThread, noPick, kindAt, nodesOf, stackOf, variableOf, nodeOf, bindingsOf, threadOf, tablesOf, threadsOf, view}
 use Rattle.picklists.specs.PickBytes.{picksIn}
 use Rattle.picklists.proofs.PickLaws.{picks-length}
@@ -47,13 +47,13 @@ use Rattle.totals.specs.declared.Total.{Total}
 use Rattle.lists.specs.Contracts.{tablesWith}
 use Rattle.lists.proofs.KindTies.{either}
 use Rattle.leaving.specs.Turns.{Stood, stoodBy, GoneIs}
-use Rattle.leaving.proofs.TurnLaws.{Turned, gone-none, gone-again, gone-told, gone-room, said-here, turned-refused, turned-done}
+use Rattle.leaving.proofs.TurnLaws.{Turned, gone-none, gone-again, gone-room, said-here, turned-refused, turned-done}
 use Rattle.values.proofs.Bools.{T-of}
 use Rattle.values.proofs.RemoveLaws.{Closing, closing-starts, closing-more}
 use Rattle.picking.proofs.HeldLaws.{run-skips, loop-counts, loop-there}
 use Rattle.picking.proofs.SceneTies.{threadAt, few-tables, few-nodes, few-threads, few-aliases, thread-stacked}
 use Rattle.picking.proofs.ReadTies.{nodeRead, Read, situationIn, shown-content, thread-below, entries-there, number-below, read-meets, read-fine, frame-top, variable-read, slot-below, over-below}
-use Rattle.picking.proofs.PlainTies.{puts-step, binds-step, table-gives-way, tables-stay, table-created, table-dropped, thread-gone, thread-stays, thread-forks, some-depth, as-moved, bound-set, bound-none}
+use Rattle.picking.proofs.PlainTies.{puts-step, binds-step, table-gives-way, tables-stay, table-created, table-dropped, thread-gone, thread-stays, thread-forks, as-moved, bound-set, bound-none}
 use Rattle.picking.proofs.StoreTies.{past-refused, change-refused, tables-ready, threads-ready, netWith, done-is}
 use Rattle.picking.proofs.turning.carry_out.Statement.{statement}
 use Rattle.picking.proofs.turning.carry_out.Tie as tie

@@ -1,5 +1,5 @@
 -- `picklists::picks::pick_bytes` meets its contract: the bytes so far are the picks so far. Assumes nothing.
-use Prim.Native.Nat.{ℕ, _*_, _-_, _≤_}
+use Prim.Native.Nat.{_-_, _≤_}
 use mathlib.Core.Path.{_≡_, refl, sym, _∙_}
 use native.Mathlib.Omega.{arith}
 use lib.ListN.{length, length-set}

@@ -1,7 +1,6 @@
 -- `steps::stepping::count_if` meets its contract. Assumes nothing.
 use mathlib.Core.Path.{sym, ap}
 use mathlib.Core.Bool.{Bool, cond}
-use Prim.Native.Nat.{ℕ}
 use Rattle.steps.proofs.stepping.count_if.Statement.{statement}
 use Rattle.steps.proofs.stepping.count_if.Tie as tie
 
