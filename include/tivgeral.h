@@ -1,7 +1,7 @@
 /* Tivgeral for C: run a Klaim-DB net file and read off tables, answers or threads.
  *
- *     rt staticlib embedding                          makes target/staticlib/libembedding.a
- *     cc -Iinclude program.c target/staticlib/libembedding.a
+ *     rt staticlib tivgeral                          makes target/staticlib/libtivgeral.a
+ *     cc -Iinclude program.c target/staticlib/libtivgeral.a
  *
  * A Rust program declares the same functions with the same parameters in an `unsafe extern "C"` block.
  *

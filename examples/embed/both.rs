@@ -11,7 +11,7 @@ static IN_C: LazyLock<PathBuf> = LazyLock::new(|| {
     let program = Path::new(env!("CARGO_TARGET_TMPDIR")).join("embed");
     let compiled = Command::new("cc")
         .args(["-std=c99", "-Wall", "-Wextra", "-Werror", "-Iinclude", "examples/embed/embed.c"])
-        .args(["target/staticlib/libembedding.a", "-o"])
+        .args(["target/staticlib/libtivgeral.a", "-o"])
         .arg(&program)
         .current_dir(root())
         .output()

@@ -29,7 +29,7 @@ fn link_proved() {
     let root = Path::new(env!("CARGO_MANIFEST_DIR")).join("../..");
     let directory = root.join("target/staticlib");
     println!("cargo::rustc-link-search=native={}", directory.display());
-    for name in ["bench", "embedding"] {
+    for name in ["bench", "tivgeral"] {
         let library = directory.join(format!("lib{name}.a"));
         assert!(
             library.is_file(),

@@ -10,13 +10,13 @@ fn main() {
     }
     let root = Path::new(env!("CARGO_MANIFEST_DIR")).join("../..");
     let directory = root.join("target/staticlib");
-    let library = directory.join("libembedding.a");
+    let library = directory.join("libtivgeral.a");
     assert!(
         library.is_file(),
-        "{} is not there; make it with `rt staticlib embedding` at the root of the repository",
+        "{} is not there; make it with `rt staticlib tivgeral` at the root of the repository",
         library.display()
     );
     println!("cargo::rerun-if-changed={}", library.display());
     println!("cargo::rustc-link-search=native={}", directory.display());
-    println!("cargo::rustc-link-lib=static=embedding");
+    println!("cargo::rustc-link-lib=static=tivgeral");
 }

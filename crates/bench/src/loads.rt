@@ -3,8 +3,8 @@ use crate::summing::with;
 use crate::summing::with_net;
 use files::Loaded;
 use files::Verdict;
+use load::loading::load;
 use nets::Node;
-use records::loading::load;
 
 pub fn with_nodes(before: u64, nodes: [Node; 128], count: usize) -> u64 {
     let mut sum = before;

@@ -2,8 +2,8 @@
 use crate::Chained;
 use crate::picking::EACH_THREAD;
 use crate::running::chain;
+use load::loading::load;
 use nets::Net;
-use records::loading::load;
 
 // Aliases and tables of one net, nodes and threads of the other.
 pub fn joined(tables: Net, program: Net) -> Net {

@@ -2,12 +2,12 @@
 use crate::starting::start;
 use crate::summing::with;
 use crate::summing::with_net;
-use counts::Ran;
+use net_sound::whole::sound_net;
 use nets::Net;
 use nets::Pick;
+use run_state::Ran;
 use runs::bytes::run_bytes;
 use runs::running::run;
-use soundness::whole::sound_net;
 ghost use Prim.Native.Nat.{_≤_};
 ghost use lib.ListN.{take};
 ghost use Rattle.runs.specs.Runs.{RunIs};

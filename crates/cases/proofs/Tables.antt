@@ -9,7 +9,7 @@ use Rattle.rows.specs.declared.Relation.{Relation}
 use Rattle.rows.specs.declared.Operands.{Operands}
 use Rattle.rows.specs.Relations as M
 use Rattle.rows.specs.View.{relationOf, Short}
-use Rattle.changes.specs.Contracts.{Holds}
+use Rattle.row_change.specs.Contracts.{Holds}
 use Rattle.cases.specs.Kld.{Kld}
 
 pub short : {o t : Operands} → o ≡ t → t .count ≡ 4 → Short o

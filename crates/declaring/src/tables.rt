@@ -1,17 +1,17 @@
 // Table records, group 2: checks 4, 6 and 8.
-use forms::forms::columns_in;
-use forms::forms::kinds_in;
-use forms::forms::name_in;
-use forms::forms::site_in;
-use forms::forms::table_form;
+use load_walk::Reach;
+use load_walk::TablesRead;
+use load_walk::blanks::blank_relation;
+use load_walk::blanks::blank_table;
+use load_walk::walking::next_group;
 use nets::Table;
 use nets::tables::find_table;
+use record_forms::forms::columns_in;
+use record_forms::forms::kinds_in;
+use record_forms::forms::name_in;
+use record_forms::forms::site_in;
+use record_forms::forms::table_form;
 use rows::Relation;
-use walks::Reach;
-use walks::TablesRead;
-use walks::blanks::blank_relation;
-use walks::blanks::blank_table;
-use walks::walking::next_group;
 ghost use mathlib.Core.Path.{_≡_};
 ghost use mathlib.Core.Bool.{not};
 ghost use mathlib.Core.List.{[], _∷_};
@@ -23,10 +23,10 @@ ghost use Rattle.rows.specs.View.{Shaped};
 ghost use Rattle.nets.specs.Tables.{tableAt};
 ghost use Rattle.nets.specs.Steps.{check};
 ghost use Rattle.nets.specs.View.{tableOf, tablesOf};
-ghost use Rattle.codec.specs.Bytes.{part, columnsIn};
-ghost use Rattle.codec.specs.Decoding.{siteAt, nameIn, tableForm};
+ghost use Rattle.record_bytes.specs.Bytes.{part, columnsIn};
+ghost use Rattle.record_bytes.specs.Decoding.{siteAt, nameIn, tableForm};
 ghost use Rattle.files.specs.Loading.{bare};
-ghost use Rattle.walks.specs.Walking.{putTables, AllShaped, Leads, Going, formThen};
+ghost use Rattle.load_walk.specs.Walking.{putTables, AllShaped, Leads, Going, formThen};
 
 // The number of its fault, 0 for none.
 pub fn table_fault(tables: [Table; 8], count: usize, r: &[u8]) -> u8

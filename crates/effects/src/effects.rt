@@ -1,24 +1,24 @@
 // What a step that is no loop leaves: the table's content, the relation that it binds, and the variables.
-use acts::Judged;
-use changes::changes::append;
-use changes::changes::push;
-use changes::sifting::sifted;
-use evaluating::eval::bind_to;
-use fitting::fit::draft_of;
-use fitting::fit::row_of;
 use nets::Node;
 use nets::kinds::is_select;
+use row_change::changes::append;
+use row_change::changes::push;
+use row_change::sifting::sifted;
+use row_fit::fit::draft_of;
+use row_fit::fit::row_of;
 use rows::Relation;
+use step_effect::Judged;
+use value_eval::eval::bind_to;
 use values::Slot;
 ghost use mathlib.Core.Path.{_≡_};
 ghost use mathlib.Core.Bool.{false};
 ghost use lib.Dec.{T};
 ghost use Rattle.values.specs.Operands.{varsOf};
-ghost use Rattle.changes.specs.Contracts.{Holds};
+ghost use Rattle.row_change.specs.Contracts.{Holds};
 ghost use Rattle.nets.specs.Nets.{bindsRelation};
 ghost use Rattle.nets.specs.View.{kindAt};
-ghost use Rattle.acts.specs.Effects.{contentBy, boundBy, varsBy};
-ghost use Rattle.acts.specs.Contracts.{partsOf, putsRows, Doing, ActReady, JudgedIs, isStep};
+ghost use Rattle.step_effect.specs.Effects.{contentBy, boundBy, varsBy};
+ghost use Rattle.step_effect.specs.Contracts.{partsOf, putsRows, Doing, ActReady, JudgedIs, isStep};
 
 pub fn content_after(
     node: Node,

@@ -9,8 +9,8 @@ use lib.ListN.{length, replicate, length-append}
 use lib.Seq.{take-at, drop-at}
 use Rattle.values.specs.Lists.{all}
 use Rattle.values.proofs.Bools.{and-l, and-r, not-T→false}
-use Rattle.codec.specs.Bytes.{parts, leading, thenOnly}
-use Rattle.stores.specs.Bytes.{endToEnd}
+use Rattle.record_bytes.specs.Bytes.{parts, leading, thenOnly}
+use Rattle.value_bytes.specs.Bytes.{endToEnd}
 
 -- ── end to end ──
 

@@ -9,8 +9,8 @@ use Rattle.values.specs.Lists.{all}
 use Rattle.values.proofs.Bools.{and-l, and-r}
 use Rattle.values.proofs.ListLaws.{all-map}
 use Rattle.nets.specs.Steps.{Check}
-use Rattle.codec.specs.Bytes.{parts}
-use Rattle.codec.specs.Decoding.{Record, Decoded, good, bad, judged, recordIn, wholeRecords, recordsIn}
+use Rattle.record_bytes.specs.Bytes.{parts}
+use Rattle.record_bytes.specs.Decoding.{Record, Decoded, good, bad, judged, recordIn, wholeRecords, recordsIn}
 use Rattle.files.specs.Loading.{Progress, nothingRead, loadChecks, advance, failed, failing, Reading, stopped, finished, proceed, readAll, firstBadLink, LoadAnswer, rejected, accepted, linked, finish, load, loadBytes}
 
 abbrev pub isNumber : ℕ → Bool

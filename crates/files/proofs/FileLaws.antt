@@ -15,7 +15,7 @@ use Rattle.nets.specs.Sound.{sound}
 use Rattle.nets.specs.Accounts.{after, post, times, standing}
 use Rattle.nets.proofs.KeepSound.{run-sound}
 use Rattle.nets.proofs.RunLaws.{demand3}
-use Rattle.codec.specs.Decoding.{wholeRecords, recordsIn}
+use Rattle.record_bytes.specs.Decoding.{wholeRecords, recordsIn}
 use Rattle.files.specs.Loading.{LoadAnswer, rejected, accepted, load, loadBytes, isAccepted, netLoaded}
 use Rattle.files.specs.FileTables.{loadedCount}
 use Rattle.files.specs.FileDemand3.{fileNet, fileAdded, FileLoaded, EveryFile}

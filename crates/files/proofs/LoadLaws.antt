@@ -19,7 +19,7 @@ use Rattle.nets.specs.Sound.{sound, fieldsOkAs, linksOkAs, nodeOkAs, nodesOk, t
 use Rattle.nets.specs.Steps.{Check}
 use Rattle.nets.proofs.StepLaws.{Passed}
 use Rattle.nets.proofs.SoundLaws.{whole}
-use Rattle.codec.specs.Decoding.{Record, aliasRecord, tableRecord, rowRecord, nodeRecord, startRecord, pickRecord, Decoded, good, bad}
+use Rattle.record_bytes.specs.Decoding.{Record, aliasRecord, tableRecord, rowRecord, nodeRecord, startRecord, pickRecord, Decoded, good, bad}
 use Rattle.files.specs.Loading.{Progress, emptyNet, nothingRead, isNew, rowFits, hasRoom, loadChecks, fresh, put, advance, failed, failing, Reading, stopped, finished, proceed, readAll, badLink, firstBadLink, LoadAnswer, rejected, accepted, linked, finish, load}
 use Rattle.files.specs.FileTables.{rowsFor1, rowsFor, columnsFor1, columnsFor, orLater, tableWith}
 use Rattle.files.proofs.RecordLaws.{recordOk, decodedOk}

@@ -20,7 +20,7 @@ use Rattle.nets.specs.Tables.{isAt, tableAt, rowsOf, columnsOf, rowsFit, distin
 use Rattle.nets.specs.Sound.{aliasOk, aliasesDiffer, sameAlias, tableOk}
 use Rattle.nets.proofs.TableLaws.{sameKey, key-site, key-name, key-refl, none-of, change-all, change-length, change-distinct, change-same, change-other, append-distinct, append-same, append-other}
 use Rattle.nets.proofs.KeepTables.{rows-ok, table-range}
-use Rattle.codec.specs.Decoding.{Record, aliasRecord, tableRecord, rowRecord, nodeRecord, startRecord, pickRecord}
+use Rattle.record_bytes.specs.Decoding.{Record, aliasRecord, tableRecord, rowRecord, nodeRecord, startRecord, pickRecord}
 use Rattle.files.specs.Loading.{isNew, rowFits, hasRoom, bare, put}
 use Rattle.files.specs.FileTables.{rowsFor1, columnsFor1, orLater, tableWith}
 use Rattle.files.proofs.RecordLaws.{recordOk}

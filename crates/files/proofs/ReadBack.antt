@@ -18,7 +18,7 @@ use Rattle.nets.specs.Tables.{isAt, tableAt, rowsOf, columnsOf, rowsFit, distin
 use Rattle.nets.specs.Sound.{tableOk, sound}
 use Rattle.nets.proofs.TableLaws.{key-refl}
 use Rattle.nets.proofs.SoundLaws.{Clauses, clauses}
-use Rattle.codec.specs.Decoding.{Record, aliasRecord, tableRecord, rowRecord, nodeRecord, startRecord, pickRecord, Decoded, good, bad}
+use Rattle.record_bytes.specs.Decoding.{Record, aliasRecord, tableRecord, rowRecord, nodeRecord, startRecord, pickRecord, Decoded, good, bad}
 use Rattle.files.specs.Loading.{Progress, groupOf, isNew, rowFits, hasRoom, loadChecks, put, advance, Reading, readAll, firstBadLink, accepted, linked, finish, load}
 use Rattle.files.specs.RoundTrip.{tablesOnly}
 

@@ -12,8 +12,8 @@ use Rattle.values.proofs.ListLaws.{all-map, all-map-of}
 use Rattle.values.proofs.RangeLaws.{values-ok}
 use Rattle.nets.specs.Sound.{variableOk, aliasOk, columnsOk, operandsOk, fieldsOkAs}
 use Rattle.nets.proofs.BindingLaws.{constants-ok}
-use Rattle.codec.specs.Bytes.{part, parts, operandsIn, columnsIn}
-use Rattle.codec.specs.Decoding.{Record, aliasRecord, tableRecord, rowRecord, nodeRecord, startRecord, pickRecord, Decoded, good, bad, siteAt, nameIn, aliasIn, rowIn, nodeIn, aliasForm, tableForm, rowForm, nodeBytes, nodeForm, startForm, judged, recordIn, wholeRecords, recordsIn}
+use Rattle.record_bytes.specs.Bytes.{part, parts, operandsIn, columnsIn}
+use Rattle.record_bytes.specs.Decoding.{Record, aliasRecord, tableRecord, rowRecord, nodeRecord, startRecord, pickRecord, Decoded, good, bad, siteAt, nameIn, aliasIn, rowIn, nodeIn, aliasForm, tableForm, rowForm, nodeBytes, nodeForm, startForm, judged, recordIn, wholeRecords, recordsIn}
 
 abbrev pub recordOk : Record → Bool
 recordOk (aliasRecord a) = aliasOk a

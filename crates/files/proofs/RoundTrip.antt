@@ -16,11 +16,11 @@ use Rattle.nets.specs.Nets.{Table}
 use Rattle.nets.specs.Tables.{rowsFit}
 use Rattle.nets.specs.Sound.{tableOk}
 use Rattle.nets.proofs.SoundLaws.{Clauses, clauses}
-use Rattle.codec.specs.Bytes.{parts}
-use Rattle.codec.specs.Decoding.{recordIn, wholeRecords, recordsIn}
+use Rattle.record_bytes.specs.Bytes.{parts}
+use Rattle.record_bytes.specs.Decoding.{recordIn, wholeRecords, recordsIn}
 use Rattle.files.specs.Loading.{load, loadBytes}
-use Rattle.codec.specs.Encoding.{tableBytes, rowBytes}
-use Rattle.stores.specs.Bytes.{endToEnd}
+use Rattle.record_bytes.specs.Encoding.{tableBytes, rowBytes}
+use Rattle.value_bytes.specs.Bytes.{endToEnd}
 use Rattle.files.specs.Writing.{rowsBytes, allRows, written}
 use Rattle.files.specs.RoundTrip.{tablesOnly, WrittenIsRead}
 use Rattle.files.proofs.EndToEnd.{sized, ends-length, ends-parts}

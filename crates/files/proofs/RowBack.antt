@@ -19,10 +19,10 @@ use Rattle.values.proofs.Bools.{and-l, and-r, and-in, is-true, T-of}
 use Rattle.values.proofs.ListLaws.{all-append, all-map, all-map-of}
 use Rattle.rows.specs.Relations.{Row}
 use Rattle.nets.specs.Sound.{isAbsent, tagged, operandsOk}
-use Rattle.codec.specs.Bytes.{part, parts, zeros, thenOnly, leading, operandForm, operandIn, operandsForm, operandsIn}
-use Rattle.codec.specs.Decoding.{rowRecord, good, siteAt, nameIn, rowIn, rowForm, judged, recordIn}
-use Rattle.codec.specs.Encoding.{operandBytes, tupleBytes, rowBytes}
-use Rattle.stores.specs.Bytes.{endToEnd}
+use Rattle.record_bytes.specs.Bytes.{part, parts, zeros, thenOnly, leading, operandForm, operandIn, operandsForm, operandsIn}
+use Rattle.record_bytes.specs.Decoding.{rowRecord, good, siteAt, nameIn, rowIn, rowForm, judged, recordIn}
+use Rattle.record_bytes.specs.Encoding.{operandBytes, tupleBytes, rowBytes}
+use Rattle.value_bytes.specs.Bytes.{endToEnd}
 use Rattle.files.proofs.EndToEnd.{sized, ends-length, ends-parts, leading-some, then-some, leading-none, then-none}
 use Rattle.files.proofs.ValueBack.{text-back, asOperand, value-length, value-form, value-back, value-tagged, values-given}
 

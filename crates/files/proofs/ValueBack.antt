@@ -18,9 +18,9 @@ use Rattle.values.specs.Values.{in32, bytesOf, isText, inRange}
 use Rattle.values.specs.Operands.{valuesIn, eval}
 use Rattle.values.proofs.Bools.{and-l}
 use Rattle.nets.specs.Sound.{tagged}
-use Rattle.codec.specs.Bytes.{little, textIn, signed, operandForm, operandIn}
-use Rattle.codec.specs.Encoding.{bits32, operandBytes}
-use Rattle.stores.specs.Bytes.{littleBytes}
+use Rattle.record_bytes.specs.Bytes.{little, textIn, signed, operandForm, operandIn}
+use Rattle.record_bytes.specs.Encoding.{bits32, operandBytes}
+use Rattle.value_bytes.specs.Bytes.{littleBytes}
 
 -- the four digits of a number in base 256
 digits-of : (n a b c p q r s : ℕ) → a * 256 + p ≡ n → b * 256 + q ≡ a → c * 256 + r ≡ b → s ≡ c → p + 256 * q + 65536 * r + 16777216 * s ≡ n

@@ -13,8 +13,8 @@ use Rattle.values.specs.Operands.{bind}
 use Rattle.rows.specs.Relations.{Row, Columns}
 use Rattle.rows.specs.Matching.{matches, hits}
 use Rattle.rows.specs.Fit.{draft, sameColumns}
-use Rattle.changes.specs.Changes.{tupleFor, changes, selectedColumns}
-use Rattle.changes.specs.Aggregates.{aggregated}
+use Rattle.row_change.specs.Changes.{tupleFor, changes, selectedColumns}
+use Rattle.row_change.specs.Aggregates.{aggregated}
 use Rattle.nets.specs.Nets.{Table, code, Node, Net, Outcome}
 use Rattle.nets.specs.Tables.{distinct, change}
 use Rattle.nets.specs.Sound.{isEmpty, fieldsOkAs, linksOkAs, sound}
@@ -24,10 +24,10 @@ use Rattle.nets.specs.Accounts.{nextNet, after, answers}
 use Rattle.nets.specs.View.{kindAt}
 use Rattle.nets.specs.Examples as Nets
 use Rattle.nets.specs.Examples.{CARD, isRefused, isDoneWith}
-use Rattle.codec.specs.Bytes.{operandForm, operandIn, operandsForm, operandsIn}
-use Rattle.codec.specs.Decoding.{nodeIn, aliasForm, tableForm, rowForm, nodeBytes, startForm, pickForm, recordIn, recordsIn}
+use Rattle.record_bytes.specs.Bytes.{operandForm, operandIn, operandsForm, operandsIn}
+use Rattle.record_bytes.specs.Decoding.{nodeIn, aliasForm, tableForm, rowForm, nodeBytes, startForm, pickForm, recordIn, recordsIn}
 use Rattle.files.specs.Loading.{loadChecks, put, advance, readAll, firstBadLink, load, LoadAnswer, rejected, accepted, loadBytes, netLoaded, picksLoaded}
-use Rattle.codec.specs.Encoding.{tupleBytes, tableBytes, rowBytes}
+use Rattle.record_bytes.specs.Encoding.{tupleBytes, tableBytes, rowBytes}
 use Rattle.files.specs.Writing.{Wrote, notWritten, wrote, written, write, bufferAfter}
 
 -- ── what loading answers ──

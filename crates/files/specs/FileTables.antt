@@ -9,7 +9,7 @@ use Rattle.values.specs.Lists.{keep, count}
 use Rattle.values.specs.Values.{sameSite, sameRow}
 use Rattle.rows.specs.Relations.{Row, Columns}
 use Rattle.nets.specs.Nets.{Table}
-use Rattle.codec.specs.Decoding.{Record, aliasRecord, tableRecord, rowRecord, nodeRecord, startRecord, pickRecord, Decoded, good, bad, recordsIn}
+use Rattle.record_bytes.specs.Decoding.{Record, aliasRecord, tableRecord, rowRecord, nodeRecord, startRecord, pickRecord, Decoded, good, bad, recordsIn}
 
 -- the row that a record gives for a site and name
 abbrev pub rowsFor1 : Site → ℕ → Record → List Row

@@ -14,7 +14,7 @@ use Rattle.nets.specs.Nets.{Table, toRun, Thread, Net}
 use Rattle.nets.specs.Tables.{tableAt, rowsOf, columnsOf, change}
 use Rattle.nets.specs.Sound.{sameAlias, linksOkAs}
 use Rattle.nets.specs.Steps.{Check, check}
-use Rattle.codec.specs.Decoding.{Record, aliasRecord, tableRecord, rowRecord, nodeRecord, startRecord, pickRecord, Decoded, good, bad, wholeRecords, recordsIn}
+use Rattle.record_bytes.specs.Decoding.{Record, aliasRecord, tableRecord, rowRecord, nodeRecord, startRecord, pickRecord, Decoded, good, bad, wholeRecords, recordsIn}
 
 -- ── what has been read ──
 

@@ -6,8 +6,8 @@ use lib.Dec.{leb}
 use lib.ListN.{length, drop}
 use Rattle.nets.specs.Nets.{Table, Net}
 use Rattle.nets.specs.Sound.{sound}
-use Rattle.codec.specs.Encoding.{tableBytes, rowBytes}
-use Rattle.stores.specs.Bytes.{endToEnd}
+use Rattle.record_bytes.specs.Encoding.{tableBytes, rowBytes}
+use Rattle.value_bytes.specs.Bytes.{endToEnd}
 
 abbrev pub rowsBytes : Table → List (List ℕ)
 rowsBytes t = map (rowBytes (t .site) (t .name)) (t .content .rows)

@@ -15,11 +15,11 @@ use Rattle.nets.specs.declared.Table.{Table}
 use Rattle.nets.specs.Nets as M
 use Rattle.nets.specs.Sound.{tableOk}
 use Rattle.nets.specs.View.{noTable, tableOf, tablesOf}
-use Rattle.codec.specs.Encoding.{tableBytes, rowBytes}
-use Rattle.stores.specs.Bytes.{endToEnd}
-use Rattle.stores.proofs.Stores.{ends-append, ends-length}
+use Rattle.record_bytes.specs.Encoding.{tableBytes, rowBytes}
+use Rattle.value_bytes.specs.Bytes.{endToEnd}
+use Rattle.value_bytes.proofs.Stores.{ends-append, ends-length}
 use Rattle.files.specs.Writing.{rowsBytes, allRows, written}
-use Rattle.fields.proofs.WriteLaws.{row-length, table-length}
+use Rattle.write_fields.proofs.WriteLaws.{row-length, table-length}
 
 -- ── counts of a table in its ranges ──
 

@@ -1,8 +1,8 @@
 // All tables of a net, then their rows table by table, as records in a lent buffer that has room for them.
 use files::Written;
 use nets::Table;
-use puts::puts::put_rows;
-use puts::puts::put_table;
+use write_puts::puts::put_rows;
+use write_puts::puts::put_table;
 ghost use mathlib.Core.Path.{_≡_};
 ghost use mathlib.Core.List.{map};
 ghost use Prim.Native.Nat.{_*_, _≤_};
@@ -11,8 +11,8 @@ ghost use lib.ListN.{length};
 ghost use Rattle.values.specs.Lists.{all};
 ghost use Rattle.nets.specs.Sound.{tableOk};
 ghost use Rattle.nets.specs.View.{tablesOf};
-ghost use Rattle.codec.specs.Encoding.{tableBytes};
-ghost use Rattle.stores.specs.Bytes.{endToEnd};
+ghost use Rattle.record_bytes.specs.Encoding.{tableBytes};
+ghost use Rattle.value_bytes.specs.Bytes.{endToEnd};
 ghost use Rattle.files.specs.Writing.{allRows, written, writtenAnswer, bufferAfter};
 ghost use Rattle.files.specs.Engine.{saidWritten};
 ghost use Rattle.filling.specs.WriteCall.{ifRoom};

@@ -1,18 +1,18 @@
 // A net is handed to a step and to writing, and a line printed: the answers, and whether the net and the buffer stayed as they were.
-use comparing::whole::same_net;
 use files::Written;
-use forging::exchanged::exchanged;
 use nets::Answer;
 use nets::Net;
 use nets::Pick;
 use nets::Stepped;
-use printing::lines::put_answer;
-use printing::pages::put_byte;
-use printing::pages::put_bytes;
-use printing::pages::put_decimal;
-use printing::pages::write_page;
+use print_lines::lines::put_answer;
+use print_lines::pages::put_byte;
+use print_lines::pages::put_bytes;
+use print_lines::pages::put_decimal;
+use print_lines::pages::write_page;
 use steps::stepping::step;
-use writing::writing::write;
+use test_compare::whole::same_net;
+use test_nets::exchanged::exchanged;
+use write::writing::write;
 ghost use Prim.Native.Nat.{_≤_};
 
 fn put_same(page: &mut [u8; 4096], at: usize, same: bool) -> usize

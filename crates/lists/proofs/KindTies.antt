@@ -14,7 +14,7 @@ use Rattle.rows.specs.Relations.{Relation}
 use Rattle.nets.specs.Nets as M
 use Rattle.nets.specs.Nets.{other, badKind, code}
 use Rattle.nets.specs.View.{kinds, kindAt}
-use Rattle.acts.specs.Contracts.{putsRows}
+use Rattle.step_effect.specs.Contracts.{putsRows}
 use Rattle.lists.specs.Contracts.{tablesWith}
 
 -- a byte of a kind that puts rows

@@ -5,7 +5,7 @@ use rows::Relation;
 use values::Site;
 ghost use mathlib.Core.Path.{_≡_};
 ghost use mathlib.Core.List.{[]};
-ghost use Rattle.acts.specs.Contracts.{putsRows};
+ghost use Rattle.step_effect.specs.Contracts.{putsRows};
 ghost use Rattle.nets.specs.View.{kindAt, tableOf, nodeOf};
 
 // A table of a create, with no rows.

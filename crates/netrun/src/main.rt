@@ -1,19 +1,19 @@
 // Reads a file of records on standard input, carries out its picks, and prints each pick's answer and then the tables left.
 use files::Verdict;
-use leaving::Gone;
 use libc::STDIN_FILENO;
+use load::loading::load;
 use nets::Net;
 use nets::Pick;
-use picking::turning::carry_out;
-use picklists::picks::pick_bytes;
-use printing::faults::print_fault;
-use printing::faults::print_long;
-use printing::input::count_rest;
-use printing::lines::put_picks;
-use printing::lines::put_tables;
-use printing::pages::at_most;
-use printing::pages::write_page;
-use records::loading::load;
+use print_lines::faults::print_fault;
+use print_lines::faults::print_long;
+use print_lines::input::count_rest;
+use print_lines::lines::put_picks;
+use print_lines::lines::put_tables;
+use print_lines::pages::at_most;
+use print_lines::pages::write_page;
+use step_bytes::picks::pick_bytes;
+use step_left::Gone;
+use step_picks::turning::carry_out;
 ghost use mathlib.Core.Path.{_≡_};
 ghost use Prim.Native.Nat.{_*_, _≤_};
 ghost use lib.Dec.{T};
@@ -21,8 +21,8 @@ ghost use lib.ListN.{length, take};
 ghost use Rattle.nets.specs.Sound.{sound};
 ghost use Rattle.nets.specs.Accounts.{after};
 ghost use Rattle.nets.specs.View.{view};
-ghost use Rattle.picklists.specs.AnswerBytes.{answersPut};
-ghost use Rattle.leaving.specs.Leaving.{leftBy};
+ghost use Rattle.step_bytes.specs.AnswerBytes.{answersPut};
+ghost use Rattle.step_left.specs.Leaving.{leftBy};
 
 // What the first `count` picks leave, and all their answers.
 fn run(start: Net, picks: [Pick; 256], count: usize, answers: &mut [u8]) -> Gone

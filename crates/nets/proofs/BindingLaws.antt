@@ -19,10 +19,10 @@ use Rattle.values.proofs.RangeLaws.{Ranged}
 use Rattle.rows.specs.Relations.{Columns, Relation}
 use Rattle.rows.specs.Matching.{hits}
 use Rattle.rows.specs.Fit.{fitsRow}
-use Rattle.changes.specs.Changes.{columnFor, kindsOf, tupleFor, selectedColumns, selection}
-use Rattle.changes.proofs.SelectLaws.{isKind, hasKind, variable-kind, selected-kinds, selection-fits}
-use Rattle.changes.proofs.RangeLaws.{selected-ok}
-use Rattle.changes.proofs.AggregateLaws.{aggregated-ok}
+use Rattle.row_change.specs.Changes.{columnFor, kindsOf, tupleFor, selectedColumns, selection}
+use Rattle.row_change.proofs.SelectLaws.{isKind, hasKind, variable-kind, selected-kinds, selection-fits}
+use Rattle.row_change.proofs.RangeLaws.{selected-ok}
+use Rattle.row_change.proofs.AggregateLaws.{aggregated-ok}
 use Rattle.nets.specs.Nets.{Kind}
 use Rattle.nets.specs.Sound.{variableOk, columnsOk, relationOk, bindingsOk, tagged, operandsOk}
 use Rattle.nets.specs.Scenes.{Scene, vars, template, source, hitRows, result}

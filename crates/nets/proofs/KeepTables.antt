@@ -18,8 +18,8 @@ use Rattle.values.proofs.Bools.{and-l, and-r, and-in}
 use Rattle.values.proofs.ListLaws.{all-filter, all-append, filter-length, find-all}
 use Rattle.rows.specs.Relations.{Row, Columns}
 use Rattle.rows.specs.Matching.{hits, unselected}
-use Rattle.changes.specs.Changes.{renewed, updated}
-use Rattle.changes.proofs.RangeLaws.{tuple-ok, updated-ok}
+use Rattle.row_change.specs.Changes.{renewed, updated}
+use Rattle.row_change.proofs.RangeLaws.{tuple-ok, updated-ok}
 use Rattle.nets.specs.declared.Alias.{Alias}
 use Rattle.nets.specs.Nets.{Table, Kind, acting, other, insert, insertTable, delete, update, create, drop, Node}
 use Rattle.nets.specs.Tables.{columnsOf, withRows}

@@ -17,8 +17,8 @@ use Rattle.rows.specs.Relations.{Row, Columns}
 use Rattle.rows.specs.Matching.{hits, selected, unselected}
 use Rattle.rows.specs.Fit.{fits, fitsRow, relationFits, sameColumns}
 use Rattle.rows.proofs.FitLaws.{fits-row, same-columns}
-use Rattle.changes.specs.Changes.{tupleFor, changes, renewed, updated}
-use Rattle.changes.proofs.FitLaws.{renewed-fits}
+use Rattle.row_change.specs.Changes.{tupleFor, changes, renewed, updated}
+use Rattle.row_change.proofs.FitLaws.{renewed-fits}
 use Rattle.nets.specs.Nets.{Table, Kind, acting, other, insert, insertTable, delete, update, create, drop, acts, needsTable, isCreate}
 use Rattle.nets.specs.Tables.{tableAt, rowsOf, columnsOf, distinct, rowsFit, change, remove}
 use Rattle.nets.specs.Scenes.{Scene, vars, template, site, table, source, ownDraft}

@@ -9,7 +9,7 @@ use Rattle.values.specs.Values.{sameSite, sameRow}
 use Rattle.values.specs.Operands.{valuesIn}
 use Rattle.rows.specs.Relations.{Row}
 use Rattle.rows.specs.Matching.{selected}
-use Rattle.changes.specs.Changes.{changes, tupleFor}
+use Rattle.row_change.specs.Changes.{changes, tupleFor}
 use Rattle.nets.specs.declared.Pick.{Pick}
 use Rattle.nets.specs.Nets.{acts, Kind, acting, other, insert, insertTable, delete, update, create, drop, Net, Outcome, refused, done}
 use Rattle.nets.specs.Tables.{tableAt, rowsOf, columnsOf}

@@ -21,8 +21,8 @@ use Rattle.rows.specs.declared.Function.the-variants.{Unused, Sum, Least}
 use Rattle.rows.specs.Relations.{Row, Columns, Relation, noRelation}
 use Rattle.rows.specs.Matching.{matches, satisfies, hits}
 use Rattle.rows.specs.Fit.{draft}
-use Rattle.changes.specs.Changes.{tupleFor, changes, selectedColumns}
-use Rattle.changes.specs.Aggregates.{aggregated}
+use Rattle.row_change.specs.Changes.{tupleFor, changes, selectedColumns}
+use Rattle.row_change.specs.Aggregates.{aggregated}
 use Rattle.nets.specs.declared.Pick.{Pick}
 use Rattle.nets.specs.Nets.{Table, Kind, acting, other, insert, insertTable, delete, update, select, aggregate, Node, toRun, Bindings, Net, Outcome, refused, done}
 use Rattle.nets.specs.Tables.{tableAt, distinct, change}

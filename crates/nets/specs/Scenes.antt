@@ -17,7 +17,7 @@ use Rattle.values.specs.Operands.{Vars, eval}
 use Rattle.rows.specs.Relations.{Row, Relation, noRelation}
 use Rattle.rows.specs.Matching.{matches, selected}
 use Rattle.rows.specs.Fit.{Draft, draft}
-use Rattle.changes.specs.Aggregates.{aggregated}
+use Rattle.row_change.specs.Aggregates.{aggregated}
 use Rattle.nets.specs.declared.Pick.{Pick}
 use Rattle.nets.specs.declared.Alias.{Alias}
 use Rattle.nets.specs.Nets.{Table, readsRelation, isLoop, Node, Entry, toRun, visiting, Thread, Net}

@@ -12,8 +12,8 @@ use Rattle.values.specs.Operands.{Vars, isGot, valuesIn, reads, formals, bind}
 use Rattle.rows.specs.Relations.{Relation}
 use Rattle.rows.specs.Matching.{matches1, rowVars, hits, unselected}
 use Rattle.rows.specs.Fit.{fits, sameColumns}
-use Rattle.changes.specs.Changes.{changes, updated, selection}
-use Rattle.changes.specs.Aggregates.{columnFits}
+use Rattle.row_change.specs.Changes.{changes, updated, selection}
+use Rattle.row_change.specs.Aggregates.{columnFits}
 use Rattle.nets.specs.declared.Pick.{Pick}
 use Rattle.nets.specs.Nets.{Table, Kind, acting, other, insert, insertTable, delete, update, create, drop, select, selectRelation, aggregate, sequential, parallel, badKind, hasPlace, needsTable, isCreate, hasTemplate, readsRelation, bindsRelation, isAggregate, isParallel, Node, Entry, toRun, visiting, Bindings, Thread, Net, Outcome, refused, done}
 use Rattle.nets.specs.Tables.{rowsOf, columnsOf, change, remove}

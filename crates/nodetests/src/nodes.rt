@@ -1,5 +1,15 @@
 // Nodes: their fields by kind (check 4) and their links (check 9).
 use crate::Judged;
+use net_parts::operands::function_ok;
+use net_parts::operands::is_absent;
+use net_parts::operands::no_test;
+use net_parts::operands::operands_ok;
+use net_parts::operands::place_ok;
+use net_parts::operands::tagged;
+use net_parts::operands::template_ok;
+use net_parts::operands::test_ok;
+use net_parts::ranges::is_text;
+use net_parts::relations::columns_ok;
 use nets::Node;
 use nets::kinds::binds_relation;
 use nets::kinds::has_place;
@@ -8,16 +18,6 @@ use nets::kinds::has_tuple;
 use nets::kinds::is_loop;
 use nets::kinds::is_select;
 use nets::kinds::reads_relation;
-use ranges::operands::function_ok;
-use ranges::operands::is_absent;
-use ranges::operands::no_test;
-use ranges::operands::operands_ok;
-use ranges::operands::place_ok;
-use ranges::operands::tagged;
-use ranges::operands::template_ok;
-use ranges::operands::test_ok;
-use ranges::ranges::is_text;
-use ranges::relations::columns_ok;
 use rows::Operands;
 use values::Operand;
 ghost use mathlib.Core.Path.{_≡_};
@@ -28,7 +28,7 @@ ghost use Rattle.rows.specs.View.{columnsOf, operandsOf};
 ghost use Rattle.nets.specs.Nets.{hasPlace, hasTemplate, hasTest, hasTuple, isSelect, isLoop};
 ghost use Rattle.nets.specs.Sound.{columnsOk, tagged, isAbsent, placeOk, operandsOk, isEmpty, fieldsOkAs, linksOkAs, nodesOk};
 ghost use Rattle.nets.specs.View.{kindAt, nodeOf, nodesOf};
-ghost use Rattle.ranges.specs.SoundParts.{linksAt, shapeOf, ShapesOf};
+ghost use Rattle.net_parts.specs.SoundParts.{linksAt, shapeOf, ShapesOf};
 
 // A field that is used is as its rule says, and else zero.
 pub fn either(used: bool, ok: bool, zeroed: bool) -> bool

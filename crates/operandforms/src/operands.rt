@@ -1,9 +1,9 @@
 // Operands of 8 bytes, and lists of up to four of them.
-use codec::bytes::before_none;
-use codec::bytes::int_in;
-use codec::bytes::nones_last;
-use codec::bytes::text_in;
-use codec::bytes::zeros;
+use record_bytes::bytes::before_none;
+use record_bytes::bytes::int_in;
+use record_bytes::bytes::nones_last;
+use record_bytes::bytes::text_in;
+use record_bytes::bytes::zeros;
 use rows::Field;
 use rows::Operands;
 use values::Locality;
@@ -13,7 +13,7 @@ ghost use Prim.Native.Nat.{_≤_};
 ghost use lib.ListN.{length};
 ghost use Rattle.rows.specs.View.{operandsOf, Short};
 ghost use Rattle.nets.specs.Sound.{isAbsent};
-ghost use Rattle.codec.specs.Bytes.{operandForm, operandIn, operandsForm, operandsIn};
+ghost use Rattle.record_bytes.specs.Bytes.{operandForm, operandIn, operandsForm, operandsIn};
 
 // By tag: the bytes that it leaves unused are zero.
 pub fn operand_form(p: &[u8]) -> bool

@@ -1,6 +1,6 @@
 // Where a step acts: the site that L means.
 use nets::Alias;
-use turns::Located;
+use step_meets::Located;
 use values::Got;
 use values::Locality;
 use values::Site;
@@ -10,7 +10,7 @@ ghost use Prim.Native.Nat.{_≤_};
 ghost use Rattle.values.specs.Lists.{find};
 ghost use Rattle.nets.specs.Scenes.{aliasFor, meant, siteMeant, siteOfGot};
 ghost use Rattle.nets.specs.View.{aliasesOf};
-ghost use Rattle.turns.specs.Contracts.{locatedOf};
+ghost use Rattle.step_meets.specs.Contracts.{locatedOf};
 
 pub fn is_alias(a: Alias, s: Site, l: Locality) -> bool
     ensures { λ r. ⌜ r ≡ aliasFor s l a ⌝ }

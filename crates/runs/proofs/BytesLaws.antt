@@ -16,8 +16,8 @@ use Rattle.nets.specs.Accounts.{netLeft, nextNet, after, answers, addedIn, take
 use Rattle.nets.specs.View.{view}
 use Rattle.values.proofs.Bools.{T-of, is-true}
 use Rattle.nets.proofs.AnswerLaws.{refuses-10}
-use Rattle.picklists.specs.PickBytes.{picksIn}
-use Rattle.leaving.specs.Turns.{Stood, GoneIs}
+use Rattle.step_bytes.specs.PickBytes.{picksIn}
+use Rattle.step_left.specs.Turns.{Stood, GoneIs}
 use Rattle.runs.specs.Runs.{RunIs}
 use Rattle.runs.proofs.TurnLaws.{run-made}
 

@@ -23,11 +23,11 @@ use Rattle.nets.specs.Answers.{addedSaid, takenSaid, answerOf, saidOf, isRefuse
 use Rattle.values.proofs.Bools.{and-l, is-true}
 use Rattle.nets.proofs.AnswerLaws.{refuses-10}
 use Rattle.files.proofs.EngineLaws.{said-added, said-taken, demand3-of, verdict-accepts}
-use Rattle.totals.specs.declared.Total.{Total}
-use Rattle.totals.specs.Totals.{totalOf}
-use Rattle.leaving.specs.Turns.{allRefused}
-use Rattle.counts.specs.declared.Ran.{Ran}
-use Rattle.counts.specs.States.{Begun, Tallied}
+use Rattle.value_totals.specs.declared.Total.{Total}
+use Rattle.value_totals.specs.Totals.{totalOf}
+use Rattle.step_left.specs.Turns.{allRefused}
+use Rattle.run_state.specs.declared.Ran.{Ran}
+use Rattle.run_state.specs.States.{Begun, Tallied}
 use Rattle.runs.specs.Runs.{RunIs}
 use Rattle.runs.specs.Turns.{Ready, Turned}
 use Rattle.runs.proofs.ListLaws.{after-both, added-both, taken-both, refused-both}

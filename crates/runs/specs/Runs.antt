@@ -12,9 +12,9 @@ use Rattle.files.specs.declared.Verdict.the-variants.{Accepted}
 use Rattle.files.specs.declared.Loaded.{Loaded}
 use Rattle.files.specs.FileDemand3.{FileDemand3}
 use Rattle.files.specs.Engine.{LoadIs}
-use Rattle.leaving.specs.Turns.{allRefused}
-use Rattle.counts.specs.declared.Ran.{Ran}
-use Rattle.totals.specs.Totals.{totalOf}
+use Rattle.step_left.specs.Turns.{allRefused}
+use Rattle.run_state.specs.declared.Ran.{Ran}
+use Rattle.value_totals.specs.Totals.{totalOf}
 
 pub record RunIs (net : Net) (ps : List Pick) (r : Ran) : Type 0 where
   -- the net given back is the one that the rules leave after the picks

@@ -8,9 +8,9 @@ use Rattle.nets.specs.declared.Pick.{Pick}
 use Rattle.nets.specs.Sound.{sound}
 use Rattle.nets.specs.Accounts.{after, reportedAdded, reportedTaken}
 use Rattle.nets.specs.View.{view}
-use Rattle.counts.specs.declared.Ran.{Ran}
-use Rattle.totals.specs.Totals.{totalOf}
-use Rattle.leaving.specs.Turns.{allRefused}
+use Rattle.run_state.specs.declared.Ran.{Ran}
+use Rattle.value_totals.specs.Totals.{totalOf}
+use Rattle.step_left.specs.Turns.{allRefused}
 
 -- the flag is right, and the sums have room for a pick
 pub record Ready (s : Ran) : Type 0 where

@@ -1,11 +1,11 @@
 // A run over picks held as bytes, two each: the fast form, in which the net is handed on once.
-use counts::Ran;
-use leaving::left_by;
+use net_sound::whole::sound_parts;
 use nets::Net;
-use picking::turning::carry_out;
-use soundness::whole::sound_parts;
+use run_state::Ran;
+use step_left::left_by;
+use step_picks::turning::carry_out;
 use steps::stepping::count_if;
-ghost use Rattle.picklists.specs.PickBytes.{picksIn};
+ghost use Rattle.step_bytes.specs.PickBytes.{picksIn};
 ghost use Rattle.runs.specs.Runs.{RunIs};
 
 // Every list of picks, of any length; every net, sound or not. A last byte without a second is no pick.

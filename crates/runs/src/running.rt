@@ -1,9 +1,9 @@
 // A run: every pick of a lent slice in order, each on the net that the pick before it left. Soundness is tested once, at the start.
-use counts::Ran;
-use counts::begin;
-use counts::tally;
 use nets::Net;
 use nets::Pick;
+use run_state::Ran;
+use run_state::begin;
+use run_state::tally;
 use steps::stepping::step_sound;
 ghost use mathlib.Core.List.{[], _∷_};
 ghost use Rattle.runs.specs.Runs.{RunIs};

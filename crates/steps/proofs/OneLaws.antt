@@ -6,7 +6,7 @@ use mathlib.Core.List.{List, [], _∷_}
 use native.Mathlib.Omega.{arith}
 use lib.ListN.{length, take}
 use Rattle.nets.specs.declared.Pick.{Pick}
-use Rattle.picklists.specs.PickBytes.{picksIn}
+use Rattle.step_bytes.specs.PickBytes.{picksIn}
 
 abbrev pub bytesOf : Pick → List ℕ
 bytesOf p = p .thread ∷ p .row ∷ []

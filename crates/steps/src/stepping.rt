@@ -1,10 +1,10 @@
 // The single step: one pick carried out, or none where the net is not sound.
-use leaving::left_by;
+use net_sound::whole::sound_parts;
 use nets::Net;
 use nets::Pick;
 use nets::Stepped;
-use picking::turning::carry_out;
-use soundness::whole::sound_parts;
+use step_left::left_by;
+use step_picks::turning::carry_out;
 ghost use mathlib.Core.Path.{_≡_};
 ghost use mathlib.Core.Bool.{cond};
 ghost use lib.Dec.{T};

@@ -2,7 +2,7 @@
 //! tables or the threads that they come to go out.
 //!
 //! The calls are those of `include/tivgeral.h`. They are there with the feature `proved`, which
-//! links `target/staticlib/libembedding.a`; without it this crate has their results alone.
+//! links `target/staticlib/libtivgeral.a`; without it this crate has their results alone.
 #![deny(unsafe_code)]
 
 mod answer;

@@ -66,7 +66,7 @@ mod proved {
 
     const HOW_TO_BUILD: &str = "\
 this program was built without the engine. At the root of the repository:
-    rt staticlib embedding
+    rt staticlib tivgeral
     cargo build --release --offline -p nettrace --features proved";
 
     pub fn trace(_: &Source, _: Option<Vec<Pick>>) -> Result<String, Failure> {

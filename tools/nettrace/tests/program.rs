@@ -71,7 +71,7 @@ fn without_the_engine_it_says_how_to_build_it() {
     let (status, told, errors) = run(&["examples/update.net"], b"");
     assert_eq!((status, told.as_str()), (Some(2), ""));
     assert!(errors.starts_with("nettrace: this program was built without the engine"), "{errors}");
-    for command in ["rt staticlib embedding", "-p nettrace --features proved"] {
+    for command in ["rt staticlib tivgeral", "-p nettrace --features proved"] {
         assert!(errors.contains(command), "{errors}");
     }
 }

@@ -10,10 +10,10 @@ use Rattle.values.proofs.Arrays.{long}
 use Rattle.nets.specs.declared.Pick.{Pick}
 use Rattle.nets.specs.Accounts.{after}
 use Rattle.nets.specs.View.{view}
-use Rattle.picklists.specs.PickBytes.{picksIn}
-use Rattle.picklists.specs.AnswerBytes.{answersPut}
-use Rattle.picklists.proofs.PickLaws.{picks-take}
-use Rattle.picklists.proofs.AnswerLaws.{put-begins}
+use Rattle.step_bytes.specs.PickBytes.{picksIn}
+use Rattle.step_bytes.specs.AnswerBytes.{answersPut}
+use Rattle.step_bytes.proofs.PickLaws.{picks-take}
+use Rattle.step_bytes.proofs.AnswerLaws.{put-begins}
 use Rattle.netrun.proofs.run.Statement.{statement}
 use Rattle.netrun.proofs.run.Tie as tie
 

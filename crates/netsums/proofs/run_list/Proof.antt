@@ -7,7 +7,7 @@ use lib.Seq.{length-take-le}
 use borrow.Author.Needs.{needs}
 use Rattle.values.proofs.Arrays.{long}
 use Rattle.nets.specs.declared.Pick.{Pick}
-use Rattle.picklists.proofs.PickLaws.{picks-take}
+use Rattle.step_bytes.proofs.PickLaws.{picks-take}
 use Rattle.runs.specs.Runs.{RunIs}
 use Rattle.netsums.proofs.run_list.Statement.{statement}
 use Rattle.netsums.proofs.run_list.Tie as tie

@@ -32,7 +32,7 @@ foreign! {
     bench_loaded(file: Bytes, length: usize, turns: u64) -> u64;
 }
 
-// Of target/staticlib/libembedding.a; include/tivgeral.h says what they do.
+// Of target/staticlib/libtivgeral.a; include/tivgeral.h says what they do.
 foreign! {
     tivgeral_answers(file: Bytes, f: usize, picks: Bytes, p: usize, out: Out, o: usize, place: *mut usize) -> u8;
     tivgeral_tables(file: Bytes, f: usize, picks: Bytes, p: usize, out: Out, o: usize, place: *mut usize) -> u8;

@@ -38,18 +38,18 @@ use denote.Exit.{yes}
 use Rattle.runs.specs.Runs.{RunIs}
 use Rattle.nets.specs.declared.Pick.{Pick}
 use Rattle.nets.specs.declared.Net.{Net}
-use Rattle.counts.specs.declared.Ran.{Ran}
+use Rattle.run_state.specs.declared.Ran.{Ran}
 use Rattle.nets.proofs.Pick as P
 use Rattle.nets.proofs.Pick.Laws as P′
 use Rattle.nets.proofs.Net as N
 use Rattle.nets.proofs.Net.Laws as N′
-use Rattle.counts.proofs.Ran as R
-use Rattle.counts.proofs.Ran.Laws as R′
+use Rattle.run_state.proofs.Ran as R
+use Rattle.run_state.proofs.Ran.Laws as R′
 use Rattle.runs.proofs.running.run as run′
 use Rattle.runs.proofs.running.run.Symbol as run-def
 use Rattle.runs.proofs.running.run.Symbol.{name as #run}
 use Rattle.runs.proofs.running.run.Met as run-thm
-use Rattle.lending.proofs.LendWalk.{Run, fits, typedA, lends-all}
+use Rattle.run_lend.proofs.LendWalk.{Run, fits, typedA, lends-all}
 use Rattle.bench.proofs.whole.lend.Key.{name as #lend}
 use Rattle.bench.proofs.whole.lend as lend′
 use Rattle.bench.proofs.whole.lend.Statement as stated

@@ -11,9 +11,9 @@ use Rattle.nets.specs.declared.Table.{Table}
 use Rattle.nets.specs.Tables.{isAt, tableAt}
 use Rattle.nets.specs.Steps.{Check, check}
 use Rattle.nets.specs.View.{tablesOf}
-use Rattle.walks.specs.Walking.{formThen}
-use Rattle.walks.proofs.FormLaws.{unformed}
-use Rattle.walks.proofs.PlaceTies.{is-there}
+use Rattle.load_walk.specs.Walking.{formThen}
+use Rattle.load_walk.proofs.FormLaws.{unformed}
+use Rattle.load_walk.proofs.PlaceTies.{is-there}
 use borrow.Author.Needs.{needs}
 use Rattle.declaring.proofs.tables.table_fault.Statement.{statement}
 use Rattle.declaring.proofs.tables.table_fault.Tie as tie

@@ -7,7 +7,7 @@ use Rattle.values.specs.declared.Site.{Site}
 use Rattle.rows.specs.declared.Row.{Row}
 use Rattle.rows.specs.View.{columnsOf}
 use Rattle.nets.specs.View.{tableOf}
-use Rattle.codec.specs.Bytes.{columnsIn}
+use Rattle.record_bytes.specs.Bytes.{columnsIn}
 use Rattle.files.specs.Loading.{bare}
 use borrow.Author.Needs.{needs}
 use Rattle.declaring.proofs.tables.table_in.Statement.{statement}

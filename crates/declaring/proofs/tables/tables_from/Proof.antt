@@ -13,13 +13,13 @@ use Rattle.nets.specs.declared.Table.{Table}
 use Rattle.nets.specs.Nets as M
 use Rattle.nets.specs.Tables.{tableAt}
 use Rattle.nets.specs.View.{noTable, tableOf, tablesOf}
-use Rattle.codec.specs.Bytes.{part, columnsIn}
+use Rattle.record_bytes.specs.Bytes.{part, columnsIn}
 use Rattle.nets.specs.Steps.{Check, check}
-use Rattle.codec.specs.Decoding.{Record, tableRecord, wholeRecords, siteAt, nameIn, tableForm}
+use Rattle.record_bytes.specs.Decoding.{Record, tableRecord, wholeRecords, siteAt, nameIn, tableForm}
 use Rattle.files.specs.Loading.{Progress, loadChecks, failing, bare, put, advance}
-use Rattle.walks.specs.Walking.{putTables, AllShaped, Leads, Going, formThen}
-use Rattle.walks.proofs.PlaceTies.{more-shaped}
-use Rattle.walks.proofs.WalkLaws.{withGroup, leads-refl, list-stops, list-grows, near, sized, place-few, gone-on, gone-off, gone-by}
+use Rattle.load_walk.specs.Walking.{putTables, AllShaped, Leads, Going, formThen}
+use Rattle.load_walk.proofs.PlaceTies.{more-shaped}
+use Rattle.load_walk.proofs.WalkLaws.{withGroup, leads-refl, list-stops, list-grows, near, sized, place-few, gone-on, gone-off, gone-by}
 use Rattle.declaring.proofs.tables.tables_from.Statement.{statement}
 use Rattle.declaring.proofs.tables.tables_from.Tie as tie
 

@@ -4,9 +4,9 @@ use mathlib.Core.Bool.{false}
 use Rattle.values.proofs.Bools.{T-of}
 use Rattle.rows.specs.View.{relationOf}
 use Rattle.nets.specs.View.{kindAt}
-use Rattle.acts.specs.Contracts.{partsOf}
-use Rattle.acts.proofs.ByteLaws.{bound-at, doing-at, reads-none, binds-byte, select-bytes, select-doing, select-bound-at}
-use Rattle.acts.proofs.JudgeLaws.{delete-bound, select-bound}
+use Rattle.step_effect.specs.Contracts.{partsOf}
+use Rattle.step_effect.proofs.ByteLaws.{bound-at, doing-at, reads-none, binds-byte, select-bytes, select-doing, select-bound-at}
+use Rattle.step_effect.proofs.JudgeLaws.{delete-bound, select-bound}
 use borrow.Author.Needs.{needs}
 use Rattle.effects.proofs.effects.bound_after.Statement.{statement}
 use Rattle.effects.proofs.effects.bound_after.Tie as tie

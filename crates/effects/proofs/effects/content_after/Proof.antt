@@ -2,9 +2,9 @@
 use mathlib.Core.Path.{refl}
 use mathlib.Core.Bool.{false}
 use Rattle.nets.specs.View.{kindAt}
-use Rattle.acts.specs.Contracts.{partsOf}
-use Rattle.acts.proofs.ByteLaws.{content-at, doing-at, reads-none, puts-byte}
-use Rattle.acts.proofs.JudgeLaws.{insert-room, insert-content, append-width, append-room, delete-content, update-content}
+use Rattle.step_effect.specs.Contracts.{partsOf}
+use Rattle.step_effect.proofs.ByteLaws.{content-at, doing-at, reads-none, puts-byte}
+use Rattle.step_effect.proofs.JudgeLaws.{insert-room, insert-content, append-width, append-room, delete-content, update-content}
 use borrow.Author.Needs.{needs}
 use Rattle.effects.proofs.effects.content_after.Statement.{statement}
 use Rattle.effects.proofs.effects.content_after.Tie as tie

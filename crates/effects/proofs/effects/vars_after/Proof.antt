@@ -2,9 +2,9 @@
 use mathlib.Core.Path.{refl}
 use mathlib.Core.Bool.{false}
 use Rattle.nets.specs.View.{kindAt}
-use Rattle.acts.specs.Contracts.{partsOf}
-use Rattle.acts.proofs.ByteLaws.{vars-at, doing-at, reads-none, other-vars}
-use Rattle.acts.proofs.JudgeLaws.{aggregate-vars}
+use Rattle.step_effect.specs.Contracts.{partsOf}
+use Rattle.step_effect.proofs.ByteLaws.{vars-at, doing-at, reads-none, other-vars}
+use Rattle.step_effect.proofs.JudgeLaws.{aggregate-vars}
 use borrow.Author.Needs.{needs}
 use Rattle.effects.proofs.effects.vars_after.Statement.{statement}
 use Rattle.effects.proofs.effects.vars_after.Tie as tie

@@ -9,7 +9,7 @@ use borrow.Rule.Slice.PartMut.{putMid}
 use Rattle.rows.specs.View.{Shaped}
 use Rattle.nets.specs.declared.Table.{Table}
 use Rattle.nets.specs.View.{noTable}
-use Rattle.stores.proofs.Stores.{part-size, part-written, kept-length}
+use Rattle.value_bytes.proofs.Stores.{part-size, part-written, kept-length}
 use Rattle.filling.proofs.WholeLaws.{shaped-at, bodies, body, bodies-next, length-next, bodies-room}
 use Rattle.filling.proofs.tables.put_contents.Statement.{statement}
 use Rattle.filling.proofs.tables.put_contents.Tie as tie

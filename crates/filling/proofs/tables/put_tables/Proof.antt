@@ -10,10 +10,10 @@ use Rattle.values.specs.Lists.{firsts}
 use Rattle.values.proofs.Firsts.{map-firsts}
 use Rattle.nets.specs.declared.Table.{Table}
 use Rattle.nets.specs.View.{noTable, tableOf, tablesOf}
-use Rattle.codec.specs.Encoding.{tableBytes}
-use Rattle.stores.specs.Bytes.{endToEnd}
-use Rattle.stores.proofs.Stores.{kept-length, ends-more, ends-all}
-use Rattle.fields.proofs.WriteLaws.{table-length}
+use Rattle.record_bytes.specs.Encoding.{tableBytes}
+use Rattle.value_bytes.specs.Bytes.{endToEnd}
+use Rattle.value_bytes.proofs.Stores.{kept-length, ends-more, ends-all}
+use Rattle.write_fields.proofs.WriteLaws.{table-length}
 use Rattle.filling.proofs.tables.put_tables.Statement.{statement}
 use Rattle.filling.proofs.tables.put_tables.Tie as tie
 

@@ -8,7 +8,7 @@ use borrow.Author.Tests.{le-leb, lt-leb}
 use borrow.Rule.Slice.PartMut.{putMid}
 use Rattle.nets.specs.declared.Table.{Table}
 use Rattle.nets.specs.View.{tablesOf}
-use Rattle.stores.proofs.Stores.{part-size, part-written}
+use Rattle.value_bytes.proofs.Stores.{part-size, part-written}
 use Rattle.files.specs.Writing.{written, refusing, writing, writtenAnswer, bufferAfter}
 use Rattle.filling.specs.WriteCall.{ifRoom}
 use Rattle.filling.proofs.WholeLaws.{bodies, heads, written-is, heads-length}

@@ -8,7 +8,7 @@ use Rattle.nets.specs.Sound.{functionOk}
 use Rattle.nets.specs.View.{kindAt, nodeOf}
 use Rattle.nets.proofs.KindCodes.{kind-is}
 use borrow.Author.Needs.{needs}
-use Rattle.ranges.proofs.Counts.{columns-count}
+use Rattle.net_parts.proofs.Counts.{columns-count}
 use Rattle.nodetests.proofs.FieldLaws.{choosing-kind, either-is, fields-are}
 use Rattle.nodetests.proofs.nodes.choosing_ok.Statement.{statement}
 use Rattle.nodetests.proofs.nodes.choosing_ok.Tie as tie

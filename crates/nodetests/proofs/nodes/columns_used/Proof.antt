@@ -3,7 +3,7 @@ use mathlib.Core.Path.{refl, sym, ap}
 use lib.Dec.{eqb}
 use Rattle.values.proofs.Bools.{cond-yes, cond-no}
 use borrow.Author.Needs.{needs}
-use Rattle.ranges.proofs.Counts.{columns-count}
+use Rattle.net_parts.proofs.Counts.{columns-count}
 use Rattle.nodetests.proofs.nodes.columns_used.Statement.{statement}
 use Rattle.nodetests.proofs.nodes.columns_used.Tie as tie
 

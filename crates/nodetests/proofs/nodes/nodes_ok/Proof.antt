@@ -13,7 +13,7 @@ use Rattle.values.proofs.Sizes.{size-over, size-fits}
 use Rattle.nets.specs.declared.Node as Code
 use Rattle.nets.specs.Nets.{Node}
 use Rattle.nets.specs.Sound.{nodeOkAs, nodesOk}
-use Rattle.ranges.specs.SoundParts.{shapeOf, ShapesOf}
+use Rattle.net_parts.specs.SoundParts.{shapeOf, ShapesOf}
 use Rattle.nets.specs.View.{noNode, nodeOf, nodesOf}
 use borrow.Author.Needs.{needs}
 use Rattle.nodetests.proofs.nodes.nodes_ok.Statement.{statement}

@@ -9,7 +9,7 @@ use Rattle.nets.specs.Sound.{operandsOk, functionOk}
 use Rattle.nets.specs.View.{kindAt, nodeOf}
 use Rattle.nets.proofs.KindCodes.{kind-is}
 use borrow.Author.Needs.{needs}
-use Rattle.ranges.proofs.Counts.{operands-count}
+use Rattle.net_parts.proofs.Counts.{operands-count}
 use Rattle.nodetests.proofs.FieldLaws.{plain-kind, either-is, fields-are}
 use Rattle.nodetests.proofs.nodes.plain_ok.Statement.{statement}
 use Rattle.nodetests.proofs.nodes.plain_ok.Tie as tie

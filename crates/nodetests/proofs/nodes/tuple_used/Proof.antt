@@ -3,7 +3,7 @@ use mathlib.Core.Path.{refl, sym, ap}
 use lib.Dec.{eqb}
 use Rattle.values.proofs.Bools.{cond-yes, cond-no}
 use borrow.Author.Needs.{needs}
-use Rattle.ranges.proofs.Counts.{operands-count}
+use Rattle.net_parts.proofs.Counts.{operands-count}
 use Rattle.nodetests.proofs.nodes.tuple_used.Statement.{statement}
 use Rattle.nodetests.proofs.nodes.tuple_used.Tie as tie
 

@@ -7,7 +7,7 @@ use Rattle.nets.specs.Nets.{isLoop}
 use Rattle.nets.specs.Sound.{functionOk}
 use Rattle.nets.specs.View.{kindAt, nodeOf}
 use borrow.Author.Needs.{needs}
-use Rattle.ranges.proofs.Counts.{columns-count, operands-count}
+use Rattle.net_parts.proofs.Counts.{columns-count, operands-count}
 use Rattle.nodetests.proofs.FieldLaws.{visiting-kind, fields-are}
 use Rattle.nodetests.proofs.nodes.visiting_ok.Statement.{statement}
 use Rattle.nodetests.proofs.nodes.visiting_ok.Tie as tie

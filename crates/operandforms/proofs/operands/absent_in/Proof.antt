@@ -11,7 +11,7 @@ use lib.ListN.{getD}
 use Rattle.values.specs.declared.Locality.{Locality}
 use Rattle.values.specs.declared.Operand.the-variants.{Absent, ConstInt, ConstText, ConstLoc, Var, Plus, Formal}
 use Rattle.nets.specs.Sound.{isAbsent}
-use Rattle.codec.specs.Bytes.{at, operandIn}
+use Rattle.record_bytes.specs.Bytes.{at, operandIn}
 use borrow.Author.Needs.{needs}
 use Rattle.operandforms.proofs.operands.absent_in.Statement.{statement}
 use Rattle.operandforms.proofs.operands.absent_in.Tie as tie

@@ -5,8 +5,8 @@ use mathlib.Core.Bool.{Bool}
 use mathlib.Core.List.{List, [], _∷_, map}
 use lib.ListN.{length}
 use Rattle.nets.specs.Sound.{isAbsent}
-use Rattle.codec.specs.Bytes.{part, leading, operandIn, operandsIn}
-use Rattle.codec.proofs.ByteLaws.{same, four, operands-are, leading-flags}
+use Rattle.record_bytes.specs.Bytes.{part, leading, operandIn, operandsIn}
+use Rattle.record_bytes.proofs.ByteLaws.{same, four, operands-are, leading-flags}
 use borrow.Author.Needs.{needs}
 use Rattle.operandforms.proofs.operands.count_in.Statement.{statement}
 use Rattle.operandforms.proofs.operands.count_in.Tie as tie

@@ -5,8 +5,8 @@ use mathlib.Core.Bool.{Bool, false, _&&_}
 use mathlib.Core.List.{List}
 use native.Mathlib.Omega.{arith}
 use lib.ListN.{List·getD-eq-default}
-use Rattle.codec.specs.Bytes.{at, part, zeros, operandForm}
-use Rattle.codec.proofs.ByteLaws.{not-this}
+use Rattle.record_bytes.specs.Bytes.{at, part, zeros, operandForm}
+use Rattle.record_bytes.proofs.ByteLaws.{not-this}
 use borrow.Author.Needs.{needs}
 use Rattle.operandforms.proofs.operands.operand_form.Statement.{statement}
 use Rattle.operandforms.proofs.operands.operand_form.Tie as tie

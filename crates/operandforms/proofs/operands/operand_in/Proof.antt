@@ -9,8 +9,8 @@ use mir.Val.{toZ, ofZ, SFits}
 use mir.Syntax.{w32}
 use mir.Facts.{toZ-ofZ}
 use Rattle.values.specs.declared.Operand.the-variants.{Absent, ConstInt, ConstText, ConstLoc, Var, Plus, Formal}
-use Rattle.codec.specs.Bytes.{at, part, textIn, intIn, operandIn}
-use Rattle.codec.proofs.ByteLaws.{not-this}
+use Rattle.record_bytes.specs.Bytes.{at, part, textIn, intIn, operandIn}
+use Rattle.record_bytes.proofs.ByteLaws.{not-this}
 use borrow.Author.Needs.{needs, sfits-of}
 use Rattle.operandforms.proofs.operands.operand_in.Statement.{statement}
 use Rattle.operandforms.proofs.operands.operand_in.Tie as tie

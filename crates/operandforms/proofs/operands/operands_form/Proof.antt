@@ -5,8 +5,8 @@ use mathlib.Core.Bool.{Bool, _&&_}
 use mathlib.Core.List.{List, [], _∷_, map}
 use Rattle.values.specs.Lists.{all}
 use Rattle.nets.specs.Sound.{isAbsent}
-use Rattle.codec.specs.Bytes.{part, thenOnly, operandForm, operandIn, operandsForm}
-use Rattle.codec.proofs.ByteLaws.{same, four, four-parts, all-four, only-flags}
+use Rattle.record_bytes.specs.Bytes.{part, thenOnly, operandForm, operandIn, operandsForm}
+use Rattle.record_bytes.proofs.ByteLaws.{same, four, four-parts, all-four, only-flags}
 use borrow.Author.Needs.{needs}
 use Rattle.operandforms.proofs.operands.operands_form.Statement.{statement}
 use Rattle.operandforms.proofs.operands.operands_form.Tie as tie

@@ -7,8 +7,8 @@ use Rattle.values.specs.declared.Operand.{Operand}
 use Rattle.rows.specs.declared.Field.{Field}
 use Rattle.rows.specs.View.{noField, operandsOf}
 use Rattle.nets.specs.Sound.{isAbsent}
-use Rattle.codec.specs.Bytes.{part, leading, operandIn, operandsIn}
-use Rattle.codec.proofs.ByteLaws.{operands-are, firsts-leading}
+use Rattle.record_bytes.specs.Bytes.{part, leading, operandIn, operandsIn}
+use Rattle.record_bytes.proofs.ByteLaws.{operands-are, firsts-leading}
 use borrow.Author.Needs.{needs}
 use Rattle.operandforms.proofs.operands.operands_in.Statement.{statement}
 use Rattle.operandforms.proofs.operands.operands_in.Tie as tie

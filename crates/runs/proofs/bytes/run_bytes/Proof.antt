@@ -5,7 +5,7 @@ use Rattle.values.proofs.Bools.{T-of}
 use Rattle.nets.specs.declared.Net.{Net}
 use Rattle.nets.specs.Sound.{sound}
 use Rattle.nets.specs.View.{view}
-use Rattle.picklists.specs.PickBytes.{picksIn}
+use Rattle.step_bytes.specs.PickBytes.{picksIn}
 use Rattle.runs.specs.Runs.{RunIs}
 use Rattle.runs.proofs.BytesLaws.{lent-long, lent-sure, lent-picks, run-gone}
 use Rattle.runs.proofs.bytes.run_bytes.Statement.{statement}

@@ -47,22 +47,22 @@ use denote.Triple.Table.{entered, cited}
 use denote.Triple.Walked.{says, Stays, stay-dropped, walkOf, goes-dropped, Walks, ends-at, walked, walk-meets}
 use denote.Exit.{yes}
 use Rattle.runs.specs.Runs.{RunIs}
-use Rattle.counts.specs.States.{Begun}
+use Rattle.run_state.specs.States.{Begun}
 use Rattle.runs.specs.Turns.{Ready, Turned}
 use Rattle.runs.proofs.TurnLaws.{SoFar, so-far-start, so-far-next, so-far-all, so-far-ready}
 use Rattle.nets.specs.declared.Pick.{Pick}
 use Rattle.nets.specs.declared.Net.{Net}
-use Rattle.counts.specs.declared.Ran.{Ran}
+use Rattle.run_state.specs.declared.Ran.{Ran}
 use Rattle.nets.proofs.Pick as P
 use Rattle.nets.proofs.Pick.Laws as P′
 use Rattle.nets.proofs.Net as N
 use Rattle.nets.proofs.Net.Laws as N′
-use Rattle.counts.proofs.Ran as R
-use Rattle.counts.proofs.Ran.Laws as R′
-use Rattle.counts.proofs.begin as begin
-use Rattle.counts.proofs.begin.Symbol as begin-def
-use Rattle.counts.proofs.begin.Symbol.{name as #begin}
-use Rattle.counts.proofs.begin.Met as begin-thm
+use Rattle.run_state.proofs.Ran as R
+use Rattle.run_state.proofs.Ran.Laws as R′
+use Rattle.run_state.proofs.begin as begin
+use Rattle.run_state.proofs.begin.Symbol as begin-def
+use Rattle.run_state.proofs.begin.Symbol.{name as #begin}
+use Rattle.run_state.proofs.begin.Met as begin-thm
 use Rattle.runs.proofs.running.turn as turn
 use Rattle.runs.proofs.running.turn.Symbol as turn-def
 use Rattle.runs.proofs.running.turn.Symbol.{name as #turn}

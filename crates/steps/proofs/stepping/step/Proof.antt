@@ -6,7 +6,7 @@ use Rattle.nets.specs.declared.Net.{Net}
 use Rattle.nets.specs.Sound.{sound}
 use Rattle.nets.specs.Answers.{StepIs}
 use Rattle.nets.specs.View.{view}
-use Rattle.leaving.proofs.TurnLaws.{gone-single}
+use Rattle.step_left.proofs.TurnLaws.{gone-single}
 use Rattle.steps.proofs.OneLaws.{few-of, long-of, sure-of, picks-of}
 use Rattle.steps.proofs.stepping.step.Statement.{statement}
 use Rattle.steps.proofs.stepping.step.Tie as tie

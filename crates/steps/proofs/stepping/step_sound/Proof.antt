@@ -6,7 +6,7 @@ use Rattle.nets.specs.declared.Net.{Net}
 use Rattle.nets.specs.Sound.{sound}
 use Rattle.nets.specs.Answers.{StepIs}
 use Rattle.nets.specs.View.{view}
-use Rattle.leaving.proofs.TurnLaws.{gone-step}
+use Rattle.step_left.proofs.TurnLaws.{gone-step}
 use Rattle.steps.proofs.stepping.step_sound.Statement.{statement}
 use Rattle.steps.proofs.stepping.step_sound.Tie as tie
 

@@ -1,0 +1,49 @@
+// The threads left after all picks, and the call for them.
+use call_open::opening::open_file;
+use call_rules::Opening;
+use call_rules::Reply;
+use call_rules::refusals::refusal_reply;
+use call_run::running::run_picks;
+use call_thread::stacks::put_threads;
+use nets::Net;
+ghost use lib.Dec.{T};
+ghost use Rattle.nets.specs.Sound.{sound};
+ghost use Rattle.nets.specs.View.{view};
+ghost use Rattle.call_rules.specs.Layouts.{threadsPut};
+ghost use Rattle.step_bytes.specs.PickBytes.{picksIn};
+ghost use Rattle.call_rules.specs.Calls.{ifRoom, Gives, ThreadsIs};
+
+fn threads_left(net: Net, picks: &[u8], out: &mut [u8]) -> Reply
+    requires { ⌜ T (sound (view net)) ⌝ }
+    ensures { λ r. ⌜ Gives (ifRoom (threadsPut (view net) (picksIn (now (picks .entry)))) (now (out .entry))) (now (out .entry)) (now (out .exit)) (r .number) (r .place) ⌝ }
+{
+    let left = run_picks(net, picks);
+    let count = left.threadcount;
+    let size = count * 24;
+    if out.len() < size {
+        return Reply {
+            number: 21,
+            place: 0,
+        };
+    }
+    let threads = left.threads;
+    put_threads(&mut out[0..size], threads, count);
+    Reply {
+        number: 0,
+        place: size,
+    }
+}
+
+pub fn call_threads(file: &[u8], picks: &[u8], out: &mut [u8]) -> Reply
+    ensures { λ r. ⌜ ThreadsIs (now (file .entry)) (now (picks .entry)) (now (out .entry)) (now (out .exit)) (r .number) (r .place) ⌝ }
+{
+    let opened = open_file(file, picks);
+    let opening = opened.opening;
+    match opening {
+        Opening::Refused(why) => refusal_reply(why),
+        Opening::Accepted => {
+            let net = opened.net;
+            threads_left(net, picks, out)
+        }
+    }
+}

@@ -1,0 +1,37 @@
+// The tables left after all picks, and the call for them.
+use call_open::opening::open_file;
+use call_reply::replies::reply_to;
+use call_rules::Opening;
+use call_rules::Reply;
+use call_rules::refusals::refusal_reply;
+use call_run::running::run_picks;
+use nets::Net;
+use write::writing::write;
+ghost use lib.Dec.{T};
+ghost use Rattle.nets.specs.Sound.{sound};
+ghost use Rattle.nets.specs.View.{view};
+ghost use Rattle.call_rules.specs.Layouts.{tablesPut};
+ghost use Rattle.step_bytes.specs.PickBytes.{picksIn};
+ghost use Rattle.call_rules.specs.Calls.{ifRoom, Gives, TablesIs};
+
+fn tables_left(net: Net, picks: &[u8], out: &mut [u8]) -> Reply
+    requires { ⌜ T (sound (view net)) ⌝ }
+    ensures { λ r. ⌜ Gives (ifRoom (tablesPut (view net) (picksIn (now (picks .entry)))) (now (out .entry))) (now (out .entry)) (now (out .exit)) (r .number) (r .place) ⌝ }
+{
+    let left = run_picks(net, picks);
+    reply_to(write(left, out))
+}
+
+pub fn call_tables(file: &[u8], picks: &[u8], out: &mut [u8]) -> Reply
+    ensures { λ r. ⌜ TablesIs (now (file .entry)) (now (picks .entry)) (now (out .entry)) (now (out .exit)) (r .number) (r .place) ⌝ }
+{
+    let opened = open_file(file, picks);
+    let opening = opened.opening;
+    match opening {
+        Opening::Refused(why) => refusal_reply(why),
+        Opening::Accepted => {
+            let net = opened.net;
+            tables_left(net, picks, out)
+        }
+    }
+}

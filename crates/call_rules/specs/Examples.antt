@@ -1,0 +1,97 @@
+-- Worked calls, by computation: one table, one insert into it, one thread.
+use Prim.Native.Nat.{ℕ}
+use mathlib.Core.Path.{_≡_, refl}
+use mathlib.Core.List.{List, [], _∷_, _++_}
+use lib.ListN.{replicate}
+use Rattle.values.specs.Values.{textOrder}
+use Rattle.values.specs.Operands.{bind}
+use Rattle.rows.specs.Matching.{matches, hits}
+use Rattle.rows.specs.Fit.{draft}
+use Rattle.row_change.specs.Changes.{tupleFor, changes, selectedColumns}
+use Rattle.row_change.specs.Aggregates.{aggregated}
+use Rattle.nets.specs.Nets.{toRun, visiting, Thread}
+use Rattle.nets.specs.Tables.{distinct, change}
+use Rattle.nets.specs.Sound.{fieldsOkAs, linksOkAs, sound}
+use Rattle.nets.specs.Scenes.{sceneOf, siteOfL, site, table, relation, source, hitRows, ownDraft, result, anyReady, opens}
+use Rattle.nets.specs.Steps.{readsOk, check12, check13, check14, check15, check16, check17, check18, check19, check20, tablesBy, addedBy, takenBy, bindingsBy, threadsAfter, netAfter, performed, judge, checks, step}
+use Rattle.nets.specs.Accounts.{nextNet, after, answers}
+use Rattle.nets.specs.View.{kindAt}
+use Rattle.record_bytes.specs.Bytes.{operandForm, operandIn, operandsForm, operandsIn}
+use Rattle.record_bytes.specs.Decoding.{nodeIn, aliasForm, tableForm, rowForm, nodeBytes, startForm, pickForm, recordIn, recordsIn}
+use Rattle.record_bytes.specs.Encoding.{tupleBytes, tableBytes, rowBytes}
+use Rattle.files.specs.Loading.{loadChecks, put, advance, readAll, firstBadLink, load, loadBytes}
+use Rattle.files.specs.Writing.{written}
+use Rattle.value_bytes.specs.Bytes.{eightBytes}
+use Rattle.step_bytes.specs.AnswerBytes.{threeBytes, answerBytes, answersPut}
+use Rattle.call_rules.specs.Layouts.{visitBytes, headBytes, threadBytes, tablesPut, threadsPut}
+use Rattle.call_rules.specs.Calls.{refusing, putting, ifRoom, called, bufferIn}
+
+abbrev z : ℕ → List ℕ
+z n = replicate n 0
+
+abbrev NUMS : List ℕ
+NUMS = 0x4e ∷ 0x55 ∷ 0x4d ∷ 0x53 ∷ []
+
+-- NUMS at site 0, of (Int)
+abbrev nums : List ℕ
+nums = 2 ∷ z 3 ++ (NUMS ++ (1 ∷ z 95))
+
+abbrev five : List ℕ
+five = 1 ∷ z 3 ++ (5 ∷ z 3)
+
+-- insert (5) into NUMS at the thread's own site
+abbrev insert : List ℕ
+insert = 16 ∷ 255 ∷ z 2 ++ (NUMS ++ (z 8 ++ (3 ∷ z 39 ++ (five ++ z 40))))
+
+abbrev file : List ℕ
+file = nums ++ (insert ++ (32 ∷ z 103))
+
+-- thread 0, twice: the second time it has ended
+abbrev twice : List ℕ
+twice = z 4
+
+-- all definitions that a call computes with: to unfold this is to unfold them all
+opened : Unit {0}
+unfolding bind textOrder matches hits draft tupleFor changes selectedColumns aggregated distinct change fieldsOkAs linksOkAs sound sceneOf siteOfL site table relation source hitRows ownDraft result anyReady opens readsOk check12 check13 check14 check15 check16 check17 check18 check19 check20 tablesBy addedBy takenBy bindingsBy threadsAfter netAfter performed judge checks step nextNet after answers kindAt operandForm operandIn operandsForm operandsIn nodeIn aliasForm tableForm rowForm nodeBytes startForm pickForm recordIn recordsIn loadChecks put advance readAll firstBadLink load loadBytes tupleBytes tableBytes rowBytes written eightBytes threeBytes answerBytes visitBytes headBytes threadBytes tablesPut answersPut threadsPut ifRoom called
+opened = tt
+
+-- done with one row added; then 11
+pub answers-to-two : called answersPut file twice (replicate 48 7) ≡ putting (z 8 ++ (1 ∷ z 15 ++ (11 ∷ z 23)))
+unfolding opened
+answers-to-two = refl
+
+pub no-room : called answersPut file twice (replicate 47 7) ≡ refusing 21 0
+unfolding opened
+no-room = refl
+
+-- the table, and its row
+pub tables-after-two : called tablesPut file twice (replicate 210 7) ≡ putting (nums ++ (3 ∷ z 3 ++ (NUMS ++ (z 48 ++ (five ++ z 40)))))
+unfolding opened
+tables-after-two = refl
+
+-- before any pick: site 0, one entry, node 0 to run
+pub thread-at-start : called threadsPut file [] (replicate 30 7) ≡ putting (0 ∷ 1 ∷ z 22)
+unfolding opened
+thread-at-start = refl
+
+pub bytes-after : bufferIn (replicate 30 7) (called threadsPut file [] (replicate 30 7)) ≡ 0 ∷ 1 ∷ z 22 ++ replicate 6 7
+unfolding opened
+bytes-after = refl
+
+pub no-thread-left : called threadsPut file twice [] ≡ putting []
+unfolding opened
+no-thread-left = refl
+
+-- a loop at node 3 with rows 1 and 15 still to visit, above a node to run
+pub thread-in-loop : (t : Thread) → threadBytes (record { site = record { 0 = 2 }; bindings = t .bindings; stack = visiting 3 (1 ∷ 15 ∷ []) ∷ toRun 4 ∷ [] }) ≡ 2 ∷ 2 ∷ 1 ∷ 3 ∷ z 5 ++ (1 ∷ z 13 ++ (1 ∷ []))
+unfolding opened
+thread-in-loop t = refl
+
+-- 100 comes before the file's own fault
+pub odd-first : called answersPut (z 103) (0 ∷ []) [] ≡ refusing 100 0
+unfolding opened
+odd-first = refl
+
+pub file-fault : called answersPut (file ++ z 104) [] [] ≡ refusing 3 3
+unfolding opened
+file-fault = refl

@@ -1,0 +1,60 @@
+-- What the functions inside a call require and give back. Only the code speaks of it: the rule is `called`.
+use Prim.Native.Nat.{ℕ, _<_}
+use mathlib.Core.Path.{_≡_}
+use mathlib.Core.List.{List}
+use lib.Dec.{T}
+use lib.ListN.{getD}
+use Rattle.nets.specs.declared.Pick.{Pick}
+use Rattle.nets.specs.declared.Thread.{Thread}
+use Rattle.nets.specs.Nets.{Net}
+use Rattle.nets.specs.Sound.{sound}
+use Rattle.nets.specs.View.{noThread, view}
+use Rattle.step_thread.specs.Contracts.{Stacked}
+use Rattle.files.specs.declared.Verdict.{Verdict}
+use Rattle.files.specs.declared.Verdict.the-variants as verdict
+use Rattle.files.specs.declared.Written.{Written}
+use Rattle.files.specs.declared.Written.the-variants.{Length, Unsound, Short}
+use Rattle.call_rules.specs.declared.Reply.{Reply}
+use Rattle.call_rules.specs.declared.NotOpened.{NotOpened}
+use Rattle.call_rules.specs.declared.NotOpened.the-variants.{Fault, OddPicks}
+use Rattle.call_rules.specs.declared.Opening.{Opening}
+use Rattle.call_rules.specs.declared.Opening.the-variants.{Accepted, Refused}
+use Rattle.call_rules.specs.declared.Opened.{Opened}
+use Rattle.step_bytes.specs.PickBytes.{picksIn}
+use Rattle.call_rules.specs.Calls.{oddPicksNumber, Called, refusing, ifRoom, called}
+
+-- ── what a call begins with ──
+
+-- picks of an even length leave it to the file
+abbrev pub openingBy : Verdict → Opening
+openingBy verdict.Accepted = Accepted
+openingBy (verdict.Fault n i) = Refused (Fault n i)
+
+-- number and place of each reason
+abbrev pub refusalReply : NotOpened → Reply
+refusalReply (Fault n i) = record { number = n; place = i }
+refusalReply OddPicks = record { number = oddPicksNumber; place = 0 }
+
+-- by what is said of file and picks
+abbrev pub judged : Opening → List ℕ → List ℕ → Called
+judged Accepted bs buffer = ifRoom bs buffer
+judged (Refused why) bs buffer = refusing (refusalReply why .number) (refusalReply why .place)
+
+-- whatever a call hands out of net and picks
+pub record OpenIs (file picks : List ℕ) (r : Opened) : Type 0 where
+  pub called : (bytes : Net → List Pick → List ℕ) (buffer : List ℕ) → called bytes file picks buffer ≡ judged (r .opening) (bytes (view (r .net)) (picksIn picks)) buffer
+  pub isSound : r .opening ≡ Accepted → T (sound (view (r .net)))
+
+-- ── writing ──
+
+-- a run leaves no unsound net
+abbrev pub replyTo : Written → Reply
+replyTo (Length n) = record { number = 0; place = n }
+replyTo Unsound = record { number = 10; place = 0 }
+replyTo Short = record { number = 21; place = 0 }
+
+-- ── threads ──
+
+-- each thread in use has one to eight entries
+abbrev pub AllStacked : ℕ → List Thread → Type 0
+AllStacked n ts = (i : ℕ) → i < n → Stacked (getD ts i noThread)

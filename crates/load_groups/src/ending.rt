@@ -1,0 +1,67 @@
+// The record at which all groups are past: checks 3, 4 and 5.
+use load_walk::Reach;
+use record_forms::forms::alias_form;
+use record_forms::forms::group_of;
+use record_forms::forms::pick_form;
+use record_forms::forms::start_form;
+use record_forms::forms::table_form;
+use record_nodes::nodes::node_form;
+use record_nodes::tuples::row_form;
+ghost use mathlib.Core.Path.{_≡_};
+ghost use mathlib.Core.Bool.{cond};
+ghost use lib.ListN.{length};
+ghost use Rattle.record_bytes.specs.Decoding.{recordIn};
+ghost use Rattle.load_walk.specs.Walking.{Going, Ends, decodedFault};
+
+fn formed(ok: bool) -> u8
+    ensures { λ r. ⌜ r ≡ cond ok 0 4 ⌝ }
+{
+    if ok {
+        return 0;
+    }
+    4
+}
+
+// Checks 3 and 4 of any record: the number of the one that fails, 0 for none.
+pub fn form_fault(r: &[u8]) -> u8
+    requires { ⌜ length (now r) ≡ 104 ⌝ }
+    ensures { λ o. ⌜ o ≡ decodedFault (recordIn (now (r .entry))) ⌝ }
+{
+    let group = group_of(r[0]);
+    match group {
+        1 => formed(alias_form(r)),
+        2 => formed(table_form(r)),
+        3 => formed(row_form(r)),
+        4 => formed(node_form(r)),
+        5 => formed(start_form(r)),
+        6 => formed(pick_form(r)),
+        _ => 3,
+    }
+}
+
+// A record that is left when all groups are past has a fault: 3 or 4, or it is of a group that is past.
+pub fn reach_end(file: &[u8], from: Reach) -> Reach
+    requires { ⌜ Going (now file) 7 from ⌝ }
+    ensures { λ r. ⌜ Ends (now (file .entry)) from r ⌝ }
+{
+    let i = from.place * 104;
+    if from.fault != 0 {
+        return from;
+    }
+    if file.len() <= i {
+        return from;
+    }
+    let fault = form_fault(&file[i..i + 104]);
+    if fault == 0 {
+        return Reach {
+            place: from.place,
+            group: from.group,
+            fault: 5,
+        };
+    }
+    Reach {
+        place: from.place,
+        group: from.group,
+        fault,
+    }
+}

@@ -1,0 +1,60 @@
+// Pick records, group 6: check 4.
+use crate::PicksRead;
+use load_walk::Reach;
+use load_walk::walking::next_group;
+use nets::Pick;
+use record_forms::forms::pick_form;
+use record_forms::forms::pick_in;
+ghost use mathlib.Core.Path.{_≡_};
+ghost use mathlib.Core.List.{[]};
+ghost use lib.ListN.{length};
+ghost use Rattle.record_bytes.specs.Decoding.{pickForm};
+ghost use Rattle.files.specs.Engine.{picksOf};
+ghost use Rattle.load_walk.specs.Walking.{putPicks, Leads, Going, formThen};
+
+// The number of its fault, 0 for none.
+pub fn pick_fault(r: &[u8]) -> u8
+    requires { ⌜ length (now r) ≡ 104 ⌝ }
+    ensures { λ o. ⌜ o ≡ formThen (pickForm (now (r .entry))) [] ⌝ }
+{
+    if pick_form(r) {
+        return 0;
+    }
+    4
+}
+
+pub fn picks_from(file: &[u8], from: Reach) -> PicksRead
+    requires { ⌜ Going (now file) 6 from ⌝ }
+    ensures { λ r. ⌜ Leads (now (file .entry)) from (r .reach) (putPicks []) (putPicks (picksOf (r .count) (r .picks))) × Going (now (file .entry)) 7 (r .reach) ⌝ }
+{
+    let mut picks = [Pick { thread: 0, row: 0 }; 256];
+    let mut count: usize = 0;
+    let mut at = from;
+    while next_group(file, at) == 6 {
+        let i = at.place * 104;
+        let fault = pick_fault(&file[i..i + 104]);
+        if fault != 0 {
+            return PicksRead {
+                picks,
+                count,
+                reach: Reach {
+                    place: at.place,
+                    group: 6,
+                    fault,
+                },
+            };
+        }
+        picks[count] = pick_in(&file[i..i + 104]);
+        count += 1;
+        at = Reach {
+            place: at.place + 1,
+            group: 6,
+            fault: 0,
+        };
+    }
+    PicksRead {
+        picks,
+        count,
+        reach: at,
+    }
+}

@@ -1,0 +1,86 @@
+// Start records, group 5: checks 4 and 8.
+use crate::ThreadsRead;
+use crate::blanks::blank_thread;
+use load_walk::Reach;
+use load_walk::walking::next_group;
+use nets::Entry;
+use nets::Frame;
+use nets::Thread;
+use record_forms::forms::site_in;
+use record_forms::forms::start_form;
+ghost use mathlib.Core.Path.{_≡_};
+ghost use mathlib.Core.List.{[], _∷_};
+ghost use lib.Dec.{ltb};
+ghost use lib.ListN.{length};
+ghost use Rattle.nets.specs.Steps.{check};
+ghost use Rattle.nets.specs.View.{threadOf, threadsOf};
+ghost use Rattle.record_bytes.specs.Bytes.{at};
+ghost use Rattle.record_bytes.specs.Decoding.{siteAt, startForm};
+ghost use Rattle.files.specs.Loading.{fresh};
+ghost use Rattle.load_walk.specs.Walking.{putThreads, Leads, Going, formThen};
+
+// The number of its fault, 0 for none.
+pub fn start_fault(count: usize, r: &[u8]) -> u8
+    requires { ⌜ length (now r) ≡ 104 ⌝ }
+    ensures { λ o. ⌜ o ≡ formThen (startForm (now (r .entry))) (check 8 (ltb count 8) ∷ []) ⌝ }
+{
+    if !start_form(r) {
+        return 4;
+    }
+    if count < 8 {
+        return 0;
+    }
+    8
+}
+
+// A thread with nothing bound and one node to run.
+pub fn start_in(r: &[u8]) -> Thread
+    requires { ⌜ length (now r) ≡ 104 ⌝ }
+    ensures { λ o. ⌜ threadOf o ≡ fresh (siteAt 1 (now (r .entry))) (at (now (r .entry)) 2) ⌝ }
+{
+    let site = site_in(r);
+    let mut t = blank_thread();
+    t.site = site;
+    t.stack[0] = Frame {
+        entry: Entry::Run(r[2]),
+        visit: [false; 16],
+    };
+    t.depth = 1;
+    t
+}
+
+pub fn starts_from(file: &[u8], from: Reach) -> ThreadsRead
+    requires { ⌜ Going (now file) 5 from ⌝ }
+    ensures { λ r. ⌜ Leads (now (file .entry)) from (r .reach) (putThreads []) (putThreads (threadsOf (r .count) (r .threads))) × Going (now (file .entry)) 6 (r .reach) ⌝ }
+{
+    let mut threads = [blank_thread(); 8];
+    let mut count: usize = 0;
+    let mut at = from;
+    while next_group(file, at) == 5 {
+        let i = at.place * 104;
+        let fault = start_fault(count, &file[i..i + 104]);
+        if fault != 0 {
+            return ThreadsRead {
+                threads,
+                count,
+                reach: Reach {
+                    place: at.place,
+                    group: 5,
+                    fault,
+                },
+            };
+        }
+        threads[count] = start_in(&file[i..i + 104]);
+        count += 1;
+        at = Reach {
+            place: at.place + 1,
+            group: 5,
+            fault: 0,
+        };
+    }
+    ThreadsRead {
+        threads,
+        count,
+        reach: at,
+    }
+}

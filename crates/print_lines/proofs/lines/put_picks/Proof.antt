@@ -1,0 +1,35 @@
+-- `print_lines::lines::put_picks` is safe and ends: 24 bytes for each pick.
+use Prim.Native.Nat.{_*_, _-_, _≤_}
+use native.Mathlib.Omega.{arith}
+use lib.ListN.{length, length-take, length-drop}
+use borrow.Author.Needs.{needs}
+use Rattle.print_lines.proofs.lines.put_picks.Statement.{statement}
+use Rattle.print_lines.proofs.lines.put_picks.Tie as tie
+
+abbrev Inv-loop : tie.InvT-loop
+Inv-loop page₀ at answers count place₀ i₀ page place i = (place ≤ 4096) × (count * 24 ≤ length answers)
+
+abbrev μ-loop : tie.MeasureT-loop
+μ-loop page₀ at answers count place₀ i₀ page place i = count - i
+
+put-pick-requires : tie.Need-put-pick-requires Inv-loop μ-loop
+put-pick-requires c κs = (search needs, simp (length-take, length-drop) (omega arith))
+
+pub put-picks-spec : {M : Type 1} → statement M
+put-picks-spec =
+    tie.close
+    (tie.spec
+    Inv-loop
+    μ-loop
+    (λ c. search needs)
+    (λ c. search needs)
+    (λ c. search needs)
+    (λ c. search needs)
+    (λ c. search needs)
+    (λ c. search needs)
+    (λ c. search needs)
+    put-pick-requires
+    (λ c. search needs)
+    (λ c. search needs)
+    (λ c. search needs)
+    (λ c. search needs))

@@ -1,0 +1,17 @@
+-- `print_lines::pages::write_start` is safe: the part written is within the bytes.
+use native.Mathlib.Omega.{arith}
+use lib.ListN.{length-take}
+use borrow.Author.Needs.{needs}
+use Rattle.print_lines.proofs.pages.write_start.Statement.{statement}
+use Rattle.print_lines.proofs.pages.write_start.Tie as tie
+
+slice-aggregate-write-all : tie.Need-slice-aggregate-write-all
+slice-aggregate-write-all c = simp length-take (omega arith)
+
+pub write-start-spec : {M : Type 1} → statement M
+write-start-spec =
+    tie.close
+    (tie.spec
+    slice-aggregate-write-all
+    (λ c κs. search needs)
+    (λ c. search needs))

@@ -1,0 +1,118 @@
+// Answers and tables into the page.
+use crate::cells::put_rows;
+use crate::cells::put_text;
+use crate::pages::at_most;
+use crate::pages::put_byte;
+use crate::pages::put_bytes;
+use crate::pages::put_decimal;
+use nets::Answer;
+use nets::Table;
+use step_bytes::answers::number_of;
+ghost use mathlib.Core.Path.{_≡_};
+ghost use Prim.Native.Nat.{_*_, _<_, _≤_};
+ghost use lib.ListN.{length};
+
+// "done" with the rows added and taken, or "no" with the number of the refusal; number 0 is done.
+fn put_said(page: &mut [u8; 4096], at: usize, number: u64, added: u64, taken: u64) -> usize
+    requires { ⌜ at ≤ 4096 ⌝ }
+    ensures { λ r. ⌜ r ≤ 4096 ⌝ }
+{
+    if number != 0 {
+        let place = put_bytes(page, at, b"no ");
+        return put_decimal(page, place, number);
+    }
+    let mut place = put_bytes(page, at, b"done ");
+    place = put_decimal(page, place, added);
+    place = put_byte(page, place, b' ');
+    put_decimal(page, place, taken)
+}
+
+pub fn put_answer(page: &mut [u8; 4096], at: usize, answer: Answer) -> usize
+    requires { ⌜ at ≤ 4096 ⌝ }
+    ensures { λ r. ⌜ r ≤ 4096 ⌝ }
+{
+    match answer {
+        Answer::Done(added, taken) => put_said(page, at, 0, added as u64, taken as u64),
+        Answer::Refused(why) => put_said(page, at, number_of(why) as u64, 0, 0),
+    }
+}
+
+fn wide(byte: u8) -> u64
+    ensures { λ r. ⌜ r < 256 ⌝ }
+{
+    byte as u64
+}
+
+// The number in eight bytes, little endian; no more than eight, so nothing is cut off.
+fn number_in(bytes: &[u8]) -> u64
+    requires { ⌜ length (now bytes) ≡ 8 ⌝ }
+{
+    let mut n: u64 = 0;
+    let mut i: usize = 8;
+    while i > 0 {
+        i -= 1;
+        n = n % 72057594037927936 * 256 + wide(bytes[i]);
+    }
+    n
+}
+
+// The line of pick `i`, from its answer's 24 bytes.
+fn put_pick(page: &mut [u8; 4096], at: usize, i: usize, answer: &[u8]) -> usize
+    requires { ⌜ (at ≤ 4096) × (length (now answer) ≡ 24) ⌝ }
+    ensures { λ r. ⌜ r ≤ 4096 ⌝ }
+{
+    let number = number_in(&answer[0..8]);
+    let added = number_in(&answer[8..16]);
+    let taken = number_in(&answer[16..24]);
+    let mut place = put_bytes(page, at, b"pick ");
+    place = put_decimal(page, place, i as u64);
+    place = put_byte(page, place, b' ');
+    place = put_said(page, place, number, added, taken);
+    put_byte(page, place, b'\n')
+}
+
+// The lines of the first `count` picks.
+pub fn put_picks(page: &mut [u8; 4096], at: usize, answers: &[u8], count: usize) -> usize
+    requires { ⌜ (at ≤ 4096) × (count * 24 ≤ length (now answers)) ⌝ }
+    ensures { λ r. ⌜ r ≤ 4096 ⌝ }
+{
+    let mut place = at;
+    let mut i: usize = 0;
+    while i < count {
+        place = put_pick(page, place, i, &answers[i * 24..i * 24 + 24]);
+        i += 1;
+    }
+    place
+}
+
+// The line of a table, and those of its rows.
+pub fn put_table(page: &mut [u8; 4096], at: usize, t: Table) -> usize
+    requires { ⌜ at ≤ 4096 ⌝ }
+    ensures { λ r. ⌜ r ≤ 4096 ⌝ }
+{
+    let site = t.site;
+    let content = t.content;
+    let mut place = put_bytes(page, at, b"table ");
+    place = put_decimal(page, place, site.0 as u64);
+    place = put_byte(page, place, b' ');
+    place = put_text(page, place, t.name);
+    place = put_byte(page, place, b' ');
+    place = put_decimal(page, place, content.count as u64);
+    place = put_byte(page, place, b'\n');
+    put_rows(page, place, content)
+}
+
+pub fn put_tables(page: &mut [u8; 4096], at: usize, tables: [Table; 8], count: usize) -> usize
+    requires { ⌜ at ≤ 4096 ⌝ }
+    ensures { λ r. ⌜ r ≤ 4096 ⌝ }
+{
+    let n = at_most(count, 8);
+    let mut place = at;
+    let mut i: usize = 0;
+    while i < n {
+        let table = tables[i];
+        place = put_table(page, place, table);
+        i += 1;
+    }
+    place
+}

@@ -1,0 +1,15 @@
+-- `step_effect::saying::said_append` meets its contract: two checks, in their order. Assumes nothing.
+use Rattle.step_effect.proofs.JudgeLaws.{append-said}
+use borrow.Author.Needs.{needs}
+use Rattle.step_effect.proofs.saying.said_append.Statement.{statement}
+use Rattle.step_effect.proofs.saying.said_append.Tie as tie
+
+returns : tie.Need-returns
+returns c =
+    let s = c .before .before .before .before .before .before in
+    append-said (s .args .node) (s .args .content) (s .args .source) (s .args .vars) (c .before .before .before .same-columns .ensures)
+    (c .before .checked .result) (c .checked2 .result) (c .before .checked .ensures) (c .checked2 .ensures)
+
+pub said-append-spec : {M : Type 1} → statement M
+said-append-spec =
+    tie.close (tie.spec (λ c κs. search needs) (λ c. search needs) (λ c κs. search needs) (λ c κs. search needs) returns)

@@ -1,0 +1,17 @@
+-- `step_effect::saying::said_insert` meets its contract: two checks, in their order. Assumes nothing.
+use Rattle.step_effect.proofs.JudgeLaws.{insert-said}
+use borrow.Author.Needs.{needs}
+use Rattle.step_effect.proofs.saying.said_insert.Statement.{statement}
+use Rattle.step_effect.proofs.saying.said_insert.Tie as tie
+
+returns : tie.Need-returns
+returns c =
+    let s = c .before .before .before .before .before .before .before in
+    let f = c .before .before .before in
+    insert-said (s .args .node) (s .args .content) (s .args .vars) (f .before .draft-of .result) (f .before .draft-of .ensures .0) (f .fits-columns .ensures)
+    (c .before .checked .result) (c .checked2 .result) (c .before .checked .ensures) (c .checked2 .ensures)
+
+pub said-insert-spec : {M : Type 1} → statement M
+said-insert-spec =
+    tie.close
+    (tie.spec (λ c κs. search needs) (λ c κs. search needs) (λ c κs. search needs) (λ c κs. search needs) returns)

@@ -1,0 +1,17 @@
+-- The net that picks in turn leave.
+use Rattle.nets.specs.declared.Net.{Net}
+use Rattle.step_left.specs.declared.Gone.{Gone}
+
+-- a net with other tables and threads
+abbrev pub leftBy : Net → Gone → Net
+leftBy net g =
+    record {
+      aliases = net .aliases;
+      aliascount = net .aliascount;
+      tables = g .tables;
+      tablecount = g .tablecount;
+      nodes = net .nodes;
+      nodecount = net .nodecount;
+      threads = g .threads;
+      threadcount = g .threadcount;
+    }

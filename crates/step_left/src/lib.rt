@@ -1,0 +1,39 @@
+// What picks in turn leave. Aliases and nodes stay as they are, so that only tables and threads are handed on.
+use nets::Answer;
+use nets::Net;
+use nets::Table;
+use nets::Thread;
+use value_totals::Total;
+ghost use mathlib.Core.Path.{_≡_};
+ghost use Rattle.step_left.specs.Leaving.{leftBy};
+
+// Tables and threads after some picks, the answer to the last of them, and the sums of rows added and taken.
+pub struct Gone {
+    pub tables: [Table; 8],
+    pub tablecount: usize,
+    pub threads: [Thread; 8],
+    pub threadcount: usize,
+    pub answer: Answer,
+    pub added: Total,
+    pub taken: Total,
+}
+
+// The net after them.
+pub fn left_by(net: Net, g: Gone) -> Net
+    ensures { λ r. ⌜ r ≡ leftBy net g ⌝ }
+{
+    let aliases = net.aliases;
+    let nodes = net.nodes;
+    let tables = g.tables;
+    let threads = g.threads;
+    Net {
+        aliases,
+        aliascount: net.aliascount,
+        tables,
+        tablecount: g.tablecount,
+        nodes,
+        nodecount: net.nodecount,
+        threads,
+        threadcount: g.threadcount,
+    }
+}

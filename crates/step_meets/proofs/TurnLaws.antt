@@ -1,0 +1,246 @@
+-- The change that the code decides on at a loop is the step's: over, a round in the thread, or a round in a new one. Assumes nothing.
+use Prim.Native.Nat.{ℕ, _≤_}
+use mathlib.Core.Path.{_≡_, refl, ap, ap₂, sym, subst, _∙_}
+use mathlib.Core.Bool.{Bool, true, false, not, cond, _&&_, _||_}
+use mathlib.Core.List.{List, [], _∷_, _++_, map, append-nil}
+use mathlib.Core.Option.{some}
+use lib.Dec.{T, eqb, ltb}
+use lib.ListN.{length, getD}
+use borrow.Author.Tests.{ltb-true}
+use Rattle.values.specs.declared.Operand.{Operand}
+use Rattle.values.specs.Lists.{any, among, filter}
+use Rattle.values.specs.Operands.{Vars, varsOf}
+use Rattle.rows.specs.declared.Relation as Code
+use Rattle.rows.specs.Relations.{Relation}
+use Rattle.rows.specs.Matching.{rowVars}
+use Rattle.rows.specs.View.{relationOf, operandsOf}
+use Rattle.nets.specs.declared.Refusal.{Refusal}
+use Rattle.nets.specs.declared.Answer.the-variants.{Done}
+use Rattle.nets.specs.declared.Thread.{Thread}
+use Rattle.nets.specs.declared.Frame.{Frame}
+use Rattle.step_thread.specs.declared.Round.{Round}
+use Rattle.step_thread.specs.declared.Turn.{Turn}
+use Rattle.step_thread.specs.declared.Turn.the-variants.{Over, Opened, Stopped}
+use Rattle.step_meets.specs.declared.Decided.{Decided}
+use Rattle.step_meets.specs.Situations.{Situation}
+use Rattle.nets.specs.Nets as M
+use Rattle.nets.specs.Nets.{Kind, acting, other, insert, insertTable, delete, update, create, drop, select, selectRelation, aggregate, sequential, parallel, badKind, isLoop, isParallel, bindsRelation, toRun, visiting}
+use Rattle.nets.specs.Sound.{entryNode}
+use Rattle.nets.specs.Scenes.{Scene, below, stillToVisit, vars, template, rowAt}
+use Rattle.nets.specs.Steps.{roomForRound, check12, loopEntry, roundBindings, withBindings, withStack, withVars, goOn, settle}
+use Rattle.nets.specs.Answers.{refusing, answerOf, numberOf}
+use Rattle.nets.specs.View.{kindAt, marked, entryOf, variableOf, bindingsOf, threadOf}
+use Rattle.step_effect.specs.Contracts.{putsRows}
+use Rattle.step_thread.specs.Contracts.{turnOf, turnBy, opened, readyAt, visitOf, RoundIs, standing}
+use Rattle.step_meets.specs.Contracts.{outcomeAt, Meets, relationRead, Made, ChangeIs}
+use Rattle.nets.proofs.KindLaws.{at-one}
+use Rattle.step_meets.proofs.MeetTies.{met-kind, met-vars, met-template, met-relation, met-turn, met-room}
+use Rattle.step_meets.proofs.RoundTies.{turnedSaid, turnAt, turnIn, turn-answer, over-threads, sequential-threads, parallel-threads, loop-visit, loop-row}
+
+-- a loop changes no rows
+puts-none : (k : Kind) → T (isLoop k) → T (putsRows k) → ⊥
+puts-none (acting insert) l h = l
+puts-none (acting insertTable) l h = l
+puts-none (acting delete) l h = l
+puts-none (acting update) l h = l
+puts-none (acting create) l h = l
+puts-none (acting drop) l h = l
+puts-none (other select) l h = l
+puts-none (other selectRelation) l h = l
+puts-none (other aggregate) l h = l
+puts-none (other sequential) l h = h
+puts-none (other parallel) l h = h
+puts-none (other badKind) l h = l
+
+-- and binds no table variable
+binds-none : (k : Kind) → T (isLoop k) → bindsRelation k ≡ false
+binds-none (acting insert) l = absurd l
+binds-none (acting insertTable) l = absurd l
+binds-none (acting delete) l = absurd l
+binds-none (acting update) l = absurd l
+binds-none (acting create) l = absurd l
+binds-none (acting drop) l = absurd l
+binds-none (other select) l = absurd l
+binds-none (other selectRelation) l = absurd l
+binds-none (other aggregate) l = absurd l
+binds-none (other sequential) l = refl
+binds-none (other parallel) l = refl
+binds-none (other badKind) l = absurd l
+
+pub loop-relations : (s : Situation) (q : Code.Relation) (r : Decided) (x : Made s q r) → T (isLoop (kindAt (s .node .kind))) → map variableOf (x .relations) ≡ map variableOf (s .thread .relations)
+loop-relations s q r x l = x .bound ∙ rw (binds-none (kindAt (s .node .kind)) l)
+
+-- a thread with such bindings goes on as it is
+pub same-bindings :
+    (s : Situation) (q : Code.Relation) (r : Decided) (x : Made s q r) → T (isLoop (kindAt (s .node .kind))) → r .vars ≡ s .thread .vars →
+    goOn (s .node .next) (withBindings (threadOf (s .thread)) (bindingsOf (r .vars) (x .relations))) (below (threadOf (s .thread) .stack)) ≡ goOn (s .node .next) (threadOf (s .thread)) (below (threadOf (s .thread) .stack))
+same-bindings s q r x l v =
+    λ i.
+    goOn (s .node .next)
+    (record { site = s .thread .site; bindings = record { vars = varsOf (v i); relations = loop-relations s q r x l i }; stack = threadOf (s .thread) .stack })
+    (below (threadOf (s .thread) .stack))
+
+-- a round in a thread: its variables, and the entries that its top gives way to
+abbrev pub roundIn : M.Thread → Vars → M.Entry → M.Entry → M.Thread
+roundIn t vs x y = withStack (withBindings t (withVars (t .bindings) vs)) (x ∷ y ∷ below (t .stack))
+
+-- a round has room
+has-room : (a b q r : Bool) → turnBy a b q r ≡ opened → r ≡ true
+has-room false b q r e = cc
+has-room true false q r e = cc
+has-room true true false r e = cc
+has-room true true true false e = cc
+has-room true true true true e = refl
+
+pub round-room : {e : Vars} {t : List Operand} {r : Relation} {f : Frame} {row : ℕ} {room : Bool} {o : Round} → RoundIs e t r f row room o → o .turn ≡ Opened → room ≡ true
+round-room {e} {t} {r} {f} {row} {room} got h =
+    has-room (eqb (length t) (length (r .columns))) (any (readyAt e t r) (visitOf f r)) (among row (visitOf f r) && readyAt e t r row) room (sym (got .turn) ∙ ap turnOf h)
+
+-- ── room, by the code's tests ──
+
+abbrev pub roomBy : Bool → Bool → Bool → Bool
+roomBy p a b = (p && a) || (not p && b)
+
+pub room-runs : (p a b : Bool) → p ≡ false → roomBy p a b ≡ true → b ≡ true
+room-runs p a b e h = rw e at h
+
+choice : (p a b : Bool) → roomBy p a b ≡ cond p a b
+choice true true b = refl
+choice true false b = refl
+choice false a b = refl
+
+parallel-byte : (b : ℕ) → eqb b 26 ≡ isParallel (kindAt b)
+unfolding kindAt
+parallel-byte b = at-one isParallel 26 tt tt b
+
+pub room-met : (s : Situation) (c : Scene) → Meets s c → roomBy (eqb (s .node .kind) 26) (ltb (s .threads) 8) (ltb (s .thread .depth) 8) ≡ roomForRound c
+room-met s c m =
+    choice (eqb (s .node .kind) 26) (ltb (s .threads) 8) (ltb (s .thread .depth) 8)
+    ∙ ap (λ (b : Bool). cond b (ltb (s .threads) 8) (ltb (s .thread .depth) 8)) (parallel-byte (s .node .kind)) ∙ sym (met-room s c m)
+
+-- ── the turn ──
+
+-- a round of the code at a scene's loop, where check 12 passed; the table variable read is `source`
+pub record RoundAt (s : Situation) (c : Scene) (o : Round) : Type 0 where
+  pub meets : Meets s c
+  pub loop : T (isLoop (kindAt (s .node .kind)))
+  pub twelve : check12 c ≡ true
+  pub source : Code.Relation
+  pub held : relationRead s ≡ some (relationOf source)
+  pub room : Bool
+  pub space : room ≡ roomForRound c
+  pub got : RoundIs (varsOf (s .thread .vars)) (operandsOf (s .node .selector .template)) (relationOf source) (s .frame) (s .row) room o
+
+module _ (s : Situation) (c : Scene) (o : Round) (r : RoundAt s c o) where
+  abbrev m : Meets s c
+  m = r .meets
+
+  abbrev q : Relation
+  q = relationOf (r .source)
+
+  loops : T (isLoop (c .node .kind))
+  loops = subst (λ (k : Kind). T (isLoop k)) (sym (met-kind s c m)) (r .loop)
+
+  turn-is : {t : Turn} → o .turn ≡ t → turnAt c ≡ turnOf t
+  turn-is e =
+      met-turn s c m (r .loop) q (r .held)
+      ∙ ap (turnIn (varsOf (s .thread .vars)) (operandsOf (s .node .selector .template)) q (visitOf (s .frame) q) (s .row)) (sym (r .space))
+      ∙ sym (r .got .turn) ∙ ap turnOf e
+
+  pub turn-says : {t : Turn} → o .turn ≡ t → turnedSaid (turnOf t) ≡ answerOf (outcomeAt c)
+  turn-says e = sym (turn-answer c loops (r .twelve) ∙ ap turnedSaid (turn-is e))
+
+  pub turn-stops : (why : Refusal) → o .turn ≡ Stopped why → refusing (numberOf why) [] ≡ answerOf (outcomeAt c)
+  turn-stops why e = turn-says e
+
+  kind-is : isParallel (c .node .kind) ≡ eqb (s .node .kind) 26
+  kind-is = ap isParallel (met-kind s c m) ∙ sym (parallel-byte (s .node .kind))
+
+  puts-no-rows : T (putsRows (c .node .kind)) → ⊥
+  puts-no-rows = puts-none (c .node .kind) loops
+
+  -- ── over ──
+
+  pub turn-over :
+      o .turn ≡ Over → (content : Code.Relation) (after fork : Thread) →
+      standing (threadOf after) ≡ goOn (s .node .next) (threadOf (s .thread)) (below (threadOf (s .thread) .stack)) →
+      ChangeIs c (record { answer = Done 0 0; content = content; thread = after; forks = false; fork = fork })
+  turn-over e content after fork goes-on =
+      record {
+        answer = turn-says e;
+        content = λ h k. absurd (puts-no-rows k);
+        room = λ h. absurd h;
+        threads = λ h.
+            over-threads c loops (turn-is e)
+            ∙ ap₂ (λ (d : M.Node) (x : M.Thread). settle (c .at) (goOn (d .next) x (below (x .stack))) (c .net .threads)) (m .node) (m .thread)
+            ∙ ap (λ (us : List M.Thread). settle (c .at) us (c .net .threads)) (sym goes-on)
+            ∙ sym (append-nil (settle (c .at) (standing (threadOf after)) (c .net .threads)));
+      }
+
+  -- ── a round ──
+
+  abbrev entry : M.Entry
+  entry = visiting (entryNode (entryOf (s .frame))) (marked 0 (o .visit))
+
+  abbrev bound : M.Bindings
+  bound = withVars (threadOf (s .thread) .bindings) (varsOf (o .vars))
+
+  module _ (e : o .turn ≡ Opened) where
+    entry-is : loopEntry c ≡ entry
+    entry-is =
+        ap₂ (λ (x : M.Entry) (v : List ℕ). visiting (entryNode x) v) (m .entry)
+        (ap₂ (λ (i : ℕ) (v : List ℕ). filter (λ j. not (eqb j i)) v) (sym (m .row)) (loop-visit c loops q (met-relation s c m ∙ r .held) ∙ ap (λ (x : M.Entry). stillToVisit x (length (q .rows))) (m .entry))
+        ∙ sym (r .got .visit (ap turnOf e)))
+
+    bindings-are : roundBindings c ≡ bound
+    bindings-are =
+        ap₂ withVars (ap (λ (t : M.Thread). t .bindings) (m .thread))
+        (ap₂ (λ (v : Vars) (t : List Operand). rowVars v t (rowAt c (c .row))) (met-vars s c m) (met-template s c m)
+        ∙ ap (rowVars (varsOf (s .thread .vars)) (operandsOf (s .node .selector .template)))
+        (loop-row c loops q (met-relation s c m ∙ r .held) (c .row) ∙ ap (λ (i : ℕ). getD (q .rows) i []) (sym (m .row)))
+        ∙ sym (r .got .vars (ap turnOf e)))
+
+    -- in the thread: the formals are bound and the body goes on the stack
+    pub turn-runs :
+        eqb (s .node .kind) 26 ≡ false → (content : Code.Relation) (after fork : Thread) →
+        threadOf after ≡ roundIn (threadOf (s .thread)) (varsOf (o .vars)) (toRun (s .node .body)) entry →
+        ChangeIs c (record { answer = Done 0 0; content = content; thread = after; forks = false; fork = fork })
+    turn-runs h content after fork p =
+        record {
+          answer = turn-says e;
+          content = λ d k. absurd (puts-no-rows k);
+          room = λ d. absurd d;
+          threads = λ d.
+              sequential-threads c loops (turn-is e) (kind-is ∙ h)
+              ∙ ap (λ (t : M.Thread). settle (c .at) (t ∷ []) (c .net .threads))
+              (ap₂ (λ (x : M.Entry) (b : M.Bindings). withStack (withBindings (c .thread) b) (toRun (c .node .body) ∷ x ∷ below (c .thread .stack))) entry-is bindings-are
+              ∙ ap₂ (λ (t : M.Thread) (n : M.Node). withStack (withBindings t bound) (toRun (n .body) ∷ entry ∷ below (t .stack))) (m .thread) (m .node))
+              ∙ ap (λ (us : List M.Thread). settle (c .at) us (c .net .threads)) (sym (ap standing p))
+              ∙ sym (append-nil (settle (c .at) (standing (threadOf after)) (c .net .threads)));
+        }
+
+    -- in a new thread: the loop's own keeps its variables
+    pub turn-forks :
+        eqb (s .node .kind) 26 ≡ true → (content : Code.Relation) (after fork : Thread) → 1 ≤ after .depth →
+        threadOf after ≡ withStack (threadOf (s .thread)) (entry ∷ below (threadOf (s .thread) .stack)) →
+        threadOf fork ≡ record { site = s .thread .site; bindings = bindingsOf (o .vars) (s .thread .relations); stack = toRun (s .node .body) ∷ [] } →
+        ChangeIs c (record { answer = Done 0 0; content = content; thread = after; forks = true; fork = fork })
+    turn-forks h content after fork deep p f =
+        record {
+          answer = turn-says e;
+          content = λ d k. absurd (puts-no-rows k);
+          room = λ d. (ltb-true (length (c .net .threads)) 8 (sym (ap (λ (n : ℕ). ltb n 8) (m .threads)) ∙ space-is), deep);
+          threads = λ d.
+              parallel-threads c loops (turn-is e) (kind-is ∙ h)
+              ∙ ap₂ (λ (x : M.Entry) (b : M.Bindings). both (c .thread) (c .node .body) x b) entry-is bindings-are
+              ∙ ap₂ (λ (t : M.Thread) (n : M.Node). both t (n .body) entry bound) (m .thread) (m .node)
+              ∙ ap₂ (λ (us : List M.Thread) (u : M.Thread). settle (c .at) us (c .net .threads) ++ (u ∷ [])) (sym (ap standing p)) (sym f);
+        }
+      where
+        both : M.Thread → ℕ → M.Entry → M.Bindings → List M.Thread
+        both t n x b = settle (c .at) (withStack t (x ∷ below (t .stack)) ∷ []) (c .net .threads) ++ (withStack (withBindings t b) (toRun n ∷ []) ∷ [])
+
+        space-is : ltb (s .threads) 8 ≡ true
+        space-is =
+            sym (ap (λ (b : Bool). cond b (ltb (s .threads) 8) (ltb (s .thread .depth) 8)) (sym (parallel-byte (s .node .kind)) ∙ h))
+            ∙ sym (met-room s c m) ∙ sym (r .space) ∙ round-room (r .got) e

@@ -1,0 +1,193 @@
+-- Tables and threads stored at their places: one gives way to another, a new one goes last, a removed one closes up. Assumes nothing.
+use Prim.Native.Nat.{ℕ, _+_, _-_, _<_, _≤_}
+use mathlib.Core.Path.{_≡_, refl, ap, sym, subst, _∙_}
+use mathlib.Core.Bool.{Bool, true, false, cond}
+use mathlib.Core.List.{List, [], _∷_, _++_, map, append-nil}
+use mathlib.Core.Option.{Option, some}
+use native.Mathlib.Omega.{arith}
+use lib.Dec.{T, eqb, ltb}
+use lib.ListN.{length, getD, set, length-set}
+use borrow.Author.Tests.{lt-ltb}
+use Rattle.values.specs.declared.Site.{Site}
+use Rattle.values.proofs.Arrays.{map-set}
+use Rattle.values.proofs.Firsts.{firsts-at, firsts-push, firsts-set}
+use Rattle.row_change.specs.Contracts.{Holds}
+use Rattle.step_meets.specs.declared.Decided.{Decided}
+use Rattle.step_meets.specs.Situations.{moved}
+use Rattle.rows.specs.declared.Relation as Code
+use Rattle.rows.specs.Relations.{Relation}
+use Rattle.rows.specs.View.{relationOf}
+use Rattle.nets.specs.declared.Table.{Table}
+use Rattle.nets.specs.declared.Frame.{Frame}
+use Rattle.nets.specs.declared.TableVariable.{TableVariable}
+use Rattle.nets.specs.declared.Thread.{Thread}
+use Rattle.nets.specs.Nets as M
+use Rattle.nets.specs.Nets.{Kind, acting, other, insert, insertTable, delete, update, create, drop, select, selectRelation, aggregate, sequential, parallel, badKind, code, needsTable, bindsRelation, isCreate}
+use Rattle.nets.specs.Steps.{settle}
+use Rattle.nets.specs.View.{noTable, noThread, kindAt, tableOf, variableOf, threadOf, tablesOf, threadsOf}
+use Rattle.step_effect.specs.Contracts.{isStep, putsRows}
+use Rattle.step_thread.specs.Contracts.{standing, forksOf}
+use Rattle.step_thread.proofs.ThreadLaws.{standing-gone, standing-there, settle-none, settle-one}
+use Rattle.lists.specs.Contracts.{withContent, putContent, tablesWith}
+use Rattle.lists.proofs.KindTies.{with-create, with-drop}
+use Rattle.nets.proofs.KindLaws.{at-one}
+use Rattle.values.proofs.RemoveLaws.{Closing, closing-ends}
+
+-- ── kinds ──
+
+pub puts-step : (k : Kind) → T (putsRows k) → T (isStep k)
+puts-step (acting insert) h = tt
+puts-step (acting insertTable) h = tt
+puts-step (acting delete) h = tt
+puts-step (acting update) h = tt
+puts-step (acting create) h = absurd h
+puts-step (acting drop) h = absurd h
+puts-step (other select) h = absurd h
+puts-step (other selectRelation) h = absurd h
+puts-step (other aggregate) h = absurd h
+puts-step (other sequential) h = absurd h
+puts-step (other parallel) h = absurd h
+puts-step (other badKind) h = absurd h
+
+pub binds-step : (k : Kind) → T (bindsRelation k) → T (isStep k)
+binds-step (acting insert) h = absurd h
+binds-step (acting insertTable) h = absurd h
+binds-step (acting delete) h = tt
+binds-step (acting update) h = absurd h
+binds-step (acting create) h = absurd h
+binds-step (acting drop) h = absurd h
+binds-step (other select) h = tt
+binds-step (other selectRelation) h = tt
+binds-step (other aggregate) h = absurd h
+binds-step (other sequential) h = absurd h
+binds-step (other parallel) h = absurd h
+binds-step (other badKind) h = absurd h
+
+puts-needs : (k : Kind) → T (putsRows k) → T (needsTable k)
+puts-needs (acting insert) h = tt
+puts-needs (acting insertTable) h = tt
+puts-needs (acting delete) h = tt
+puts-needs (acting update) h = tt
+puts-needs (acting create) h = absurd h
+puts-needs (acting drop) h = absurd h
+puts-needs (other select) h = absurd h
+puts-needs (other selectRelation) h = absurd h
+puts-needs (other aggregate) h = absurd h
+puts-needs (other sequential) h = absurd h
+puts-needs (other parallel) h = absurd h
+puts-needs (other badKind) h = absurd h
+
+abbrev isDrop : Kind → Bool
+isDrop k = eqb (code k) 24
+
+module _ (at : ℕ) (ts : List M.Table) (s : Site) (d : M.Node) (q : Relation) where
+  with-puts : (k : Kind) → T (putsRows k) → tablesWith k at ts s d q ≡ putContent at q ts
+  unfolding tablesWith
+  with-puts (acting insert) h = refl
+  with-puts (acting insertTable) h = refl
+  with-puts (acting delete) h = refl
+  with-puts (acting update) h = refl
+  with-puts (acting create) h = absurd h
+  with-puts (acting drop) h = absurd h
+  with-puts (other select) h = absurd h
+  with-puts (other selectRelation) h = absurd h
+  with-puts (other aggregate) h = absurd h
+  with-puts (other sequential) h = absurd h
+  with-puts (other parallel) h = absurd h
+  with-puts (other badKind) h = absurd h
+
+  with-same : (k : Kind) → putsRows k ≡ false → isCreate k ≡ false → isDrop k ≡ false → tablesWith k at ts s d q ≡ ts
+  unfolding tablesWith
+  with-same (acting insert) a b c = absurd (subst T a tt)
+  with-same (acting insertTable) a b c = absurd (subst T a tt)
+  with-same (acting delete) a b c = absurd (subst T a tt)
+  with-same (acting update) a b c = absurd (subst T a tt)
+  with-same (acting create) a b c = absurd (subst T b tt)
+  with-same (acting drop) a b c = absurd (subst T c tt)
+  with-same (other o) a b c = refl
+
+-- ── tables ──
+
+-- the table at `slot` gives way to `fresh`
+pub table-gives-way :
+    (n : ℕ) (l : List Table) (at slot b : ℕ) (fresh : Table) (s : Site) (d : M.Node) → length l ≡ 8 → n ≤ 8 → slot ≡ cond (ltb at n) at 0 → fresh .site ≡ getD l slot noTable .site → fresh .name ≡ getD l slot noTable .name →
+    (T (needsTable (kindAt b)) → at < n) → T (putsRows (kindAt b)) → tablesOf n (set l slot fresh) ≡ tablesWith (kindAt b) at (tablesOf n l) s d (relationOf (fresh .content))
+table-gives-way n l at slot b fresh s d eight few slot-is site-is name-is there h =
+    ap (λ (i : ℕ). tablesOf n (set l i fresh)) e
+    ∙ firsts-set tableOf noTable n l at fresh (omega (arith, low, eight, few))
+    ∙ ap (set (tablesOf n l) at)
+    ((λ i. record { site = (site-is ∙ ap (λ (j : ℕ). getD l j noTable .site) e) i; name = (name-is ∙ ap (λ (j : ℕ). getD l j noTable .name) e) i; content = relationOf (fresh .content) })
+    ∙ sym (ap (withContent (relationOf (fresh .content))) (firsts-at tableOf noTable n l at (tableOf noTable) low)))
+    ∙ sym (with-puts at (tablesOf n l) s d (relationOf (fresh .content)) (kindAt b) h)
+  where
+    low : at < n
+    low = there (puts-needs (kindAt b) h)
+
+    e : slot ≡ at
+    e = slot-is ∙ ap (λ (x : Bool). cond x at 0) (lt-ltb at n low)
+
+-- no table does
+pub tables-stay : (b at : ℕ) (ts : List M.Table) (s : Site) (d : M.Node) (q : Relation) → putsRows (kindAt b) ≡ false → eqb b 23 ≡ false → eqb b 24 ≡ false → ts ≡ tablesWith (kindAt b) at ts s d q
+unfolding kindAt
+tables-stay b at ts s d q e x y = sym (with-same at ts s d q (kindAt b) e (sym (at-one isCreate 23 tt tt b) ∙ x) (sym (at-one isDrop 24 tt tt b) ∙ y))
+
+-- a new one goes last
+pub table-created :
+    (n : ℕ) (l : List Table) (at b : ℕ) (s : Site) (d : M.Node) (q : Relation) (t : Table) → length l ≡ 8 → b ≡ 23 → n < 8 →
+    tableOf t ≡ record { site = s; name = d .name; content = record { columns = d .columns; rows = [] } } → tablesOf (n + 1) (set l n t) ≡ tablesWith (kindAt b) at (tablesOf n l) s d q
+table-created n l at b s d q t eight e room is = with-create at (tablesOf n l) s d q e is (firsts-push tableOf noTable n l t (omega (arith, eight)))
+
+-- a removed one closes up
+pub table-dropped :
+    (n : ℕ) (l : List Table) (at b : ℕ) (s : Site) (d : M.Node) (q : Relation) {new : List Table} {x : ℕ} → b ≡ 24 → at < n → Closing noTable l at x new → n - 1 ≤ x →
+    tablesOf (n - 1) new ≡ tablesWith (kindAt b) at (tablesOf n l) s d q
+table-dropped n l at b s d q e low c h = closing-ends tableOf noTable n c low h ∙ sym (with-drop at (tablesOf n l) s d q e)
+
+-- ── threads ──
+
+module _ (n : ℕ) (l : List Thread) (at : ℕ) (t fork : Thread) (low : at < n) where
+  -- without an entry it is removed
+  pub thread-gone :
+      {new : List Thread} {x : ℕ} → Closing noThread l at x new → n - 1 ≤ x → t .depth ≡ 0 → (f : Bool) → (T f → 1 ≤ t .depth) →
+      threadsOf (n - 1) new ≡ settle at (standing (threadOf t)) (threadsOf n l) ++ forksOf f fork
+  thread-gone c h e true k = absurd (omega (arith, k tt))
+  thread-gone c h e false k =
+      closing-ends threadOf noThread n c low h
+      ∙ sym (append-nil _ ∙ ap (λ (us : List M.Thread). settle at us (threadsOf n l)) (standing-gone t e) ∙ settle-none at (threadsOf n l))
+
+  module _ (eight : length l ≡ 8) (few : n ≤ 8) (deep : 1 ≤ t .depth) where
+    put : threadsOf n (set l at t) ≡ settle at (standing (threadOf t)) (threadsOf n l)
+    put =
+        firsts-set threadOf noThread n l at t (omega (arith, eight, low, few))
+        ∙ sym (settle-one at (threadOf t) (threadsOf n l))
+        ∙ ap (λ (us : List M.Thread). settle at us (threadsOf n l)) (sym (standing-there t deep))
+
+    pub thread-stays : {f : Bool} → f ≡ false → threadsOf n (set l at t) ≡ settle at (standing (threadOf t)) (threadsOf n l) ++ forksOf f fork
+    thread-stays e =
+        put ∙ sym (append-nil (settle at (standing (threadOf t)) (threadsOf n l)))
+        ∙ ap (λ (b : Bool). settle at (standing (threadOf t)) (threadsOf n l) ++ forksOf b fork) (sym e)
+
+    -- and a fork goes last
+    pub thread-forks : {f : Bool} → f ≡ true → n < 8 → threadsOf (n + 1) (set (set l at t) n fork) ≡ settle at (standing (threadOf t)) (threadsOf n l) ++ forksOf f fork
+    thread-forks e room =
+        firsts-push threadOf noThread n (set l at t) fork (omega (arith, length-set l at t, eight, room))
+        ∙ ap (_++ (threadOf fork ∷ [])) put
+        ∙ ap (λ (b : Bool). settle at (standing (threadOf t)) (threadsOf n l) ++ forksOf b fork) (sym e)
+
+-- ── what is stored in the thread ──
+
+-- a thread that is, at its end, as `moved` makes it
+pub as-moved : (t : Thread) (r : Decided) (i : ℕ) (f : Frame) {u v : Thread} → u ≡ v → v ≡ moved t r i f (v .relations) → u ≡ moved t r i f (u .relations)
+as-moved t r i f e h = e ∙ h ∙ sym (ap (λ (x : Thread). moved t r i f (x .relations)) e)
+
+-- a table variable bound anew
+pub bound-set :
+    (vs : List TableVariable) (b : ℕ) (q : Code.Relation) (m : Relation) → Holds q (m .columns) (m .rows) → {x : Bool} → x ≡ true →
+    map variableOf (set vs b (record { bound = true; content = q })) ≡ cond x (set (map variableOf vs) b (some m)) (map variableOf vs)
+bound-set vs b q m h e =
+    map-set variableOf vs b (record { bound = true; content = q })
+    ∙ ap (λ (r : Relation). set (map variableOf vs) b (some r)) (λ i. record { columns = h .columns i; rows = h .rows i })
+    ∙ ap (λ (x : Bool). cond x (set (map variableOf vs) b (some m)) (map variableOf vs)) (sym e)
+
+pub bound-none : (vs : List TableVariable) (o : List (Option Relation)) {x : Bool} → x ≡ false → map variableOf vs ≡ cond x o (map variableOf vs)
+bound-none vs o e = ap (λ (x : Bool). cond x o (map variableOf vs)) (sym e)

@@ -1,0 +1,83 @@
+// Threads with some fields exchanged, by bytes.
+use nets::Entry;
+use nets::Frame;
+use nets::TableVariable;
+use nets::Thread;
+use record_bytes::bytes::text_in;
+use rows::Relation;
+use samples::contents::content_of;
+use samples::threads::to_run;
+use samples::threads::visiting;
+use values::Got;
+use values::Locality;
+use values::Site;
+use values::Slot;
+use values::Value;
+ghost use Prim.Native.Nat.{_<_};
+
+// At another site, with another count of entries.
+fn moved(thread: Thread, site: Site, depth: usize) -> Thread {
+    let mut t = thread;
+    t.site = site;
+    t.depth = depth;
+    t
+}
+
+// Another value in variable 15.
+fn holding(thread: Thread, value: Value) -> Thread {
+    let mut t = thread;
+    t.vars[15] = Slot {
+        held: Got::One(value),
+    };
+    t
+}
+
+// A Text, or a Loc.
+fn value_of(kind: u8, text: u32, locality: u8) -> Value {
+    if kind == 2 {
+        return Value::Text(text);
+    }
+    Value::Loc(Locality(locality))
+}
+
+// Table variable `at` bound to another content, or unbound.
+fn binding(thread: Thread, at: usize, bound: bool, content: Relation) -> Thread
+    requires { ⌜ at < 2 ⌝ }
+{
+    let mut t = thread;
+    t.relations[at] = TableVariable { bound, content };
+    t
+}
+
+// An entry to run, or a loop entry with one row still to visit, or none.
+fn frame_of(kind: u8, node: u8, at: u8) -> Frame {
+    match kind {
+        0 => to_run(node),
+        1 => visiting(node, (at % 16) as usize),
+        _ => Frame {
+            entry: Entry::Loop(node),
+            visit: [false; 16],
+        },
+    }
+}
+
+// Two entries, which may be one, each by its place and three bytes.
+fn stacked(thread: Thread, e: [u8; 24]) -> Thread {
+    let below = (e[4] % 8) as usize;
+    let above = (e[8] % 8) as usize;
+    let mut t = thread;
+    t.stack[below] = frame_of(e[5], e[6], e[7]);
+    t.stack[above] = frame_of(e[9], e[10], e[11]);
+    t
+}
+
+// 14 site and count of entries, 15 a variable, 16 a table variable, 17 entries.
+pub fn thread_of(thread: Thread, e: [u8; 24]) -> Thread {
+    let part = e[3];
+    match part {
+        14 => moved(thread, Site(e[4]), e[5] as usize),
+        15 => holding(thread, value_of(e[4], text_in(&e[16..20]), e[5])),
+        16 => binding(thread, (e[4] % 2) as usize, e[16] == 1, content_of(e)),
+        _ => stacked(thread, e),
+    }
+}
