@@ -1,6 +1,9 @@
 // Nets at the limits and chains of picks on them, one for each kind of step, for the benchmark of `second/bench`, which hands them over as two files, for the second engine and for this crate.
 // The calls take files, lists of picks as bytes, two for each, and plain numbers. A kind says which picks a chain has.
 use nets::Net;
+use running::chain;
+use starting::start;
+use summing::with_net;
 
 pub mod loads;
 pub mod picking;
@@ -8,10 +11,6 @@ pub mod running;
 pub mod starting;
 pub mod summing;
 pub mod whole;
-
-use running::chain;
-use starting::start;
-use summing::with_net;
 
 // A net, and the sum over the answers so far.
 pub struct Chained {

@@ -1,5 +1,5 @@
 -- What the calls of other programs give back.
-pub mod Layouts
 pub mod Calls
-pub mod Openings
 pub mod Examples
+pub mod Layouts
+pub mod Openings

@@ -1,9 +1,9 @@
-pub mod Loading
-pub mod FileTables
-pub mod FileDemand3
-pub mod Writing
 pub mod Empty
 pub mod Engine
 pub mod EngineDemand3
-pub mod RoundTrip
 pub mod Examples
+pub mod FileDemand3
+pub mod FileTables
+pub mod Loading
+pub mod RoundTrip
+pub mod Writing

@@ -1,6 +1,5 @@
 // Loading: checks 1 to 9 in order, and the net and picks of a file that passes them.
 use crate::FileRead;
-use declaring::tables::tables_from;
 use files::Loaded;
 use files::Verdict;
 use load_groups::aliases::aliases_from;
@@ -12,6 +11,7 @@ use load_groups::picks::picks_from;
 use load_groups::starts::starts_from;
 use load_links::links::bad_link;
 use load_walk::Reach;
+use load_walk::tables::tables_from;
 use nets::Net;
 use nets::Pick;
 ghost use mathlib.Core.Path.{_≡_};

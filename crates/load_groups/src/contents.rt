@@ -1,6 +1,5 @@
 // Row records, group 3: checks 4, 7 and 8.
 use crate::RowTaken;
-use crate::drafts::row_draft;
 use load_walk::Reach;
 use load_walk::TablesRead;
 use load_walk::contents::content_fault;
@@ -10,6 +9,7 @@ use nets::Table;
 use nets::tables::find_table;
 use record_forms::forms::name_in;
 use record_forms::forms::site_in;
+use record_nodes::drafts::row_draft;
 use record_nodes::tuples::row_form;
 ghost use mathlib.Core.Path.{_≡_};
 ghost use mathlib.Core.Bool.{false};

@@ -9,7 +9,6 @@ use nets::Thread;
 pub mod aliases;
 pub mod blanks;
 pub mod contents;
-pub mod drafts;
 pub mod ending;
 pub mod nodes;
 pub mod picks;

@@ -1,5 +1,5 @@
 // Check 9, when all records are read.
-use nodetests::nodes::links_at;
+use net_parts::nodes::links_at;
 use record_forms::forms::group_of;
 ghost use mathlib.Core.Path.{_≡_};
 ghost use mathlib.Core.Bool.{cond};

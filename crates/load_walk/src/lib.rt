@@ -3,6 +3,7 @@ use nets::Table;
 
 pub mod blanks;
 pub mod contents;
+pub mod tables;
 pub mod walking;
 
 // A place in the file: of the next record, with the group of the last one looked at and the number of the fault there, 0 for none.

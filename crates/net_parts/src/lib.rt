@@ -2,6 +2,7 @@
 use values::Site;
 
 pub mod lists;
+pub mod nodes;
 pub mod operands;
 pub mod ranges;
 pub mod relations;
@@ -16,4 +17,10 @@ pub struct Extent {
 pub struct Label {
     pub site: Site,
     pub name: u32,
+}
+
+// The test of the nodes, and what each asks of a loop entry.
+pub struct Judged {
+    pub right: bool,
+    pub shapes: [u8; 128],
 }

@@ -2,12 +2,12 @@
 use crate::threads::threads_ok;
 use net_parts::lists::aliases_ok;
 use net_parts::lists::tables_ok;
+use net_parts::nodes::nodes_ok;
 use nets::Alias;
 use nets::Net;
 use nets::Node;
 use nets::Table;
 use nets::Thread;
-use nodetests::nodes::nodes_ok;
 ghost use mathlib.Core.Path.{_≡_};
 ghost use Rattle.nets.specs.Sound.{sound};
 ghost use Rattle.nets.specs.View.{view};

@@ -1,10 +1,10 @@
-pub mod Nets
-pub mod Tables
-pub mod Sound
-pub mod Scenes
-pub mod Steps
 pub mod Accounts
+pub mod Answers
 pub mod Demand3
 pub mod Examples
+pub mod Nets
+pub mod Scenes
+pub mod Sound
+pub mod Steps
+pub mod Tables
 pub mod View
-pub mod Answers

@@ -1,10 +1,10 @@
 // Node records: check 4, and the node that one says. A create has its columns where other nodes have bytes 8 to 11; an aggregate has T' first in t.
+use crate::operands::operand_form;
+use crate::operands::operand_in;
+use crate::operands::operands_form;
+use crate::operands::operands_in;
+use net_parts::nodes::fields_ok;
 use nets::Node;
-use nodetests::nodes::fields_ok;
-use operandforms::operands::operand_form;
-use operandforms::operands::operand_in;
-use operandforms::operands::operands_form;
-use operandforms::operands::operands_in;
 use record_bytes::bytes::text_in;
 use record_bytes::bytes::zeros;
 use record_forms::forms::columns_form;

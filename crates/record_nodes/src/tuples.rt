@@ -1,8 +1,8 @@
 // Row records: check 4.
+use crate::operands::operands_form;
+use crate::operands::operands_in;
 use net_parts::operands::operands_ok;
 use net_parts::ranges::is_text;
-use operandforms::operands::operands_form;
-use operandforms::operands::operands_in;
 use record_bytes::bytes::text_in;
 use record_bytes::bytes::zeros;
 ghost use mathlib.Core.Path.{_≡_};

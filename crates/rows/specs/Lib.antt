@@ -1,5 +1,5 @@
-pub mod Relations
-pub mod Matching
 pub mod Fit
-pub mod View
+pub mod Matching
 pub mod Plans
+pub mod Relations
+pub mod View

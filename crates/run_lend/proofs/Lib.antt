@@ -1,3 +1,3 @@
 -- Laws of lending that belong to no one function.
-pub mod Lent
 pub mod LendWalk
+pub mod Lent

@@ -1,3 +1,3 @@
 -- Laws of picks and answers as bytes.
-pub mod PickLaws
 pub mod AnswerLaws
+pub mod PickLaws

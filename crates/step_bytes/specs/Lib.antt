@@ -1,3 +1,3 @@
 -- Picks and answers as bytes.
-pub mod PickBytes
 pub mod AnswerBytes
+pub mod PickBytes

@@ -1,5 +1,4 @@
 // What a pick comes to: checks 12 to 20 in their order, and where the thread goes on.
-use effects::effects::vars_after;
 use nets::Answer;
 use nets::Entry;
 use nets::Frame;
@@ -11,6 +10,7 @@ use nets::kinds::needs_table;
 use rows::Relation;
 use step_answer::outcomes::says;
 use step_effect::Judged;
+use step_effect::effects::vars_after;
 use step_loop::loops::round;
 use step_meets::Decided;
 use step_meets::Setting;

@@ -1,3 +1,4 @@
 -- Laws that belong to no one function.
-pub mod JudgeLaws
 pub mod ByteLaws
+pub mod JudgeLaws
+pub mod KindTies

@@ -1,2 +1,3 @@
-pub mod Effects
 pub mod Contracts
+pub mod Effects
+pub mod TableContracts

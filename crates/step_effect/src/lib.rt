@@ -2,6 +2,8 @@
 use rows::Row;
 use values::Got;
 
+pub mod effects;
+pub mod lists;
 pub mod saying;
 
 // The rows that a step speaks of, judged before anything is changed: columns of what it makes of them, the rows with new ones at their places, which rows

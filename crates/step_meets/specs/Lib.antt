@@ -1,2 +1,2 @@
-pub mod Situations
 pub mod Contracts
+pub mod Situations

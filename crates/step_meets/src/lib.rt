@@ -4,7 +4,9 @@ use nets::Frame;
 use values::Site;
 use values::Slot;
 
+pub mod found;
 pub mod parts;
+pub mod places;
 
 // Where L leads.
 pub enum Located {

@@ -28,8 +28,8 @@ use Rattle.nets.specs.View.{noTable, noThread, kindAt, tableOf, variableOf, thr
 use Rattle.step_effect.specs.Contracts.{isStep, putsRows}
 use Rattle.step_thread.specs.Contracts.{standing, forksOf}
 use Rattle.step_thread.proofs.ThreadLaws.{standing-gone, standing-there, settle-none, settle-one}
-use Rattle.lists.specs.Contracts.{withContent, putContent, tablesWith}
-use Rattle.lists.proofs.KindTies.{with-create, with-drop}
+use Rattle.step_effect.specs.TableContracts.{withContent, putContent, tablesWith}
+use Rattle.step_effect.proofs.KindTies.{with-create, with-drop}
 use Rattle.nets.proofs.KindLaws.{at-one}
 use Rattle.values.proofs.RemoveLaws.{Closing, closing-ends}
 

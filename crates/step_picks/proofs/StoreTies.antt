@@ -37,7 +37,7 @@ use Rattle.nets.specs.Answers.{Said, refusing, numberOf, answerOf, saidOf, isRe
 use Rattle.step_effect.specs.Contracts.{isDoing, putsRows}
 use Rattle.step_thread.specs.Contracts.{standing, forksOf}
 use Rattle.step_meets.specs.Contracts.{laterChecks, outcomeAt, ChangeIs}
-use Rattle.lists.specs.Contracts.{putContent, tablesWith}
+use Rattle.step_effect.specs.TableContracts.{putContent, tablesWith}
 use Rattle.nets.proofs.StepLaws.{Passed}
 use Rattle.nets.proofs.AnswerLaws.{refuses-11}
 use Rattle.nets.proofs.RoundLaws.{given}

@@ -1,3 +1,2 @@
 // Picks in turn on a net.
-pub mod reading;
 pub mod turning;

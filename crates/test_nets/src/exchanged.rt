@@ -1,8 +1,19 @@
 // Nets by bytes: one net with one part exchanged for another. Of 24 bytes, byte 2 says which net, byte 3 which part, and the others its place and what it becomes. Operands are as in records.
 // Nets: 0 the sound one with two aliases, two tables, a node of each kind and two threads; 1 to 5 eight tables, all aliases, all nodes, eight threads, eight entries; 6 a loop past the nodes.
 // Parts: 1 counts, 2 an alias, 3 a table, 4 to 13 a node, 14 to 17 a thread. What lies past a count is out of every range.
+use crate::contents::CARD;
+use crate::contents::cards;
+use crate::contents::content_of;
+use crate::contents::logs;
+use crate::contents::no_relation;
 use crate::nodes::node_of;
+use crate::programs::looping;
+use crate::programs::nodes;
+use crate::programs::placed;
 use crate::stacks::thread_of;
+use crate::threads::busy_thread;
+use crate::threads::eight_entries;
+use crate::threads::no_thread;
 use nets::Alias;
 use nets::Net;
 use nets::Node;
@@ -10,17 +21,6 @@ use nets::Table;
 use nets::Thread;
 use record_bytes::bytes::text_in;
 use rows::Relation;
-use samples::contents::CARD;
-use samples::contents::cards;
-use samples::contents::content_of;
-use samples::contents::logs;
-use samples::contents::no_relation;
-use samples::programs::looping;
-use samples::programs::nodes;
-use samples::programs::placed;
-use samples::threads::busy_thread;
-use samples::threads::eight_entries;
-use samples::threads::no_thread;
 use values::Locality;
 use values::Site;
 

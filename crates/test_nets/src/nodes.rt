@@ -1,20 +1,20 @@
 // Nodes with some fields exchanged, by bytes.
+use crate::programs::bare;
+use crate::programs::four;
+use crate::programs::giving;
+use crate::programs::matching;
+use crate::programs::placed;
+use crate::programs::remade;
+use crate::programs::selecting;
+use crate::programs::two;
 use nets::Node;
-use operandforms::operands::operand_in;
 use record_bytes::bytes::text_in;
 use record_nodes::nodes::function_at;
 use record_nodes::nodes::test_at;
+use record_nodes::operands::operand_in;
 use rows::Operands;
 use rows::Selector;
 use rows::Test;
-use samples::programs::bare;
-use samples::programs::four;
-use samples::programs::giving;
-use samples::programs::matching;
-use samples::programs::placed;
-use samples::programs::remade;
-use samples::programs::selecting;
-use samples::programs::two;
 use values::Operand;
 
 // Operands of which so many count; `alike` says that all four are the first.

@@ -1,13 +1,13 @@
 // Threads with some fields exchanged, by bytes.
+use crate::contents::content_of;
+use crate::threads::to_run;
+use crate::threads::visiting;
 use nets::Entry;
 use nets::Frame;
 use nets::TableVariable;
 use nets::Thread;
 use record_bytes::bytes::text_in;
 use rows::Relation;
-use samples::contents::content_of;
-use samples::threads::to_run;
-use samples::threads::visiting;
 use values::Got;
 use values::Locality;
 use values::Site;

@@ -1,6 +1,6 @@
 // The order of values in matching and predicates.
-use texts::text::number_order;
-use texts::text::text_order;
+use crate::text::number_order;
+use crate::text::text_order;
 use values::Got;
 use values::Order;
 use values::Value;

@@ -1,2 +1,3 @@
 // The order of values.
 pub mod compare;
+pub mod text;

@@ -1,4 +1,4 @@
-pub mod Lists
-pub mod Values
-pub mod Operands
 pub mod Folding
+pub mod Lists
+pub mod Operands
+pub mod Values

@@ -1,2 +1,3 @@
 // Tables of a net written as 104-byte records.
+pub mod tables;
 pub mod writing;

@@ -1,6 +1,6 @@
 // Writing a net: its tables as records at the start of a lent buffer.
+use crate::tables::write_tables;
 use files::Written;
-use filling::tables::write_tables;
 use net_sound::whole::sound_net;
 use nets::Net;
 ghost use Rattle.files.specs.Engine.{WriteIs};

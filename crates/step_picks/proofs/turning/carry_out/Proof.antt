@@ -44,8 +44,8 @@ use Rattle.step_thread.specs.Contracts.{Stacked, standing, forksOf}
 use Rattle.step_meets.specs.Contracts.{Fine, Sourced, Meets, DecidedIs, partsIn, Made, changed, ChangeIs}
 use Rattle.step_meets.proofs.SituationLaws.{fine-read, fine-bound, sourced, judge-ready, act-ready}
 use Rattle.value_totals.specs.declared.Total.{Total}
-use Rattle.lists.specs.Contracts.{tablesWith}
-use Rattle.lists.proofs.KindTies.{either}
+use Rattle.step_effect.specs.TableContracts.{tablesWith}
+use Rattle.step_effect.proofs.KindTies.{either}
 use Rattle.step_left.specs.Turns.{Stood, stoodBy, GoneIs}
 use Rattle.step_left.proofs.TurnLaws.{Turned, gone-none, gone-again, gone-room, said-here, turned-refused, turned-done}
 use Rattle.values.proofs.Bools.{T-of}

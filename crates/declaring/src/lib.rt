@@ -1,2 +1,0 @@
-// The tables that a file declares.
-pub mod tables;

@@ -1,2 +1,0 @@
-// What a step that is no loop leaves.
-pub mod effects;

@@ -1,2 +1,0 @@
-// All tables written into a lent buffer.
-pub mod tables;

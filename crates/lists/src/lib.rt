@@ -1,2 +1,0 @@
-// Tables after a step.
-pub mod lists;

@@ -1,0 +1,101 @@
+// Table records, group 2: checks 4, 6 and 8.
+use crate::Reach;
+use crate::TablesRead;
+use crate::blanks::blank_relation;
+use crate::blanks::blank_table;
+use crate::walking::next_group;
+use nets::Table;
+use nets::tables::find_table;
+use record_forms::forms::columns_in;
+use record_forms::forms::kinds_in;
+use record_forms::forms::name_in;
+use record_forms::forms::site_in;
+use record_forms::forms::table_form;
+use rows::Relation;
+ghost use mathlib.Core.Path.{_≡_};
+ghost use mathlib.Core.Bool.{not};
+ghost use mathlib.Core.List.{[], _∷_};
+ghost use Prim.Native.Nat.{_≤_};
+ghost use lib.Dec.{ltb};
+ghost use lib.ListN.{length};
+ghost use Rattle.values.specs.Lists.{isSome};
+ghost use Rattle.rows.specs.View.{Shaped};
+ghost use Rattle.nets.specs.Tables.{tableAt};
+ghost use Rattle.nets.specs.Steps.{check};
+ghost use Rattle.nets.specs.View.{tableOf, tablesOf};
+ghost use Rattle.record_bytes.specs.Bytes.{part, columnsIn};
+ghost use Rattle.record_bytes.specs.Decoding.{siteAt, nameIn, tableForm};
+ghost use Rattle.files.specs.Loading.{bare};
+ghost use Rattle.load_walk.specs.Walking.{putTables, AllShaped, Leads, Going, formThen};
+
+// The number of its fault, 0 for none.
+pub fn table_fault(tables: [Table; 8], count: usize, r: &[u8]) -> u8
+    requires { ⌜ (length (now r) ≡ 104) × (count ≤ 8) ⌝ }
+    ensures { λ o. ⌜ o ≡ formThen (tableForm (now (r .entry))) (check 6 (not (isSome (tableAt (siteAt 1 (now (r .entry))) (nameIn (now (r .entry))) (tablesOf count tables)))) ∷ check 8 (ltb count 8) ∷ []) ⌝ }
+{
+    if !table_form(r) {
+        return 4;
+    }
+    if find_table(tables, count, site_in(r), name_in(r)) < count {
+        return 6;
+    }
+    if count < 8 {
+        return 0;
+    }
+    8
+}
+
+// The table, with no rows yet.
+pub fn table_in(r: &[u8]) -> Table
+    requires { ⌜ length (now r) ≡ 104 ⌝ }
+    ensures { λ o. ⌜ (tableOf o ≡ bare (siteAt 1 (now (r .entry))) (nameIn (now (r .entry))) (columnsIn (part 8 12 (now (r .entry))))) × Shaped (o .content) ⌝ }
+{
+    let blank = blank_relation();
+    let rows = blank.rows;
+    Table {
+        site: site_in(r),
+        name: name_in(r),
+        content: Relation {
+            columns: columns_in(&r[8..12]),
+            kinds: kinds_in(&r[8..12]),
+            rows,
+            count: 0,
+        },
+    }
+}
+
+pub fn tables_from(file: &[u8], from: Reach) -> TablesRead
+    requires { ⌜ Going (now file) 2 from ⌝ }
+    ensures { λ r. ⌜ Leads (now (file .entry)) from (r .reach) (putTables []) (putTables (tablesOf (r .count) (r .tables))) × Going (now (file .entry)) 3 (r .reach) × AllShaped (r .count) (r .tables) ⌝ }
+{
+    let mut tables = [blank_table(); 8];
+    let mut count: usize = 0;
+    let mut at = from;
+    while next_group(file, at) == 2 {
+        let i = at.place * 104;
+        let fault = table_fault(tables, count, &file[i..i + 104]);
+        if fault != 0 {
+            return TablesRead {
+                tables,
+                count,
+                reach: Reach {
+                    place: at.place,
+                    group: 2,
+                    fault,
+                },
+            };
+        }
+        tables[count] = table_in(&file[i..i + 104]);
+        count += 1;
+        at = Reach {
+            place: at.place + 1,
+            group: 2,
+            fault: 0,
+        };
+    }
+    TablesRead {
+        tables,
+        count,
+        reach: at,
+    }
+}

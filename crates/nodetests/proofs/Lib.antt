@@ -1,2 +1,0 @@
--- Laws of a node's fields that belong to no one function.
-pub mod FieldLaws

@@ -1,2 +1,0 @@
-// Operands as bytes: their forms, and what they say.
-pub mod operands;

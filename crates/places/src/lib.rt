@@ -1,2 +1,0 @@
-// The site that L means.
-pub mod places;

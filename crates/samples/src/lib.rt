@@ -1,4 +1,0 @@
-// Parts of nets made by hand, for tests.
-pub mod contents;
-pub mod programs;
-pub mod threads;

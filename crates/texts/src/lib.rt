@@ -1,2 +1,0 @@
-// The order of texts.
-pub mod text;
