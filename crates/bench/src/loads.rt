@@ -3,7 +3,7 @@ use crate::summing::with;
 use crate::summing::with_net;
 use files::Loaded;
 use files::Verdict;
-use load::loading::load;
+use load::load;
 use nets::Node;
 
 pub fn with_nodes(before: u64, nodes: [Node; 128], count: usize) -> u64 {

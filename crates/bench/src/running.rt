@@ -5,7 +5,7 @@ use crate::picking::pick_at;
 use crate::summing::with_answer;
 use nets::Answer;
 use nets::Stepped;
-use steps::stepping::step;
+use steps::step;
 
 // A chain, soundness tested at each step.
 pub fn chain(from: Chained, kind: u8) -> Chained {

@@ -2,7 +2,7 @@
 use crate::Chained;
 use crate::picking::EACH_THREAD;
 use crate::running::chain;
-use load::loading::load;
+use load::load;
 use nets::Net;
 
 // Aliases and tables of one net, nodes and threads of the other.

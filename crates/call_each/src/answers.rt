@@ -1,8 +1,8 @@
 // The call for answers.
-use call_open::opening::open_file;
+use call_open::open_file;
 use call_rules::Opening;
 use call_rules::Reply;
-use call_rules::refusals::refusal_reply;
+use call_rules::refusal_reply;
 use call_run::answers::answers_given;
 ghost use Rattle.call_rules.specs.Calls.{AnswersIs};
 

@@ -1,10 +1,10 @@
 // The threads left after all picks, and the call for them.
-use call_open::opening::open_file;
+use call_open::open_file;
 use call_rules::Opening;
 use call_rules::Reply;
-use call_rules::refusals::refusal_reply;
+use call_rules::refusal_reply;
 use call_run::running::run_picks;
-use call_thread::stacks::put_threads;
+use call_thread::put_threads;
 use nets::Net;
 ghost use lib.Dec.{T};
 ghost use Rattle.nets.specs.Sound.{sound};

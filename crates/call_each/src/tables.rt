@@ -1,12 +1,12 @@
 // The tables left after all picks, and the call for them.
-use call_open::opening::open_file;
-use call_reply::replies::reply_to;
+use call_open::open_file;
+use call_reply::reply_to;
 use call_rules::Opening;
 use call_rules::Reply;
-use call_rules::refusals::refusal_reply;
+use call_rules::refusal_reply;
 use call_run::running::run_picks;
 use nets::Net;
-use write::writing::write;
+use write::write;
 ghost use lib.Dec.{T};
 ghost use Rattle.nets.specs.Sound.{sound};
 ghost use Rattle.nets.specs.View.{view};

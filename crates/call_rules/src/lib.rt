@@ -1,7 +1,7 @@
-// What calls of other programs give back.
+// The reply to a file or picks that are refused.
 use nets::Net;
-
-pub mod refusals;
+ghost use mathlib.Core.Path.{_≡_};
+ghost use Rattle.call_rules.specs.Openings.{refusalReply};
 
 // A number, and the place that goes with it.
 pub struct Reply {
@@ -25,4 +25,19 @@ pub enum Opening {
 pub struct Opened {
     pub opening: Opening,
     pub net: Net,
+}
+
+// Numbers that only calls have begin at 100, so that they never meet a number of the papers.
+const ODD_PICKS_NUMBER: u8 = 100;
+
+pub fn refusal_reply(why: NotOpened) -> Reply
+    ensures { λ r. ⌜ r ≡ refusalReply why ⌝ }
+{
+    match why {
+        NotOpened::Fault(number, place) => Reply { number, place },
+        NotOpened::OddPicks => Reply {
+            number: ODD_PICKS_NUMBER,
+            place: 0,
+        },
+    }
 }

@@ -2,7 +2,7 @@
 use call_rules::Reply;
 use nets::Net;
 use step_bytes::answers::has_room;
-use step_picks::turning::carry_out;
+use step_picks::carry_out;
 ghost use lib.Dec.{T};
 ghost use Rattle.nets.specs.Sound.{sound};
 ghost use Rattle.nets.specs.View.{view};

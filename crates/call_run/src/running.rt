@@ -1,7 +1,7 @@
 // Runs over picks held as bytes.
 use nets::Net;
 use step_left::left_by;
-use step_picks::turning::carry_out;
+use step_picks::carry_out;
 ghost use mathlib.Core.Path.{_≡_};
 ghost use lib.Dec.{T};
 ghost use Rattle.nets.specs.Sound.{sound};

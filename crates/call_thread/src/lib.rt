@@ -1,2 +1,94 @@
 // Threads put into their bytes.
-pub mod stacks;
+use nets::Entry;
+use nets::Frame;
+use nets::Thread;
+use step_thread::node_of;
+use step_thread::top_frame;
+use values::Site;
+ghost use mathlib.Core.Path.{_≡_};
+ghost use mathlib.Core.List.{map};
+ghost use Prim.Native.Nat.{_*_, _<_, _≤_};
+ghost use lib.ListN.{length};
+ghost use Rattle.values.specs.Lists.{bit, among};
+ghost use Rattle.nets.specs.View.{entryOf, threadOf, threadsOf};
+ghost use Rattle.value_bytes.specs.Bytes.{endToEnd};
+ghost use Rattle.step_thread.specs.Contracts.{Stacked};
+ghost use Rattle.call_rules.specs.Layouts.{entryKind, toVisit, visitBytes, headBytes, threadBytes};
+ghost use Rattle.call_rules.specs.Openings.{AllStacked};
+
+// ---- one thread
+
+fn one_if(b: bool) -> u8
+    ensures { λ r. ⌜ r ≡ bit b ⌝ }
+{
+    if b { 1 } else { 0 }
+}
+
+// 1 for a row still to visit.
+fn flag_of(f: Frame, i: usize) -> u8
+    requires { ⌜ i < 16 ⌝ }
+    ensures { λ r. ⌜ r ≡ bit (among i (toVisit (entryOf f))) ⌝ }
+{
+    let e = f.entry;
+    match e {
+        Entry::Run(_) => 0,
+        Entry::Loop(_) => one_if(f.visit[i]),
+    }
+}
+
+fn put_visit(out: &mut [u8], f: Frame)
+    requires { ⌜ length (now out) ≡ 16 ⌝ }
+    ensures { λ _. ⌜ now (out .exit) ≡ visitBytes (toVisit (entryOf f)) ⌝ }
+{
+    let mut i = 0;
+    while i < 16 {
+        out[i] = flag_of(f, i);
+        i += 1;
+    }
+}
+
+fn kind_of(f: Frame) -> u8
+    ensures { λ r. ⌜ r ≡ entryKind (entryOf f) ⌝ }
+{
+    let e = f.entry;
+    match e {
+        Entry::Run(_) => 0,
+        Entry::Loop(_) => 1,
+    }
+}
+
+fn put_head(out: &mut [u8], site: Site, depth: usize, f: Frame)
+    requires { ⌜ (length (now out) ≡ 8) × (depth ≤ 8) ⌝ }
+    ensures { λ _. ⌜ now (out .exit) ≡ headBytes (site .0) depth (entryOf f) ⌝ }
+{
+    out[0] = site.0;
+    out[1] = depth as u8;
+    out[2] = kind_of(f);
+    out[3] = node_of(f);
+    out[4] = 0;
+    out[5] = 0;
+    out[6] = 0;
+    out[7] = 0;
+}
+
+fn put_thread(out: &mut [u8], t: Thread)
+    requires { ⌜ (length (now out) ≡ 24) × Stacked t ⌝ }
+    ensures { λ _. ⌜ now (out .exit) ≡ threadBytes (threadOf t) ⌝ }
+{
+    let f = top_frame(t);
+    put_head(&mut out[0..8], t.site, t.depth, f);
+    put_visit(&mut out[8..24], f);
+}
+
+// ---- all threads
+
+pub fn put_threads(out: &mut [u8], threads: [Thread; 8], count: usize)
+    requires { ⌜ (count ≤ 8) × AllStacked count threads × (length (now out) ≡ count * 24) ⌝ }
+    ensures { λ _. ⌜ now (out .exit) ≡ endToEnd (map threadBytes (threadsOf count threads)) ⌝ }
+{
+    let mut i = 0;
+    while i < count {
+        put_thread(&mut out[i * 24..i * 24 + 24], threads[i]);
+        i += 1;
+    }
+}

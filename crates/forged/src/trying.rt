@@ -9,10 +9,10 @@ use print_lines::pages::put_byte;
 use print_lines::pages::put_bytes;
 use print_lines::pages::put_decimal;
 use print_lines::pages::write_page;
-use steps::stepping::step;
+use steps::step;
 use test_compare::whole::same_net;
 use test_nets::exchanged::exchanged;
-use write::writing::write;
+use write::write;
 ghost use Prim.Native.Nat.{_≤_};
 
 fn put_same(page: &mut [u8; 4096], at: usize, same: bool) -> usize

@@ -1,9 +1,27 @@
-// Files of 104-byte records: loading.
+// Loading: checks 1 to 9 in order, and the net and picks of a file that passes them.
+use files::Loaded;
+use files::Verdict;
+use load_groups::aliases::aliases_from;
+use load_groups::blanks::blank_net;
+use load_groups::contents::rows_from;
+use load_groups::ending::reach_end;
+use load_groups::nodes::nodes_from;
+use load_groups::picks::picks_from;
+use load_groups::starts::starts_from;
+use load_links::bad_link;
 use load_walk::Reach;
+use load_walk::tables::tables_from;
 use nets::Net;
 use nets::Pick;
-
-pub mod loading;
+ghost use mathlib.Core.Path.{_≡_};
+ghost use Prim.Native.Nat.{_≤_, _*_};
+ghost use lib.ListN.{length};
+ghost use Rattle.nets.specs.View.{view};
+ghost use Rattle.record_bytes.specs.Decoding.{wholeRecords, recordsIn};
+ghost use Rattle.files.specs.Empty.{blankNet};
+ghost use Rattle.files.specs.Engine.{LoadIs, picksOf};
+ghost use Rattle.files.specs.Loading.{nothingRead, readAll};
+ghost use Rattle.load_walk.specs.Walking.{ending};
 
 // What all records gave, up to the first fault.
 pub struct FileRead {
@@ -11,4 +29,86 @@ pub struct FileRead {
     pub picks: [Pick; 256],
     pub pickcount: usize,
     pub reach: Reach,
+}
+
+// Checks 3 to 8, group after group.
+pub fn read_all(file: &[u8]) -> FileRead
+    requires { ⌜ (length (now file) ≡ wholeRecords (now file) * 104) × (wholeRecords (now file) ≤ 256) ⌝ }
+    ensures { λ r. ⌜ readAll 0 nothingRead (recordsIn (now (file .entry))) ≡ ending (r .reach) (record { net = view (r .net); picks = picksOf (r .pickcount) (r .picks); group = 0 }) ⌝ }
+{
+    let start = Reach {
+        place: 0,
+        group: 0,
+        fault: 0,
+    };
+    let a = aliases_from(file, start);
+    let t = tables_from(file, a.reach);
+    let c = rows_from(file, t);
+    let n = nodes_from(file, c.reach);
+    let s = starts_from(file, n.reach);
+    let p = picks_from(file, s.reach);
+    let reach = reach_end(file, p.reach);
+    let aliases = a.aliases;
+    let tables = c.tables;
+    let nodes = n.nodes;
+    let threads = s.threads;
+    let picks = p.picks;
+    FileRead {
+        net: Net {
+            aliases,
+            aliascount: a.count,
+            tables,
+            tablecount: c.count,
+            nodes,
+            nodecount: n.count,
+            threads,
+            threadcount: s.count,
+        },
+        picks,
+        pickcount: p.count,
+        reach,
+    }
+}
+
+// A refused file: the empty net and no picks.
+fn refused(number: u8, place: usize) -> Loaded
+    ensures { λ r. ⌜ (r .verdict ≡ Verdict.Fault number place) × (r .net ≡ blankNet) × (r .pickcount ≡ 0) ⌝ }
+{
+    let verdict = Verdict::Fault(number, place);
+    Loaded {
+        verdict,
+        net: blank_net(),
+        picks: [Pick { thread: 0, row: 0 }; 256],
+        pickcount: 0,
+    }
+}
+
+// The first fault with its place, or the net and the picks.
+pub fn load(file: &[u8]) -> Loaded
+    ensures { λ r. ⌜ LoadIs (now (file .entry)) r ⌝ }
+{
+    let count = file.len() / 104;
+    if file.len() % 104 != 0 {
+        return refused(1, count);
+    }
+    if 256 < count {
+        return refused(2, 256);
+    }
+    let read = read_all(file);
+    let reach = read.reach;
+    if reach.fault != 0 {
+        return refused(reach.fault, reach.place);
+    }
+    let net = read.net;
+    let bad = bad_link(file, net.nodecount);
+    if bad < count {
+        return refused(9, bad);
+    }
+    let picks = read.picks;
+    Loaded {
+        verdict: Verdict::Accepted,
+        net,
+        picks,
+        pickcount: read.pickcount,
+    }
 }

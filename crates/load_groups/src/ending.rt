@@ -1,10 +1,10 @@
 // The record at which all groups are past: checks 3, 4 and 5.
 use load_walk::Reach;
-use record_forms::forms::alias_form;
-use record_forms::forms::group_of;
-use record_forms::forms::pick_form;
-use record_forms::forms::start_form;
-use record_forms::forms::table_form;
+use record_forms::alias_form;
+use record_forms::group_of;
+use record_forms::pick_form;
+use record_forms::start_form;
+use record_forms::table_form;
 use record_nodes::nodes::node_form;
 use record_nodes::tuples::row_form;
 ghost use mathlib.Core.Path.{_≡_};

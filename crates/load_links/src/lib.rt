@@ -1,2 +1,64 @@
 // The links between the records of a file.
-pub mod links;
+use net_parts::nodes::links_at;
+use record_forms::group_of;
+ghost use mathlib.Core.Path.{_≡_};
+ghost use mathlib.Core.Bool.{cond};
+ghost use Prim.Native.Nat.{_+_, _*_, _≤_};
+ghost use lib.Dec.{T, eqb, ltb};
+ghost use lib.ListN.{length};
+ghost use Rattle.values.specs.Lists.{all};
+ghost use Rattle.record_bytes.specs.Decoding.{wholeRecords, recordsIn};
+ghost use Rattle.files.specs.Loading.{firstBadLink};
+ghost use Rattle.load_walk.specs.Walking.{isGood, placeOr, LinkIs};
+
+// A start's node is among the `n` nodes.
+pub fn start_ok(node: u8, n: usize) -> bool
+    ensures { λ r. ⌜ r ≡ ltb node n ⌝ }
+{
+    (node as usize) < n
+}
+
+// The number of the node met next, after a record of this group.
+pub fn number_after(group: u8, j: usize) -> usize
+    requires { ⌜ j ≤ 256 ⌝ }
+    ensures { λ r. ⌜ r ≡ cond (eqb group 4) (j + 1) j ⌝ }
+{
+    if group == 4 {
+        return j + 1;
+    }
+    j
+}
+
+// With `n` nodes in all, `j` the number of the node met next: this record's, if it is a node.
+pub fn link_ok(r: &[u8], n: usize, j: usize) -> bool
+    requires { ⌜ length (now r) ≡ 104 ⌝ }
+    ensures { λ o. ⌜ LinkIs n j (now (r .entry)) o ⌝ }
+{
+    let kind = r[0];
+    let group = group_of(kind);
+    match group {
+        4 => links_at(kind, r[1], r[2], j, n),
+        5 => start_ok(r[2], n),
+        _ => true,
+    }
+}
+
+// The place of the first record that fails it; the number of records where none does.
+pub fn bad_link(file: &[u8], n: usize) -> usize
+    requires { ⌜ (length (now file) ≡ wholeRecords (now file) * 104) × (wholeRecords (now file) ≤ 256) × T (all isGood (recordsIn (now file))) ⌝ }
+    ensures { λ r. ⌜ r ≡ placeOr (wholeRecords (now (file .entry))) (firstBadLink n 0 0 (recordsIn (now (file .entry)))) ⌝ }
+{
+    let count = file.len() / 104;
+    let mut i: usize = 0;
+    let mut j: usize = 0;
+    while i < count {
+        let at = i * 104;
+        let group = group_of(file[at]);
+        if !link_ok(&file[at..at + 104], n, j) {
+            return i;
+        }
+        j = number_after(group, j);
+        i += 1;
+    }
+    count
+}

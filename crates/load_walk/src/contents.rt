@@ -1,5 +1,5 @@
 // A row in the content of its table: checks 7 and 8.
-use row_change::changes::push;
+use row_change::appending::push;
 use row_fit::fit::fits_columns;
 use row_fit::fit::row_of;
 use rows::Draft;

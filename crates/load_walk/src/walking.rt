@@ -1,6 +1,6 @@
 // The next record of a file, by its group.
 use crate::Reach;
-use record_forms::forms::group_of;
+use record_forms::group_of;
 ghost use mathlib.Core.Path.{_≡_};
 ghost use Prim.Native.Nat.{_≤_};
 ghost use Rattle.load_walk.specs.Walking.{groupNext};

@@ -1,7 +1,7 @@
 // Reads a file of records on standard input, carries out its picks, and prints each pick's answer and then the tables left.
 use files::Verdict;
 use libc::STDIN_FILENO;
-use load::loading::load;
+use load::load;
 use nets::Net;
 use nets::Pick;
 use print_lines::faults::print_fault;
@@ -13,7 +13,7 @@ use print_lines::pages::at_most;
 use print_lines::pages::write_page;
 use step_bytes::picks::pick_bytes;
 use step_left::Gone;
-use step_picks::turning::carry_out;
+use step_picks::carry_out;
 ghost use mathlib.Core.Path.{_≡_};
 ghost use Prim.Native.Nat.{_*_, _≤_};
 ghost use lib.Dec.{T};

@@ -2,7 +2,7 @@
 use files::Loaded;
 use files::Verdict;
 use libc::STDIN_FILENO;
-use load::loading::load;
+use load::load;
 use nets::Net;
 use nets::Pick;
 use print_lines::faults::print_fault;

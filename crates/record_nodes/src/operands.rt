@@ -1,9 +1,9 @@
 // Operands of 8 bytes, and lists of up to four of them.
-use record_bytes::bytes::before_none;
-use record_bytes::bytes::int_in;
-use record_bytes::bytes::nones_last;
-use record_bytes::bytes::text_in;
-use record_bytes::bytes::zeros;
+use record_bytes::before_none;
+use record_bytes::int_in;
+use record_bytes::nones_last;
+use record_bytes::text_in;
+use record_bytes::zeros;
 use rows::Field;
 use rows::Operands;
 use values::Locality;

@@ -2,7 +2,7 @@
 use rows::Cell;
 use rows::Row;
 
-pub mod changes;
+pub mod appending;
 pub mod sifting;
 
 // A cell made for a column, and whether there is a value of its kind.

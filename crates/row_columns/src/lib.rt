@@ -1,2 +1,66 @@
-// The columns that a select makes.
-pub mod columns;
+// The columns that a select makes: a kind for each component of t.
+use row_terms::source_of;
+use rows::Operands;
+use rows::Source;
+use values::Operand;
+use values::Slot;
+use values::kinds::kind_in;
+ghost use mathlib.Core.Path.{_≡_};
+ghost use Prim.Native.Nat.{_<_};
+ghost use lib.ListN.{getD};
+ghost use Rattle.values.specs.Operands.{varsOf, bind};
+ghost use Rattle.rows.specs.View.{noField, columnsOf, operandsOf, Short};
+ghost use Rattle.rows.specs.Plans.{sourceKind};
+ghost use Rattle.row_change.specs.Changes.{kindsOf, columnFor, selectedColumns};
+
+pub fn source_kind(s: Source, kinds: [u8; 4]) -> u8
+    ensures { λ r. ⌜ r ≡ sourceKind s kinds ⌝ }
+{
+    match s {
+        Source::Fixed(g) => kind_in(g),
+        Source::Column(i) => {
+            let at = i as usize;
+            if 4 <= at {
+                return 0;
+            }
+            kinds[at]
+        }
+    }
+}
+
+// The kind of a component of t.
+pub fn column_kind(op: Operand, template: Operands, kinds: [u8; 4], vars: [Slot; 16]) -> u8
+    requires { ⌜ Short template ⌝ }
+    ensures { λ r. ⌜ r ≡ columnFor (bind (operandsOf template) (columnsOf (template .count) kinds) (kindsOf (varsOf vars))) op ⌝ }
+{
+    match op {
+        Operand::Absent => 0,
+        Operand::ConstInt(_) => 1,
+        Operand::ConstText(_) => 2,
+        Operand::ConstLoc(_) => 3,
+        Operand::Var(i) => source_kind(source_of(i, template, vars), kinds),
+        Operand::Plus(_, _) => 1,
+        Operand::Formal(_) => 0,
+    }
+}
+
+pub fn kind_for(t: Operands, i: usize, template: Operands, kinds: [u8; 4], vars: [Slot; 16]) -> u8
+    requires { ⌜ Short template × (i < 4) ⌝ }
+    ensures { λ r. ⌜ r ≡ columnFor (bind (operandsOf template) (columnsOf (template .count) kinds) (kindsOf (varsOf vars))) (getD (t .fields) i noField .operand) ⌝ }
+{
+    let f = t.fields[i];
+    let op = f.operand;
+    column_kind(op, template, kinds, vars)
+}
+
+// One column for every component of t.
+pub fn selected_kinds(t: Operands, template: Operands, kinds: [u8; 4], vars: [Slot; 16]) -> [u8; 4]
+    requires { ⌜ Short t × Short template ⌝ }
+    ensures { λ r. ⌜ columnsOf (t .count) r ≡ selectedColumns (varsOf vars) (operandsOf template) (operandsOf t) (columnsOf (template .count) kinds) ⌝ }
+{
+    let a = kind_for(t, 0, template, kinds, vars);
+    let b = kind_for(t, 1, template, kinds, vars);
+    let c = kind_for(t, 2, template, kinds, vars);
+    let d = kind_for(t, 3, template, kinds, vars);
+    [a, b, c, d]
+}

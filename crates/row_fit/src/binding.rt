@@ -1,7 +1,7 @@
 // T's formals bound to a row's values, for the rounds of loops.
 use rows::Operands;
 use rows::Row;
-use value_eval::eval::bind_to;
+use value_eval::bind_to;
 use values::Got;
 use values::Slot;
 ghost use mathlib.Core.Path.{_≡_};

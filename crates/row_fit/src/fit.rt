@@ -3,7 +3,7 @@ use rows::Cell;
 use rows::Draft;
 use rows::Operands;
 use rows::Row;
-use value_eval::eval::eval_in;
+use value_eval::eval_in;
 use values::Got;
 use values::Slot;
 use values::Value;

@@ -1,2 +1,196 @@
 // Selectors prepared for one relation, and the rows that they select.
-pub mod plans;
+use row_terms::term_got;
+use row_terms::term_of;
+use rows::Operands;
+use rows::Plan;
+use rows::Row;
+use rows::Selector;
+use rows::Test;
+use rows::Want;
+use rows::Wanted;
+use value_eval::eval_in;
+use value_order::compare::got_order;
+use values::Got;
+use values::Operand;
+use values::Order;
+use values::Slot;
+use values::Value;
+ghost use mathlib.Core.Path.{_≡_};
+ghost use mathlib.Core.Bool.{_||_};
+ghost use Prim.Native.Nat.{_<_};
+ghost use lib.ListN.{length};
+ghost use Rattle.values.specs.Operands.{varsOf};
+ghost use Rattle.rows.specs.Matching.{isSame, agrees, hits, matches};
+ghost use Rattle.rows.specs.View.{operandsOf, selectorOf, valuesOf, Short};
+ghost use Rattle.rows.specs.Plans.{wantOf, wantAt, meets, isAnything, wantsMet, planHits};
+
+// ---- matching
+
+pub fn want_of(op: Operand, vars: [Slot; 16]) -> Want
+    ensures { λ r. ⌜ r ≡ wantOf (varsOf vars) op ⌝ }
+{
+    match op {
+        Operand::Absent => Want::Like(Got::Nothing),
+        Operand::ConstInt(i) => Want::Like(Got::One(Value::Int(i))),
+        Operand::ConstText(t) => Want::Like(Got::One(Value::Text(t))),
+        Operand::ConstLoc(l) => Want::Like(Got::One(Value::Loc(l))),
+        Operand::Var(i) => Want::Like(eval_in(op, vars)),
+        Operand::Plus(i, k) => Want::Like(eval_in(op, vars)),
+        Operand::Formal(_) => Want::Anything,
+    }
+}
+
+pub fn is_same(o: Order) -> bool
+    ensures { λ r. ⌜ r ≡ isSame o ⌝ }
+{
+    match o {
+        Order::Unlike => false,
+        Order::Before => false,
+        Order::Same => true,
+        Order::After => false,
+    }
+}
+
+pub fn met(w: Want, v: Value) -> bool
+    ensures { λ r. ⌜ r ≡ meets w v ⌝ }
+{
+    match w {
+        Want::Anything => true,
+        Want::Like(g) => is_same(got_order(g, Got::One(v))),
+    }
+}
+
+// The want at a place of T; past its end anything will do.
+pub fn wanted_at(template: Operands, i: usize, vars: [Slot; 16]) -> Wanted
+    requires { ⌜ i < 4 ⌝ }
+    ensures { λ r. ⌜ r .want ≡ wantAt (varsOf vars) template i ⌝ }
+{
+    if template.count <= i {
+        let want = Want::Anything;
+        return Wanted { want };
+    }
+    let f = template.fields[i];
+    let op = f.operand;
+    let want = want_of(op, vars);
+    Wanted { want }
+}
+
+pub fn wants_of(template: Operands, vars: [Slot; 16]) -> [Wanted; 4]
+    requires { ⌜ Short template ⌝ }
+    ensures { λ r. ⌜ ((row : Row) → length (row .cells) ≡ 4 → wantsMet r (row .cells) ≡ matches (varsOf vars) (operandsOf template) (valuesOf (template .count) row)) ⌝ }
+{
+    let a = wanted_at(template, 0, vars);
+    let b = wanted_at(template, 1, vars);
+    let c = wanted_at(template, 2, vars);
+    let d = wanted_at(template, 3, vars);
+    [a, b, c, d]
+}
+
+// Four places, whatever T's length, so that the loop has a fixed bound.
+pub fn row_matches(wants: [Wanted; 4], row: Row) -> bool
+    ensures { λ r. ⌜ r ≡ wantsMet wants (row .cells) ⌝ }
+{
+    let mut i: usize = 0;
+    while i < 4 {
+        let w = wants[i];
+        let c = row.cells[i];
+        let want = w.want;
+        let v = c.value;
+        if met(want, v) {
+            i += 1;
+        } else {
+            return false;
+        }
+    }
+    true
+}
+
+pub fn takes_any(w: Wanted) -> bool
+    ensures { λ r. ⌜ r ≡ isAnything (w .want) ⌝ }
+{
+    let want = w.want;
+    match want {
+        Want::Anything => true,
+        Want::Like(_) => false,
+    }
+}
+
+// Every row matches.
+pub fn free_wants(wants: [Wanted; 4]) -> bool
+    ensures { λ r. ⌜ ((row : Row) → length (row .cells) ≡ 4 → (r || wantsMet wants (row .cells)) ≡ wantsMet wants (row .cells)) ⌝ }
+{
+    let a = wants[0];
+    let b = wants[1];
+    let c = wants[2];
+    let d = wants[3];
+    takes_any(a) & takes_any(b) & takes_any(c) & takes_any(d)
+}
+
+pub fn row_meets(free: bool, wants: [Wanted; 4], row: Row) -> bool
+    ensures { λ r. ⌜ r ≡ (free || wantsMet wants (row .cells)) ⌝ }
+{
+    if free {
+        return true;
+    }
+    row_matches(wants, row)
+}
+
+// ---- the predicate, and the rows selected
+
+pub fn test_holds(t: Test, o: Order) -> bool
+    ensures { λ r. ⌜ r ≡ agrees t o ⌝ }
+{
+    match t {
+        Test::Always => true,
+        Test::Equal => is_same(o),
+        Test::Unequal => match o {
+            Order::Unlike => false, // unlike kinds are neither equal nor unequal
+            Order::Before => true,
+            Order::Same => false,
+            Order::After => true,
+        },
+        Test::Less => match o {
+            Order::Unlike => false,
+            Order::Before => true,
+            Order::Same => false,
+            Order::After => false,
+        },
+        Test::AtMost => match o {
+            Order::Unlike => false,
+            Order::Before => true,
+            Order::Same => true,
+            Order::After => false,
+        },
+    }
+}
+
+pub fn plan_of(s: Selector, vars: [Slot; 16]) -> Plan
+    requires { ⌜ Short (s .template) ⌝ }
+    ensures { λ r. ⌜ ((row : Row) → length (row .cells) ≡ 4 → planHits r row ≡ hits (varsOf vars) (selectorOf s) (valuesOf (s .template .count) row)) ⌝ }
+{
+    let template = s.template;
+    let wants = wants_of(template, vars);
+    let test = s.test;
+    let left = s.left;
+    let right = s.right;
+    Plan {
+        wants,
+        free: free_wants(wants),
+        test,
+        left: term_of(left, template, vars),
+        right: term_of(right, template, vars),
+    }
+}
+
+pub fn row_hits(p: Plan, row: Row) -> bool
+    ensures { λ r. ⌜ r ≡ planHits p row ⌝ }
+{
+    let wants = p.wants;
+    if row_meets(p.free, wants, row) {
+        let test = p.test;
+        let left = p.left;
+        let right = p.right;
+        return test_holds(test, got_order(term_got(left, row), term_got(right, row)));
+    }
+    false
+}

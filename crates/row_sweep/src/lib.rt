@@ -1,2 +1,164 @@
-// One pass over the rows of a relation.
-pub mod sweeping;
+// One pass over the rows of a relation, which marks rows and puts new ones at their places. Every row is judged as it stood before.
+use row_change::Made;
+use row_change::Renewed;
+use row_change::Swept;
+use row_plan::row_hits;
+use row_terms::source_got;
+use rows::Cell;
+use rows::Plan;
+use rows::Relation;
+use rows::Row;
+use rows::Source;
+use rows::Term;
+use rows::Terms;
+use value_eval::plus;
+use values::Got;
+use values::Value;
+use values::kinds::kind_of;
+ghost use Prim.Native.Nat.{_≤_};
+ghost use Rattle.rows.specs.Plans.{gotAt, termGot};
+ghost use Rattle.row_change.specs.Contracts.{MadeIs, RenewedIs, JudgedRow, SweptIs};
+
+// ---- new rows
+
+pub fn made_of(g: Got, kind: u8) -> Made
+    ensures { λ m. ⌜ MadeIs kind g m ⌝ }
+{
+    match g {
+        Got::Nothing => {
+            let cell = Cell {
+                value: Value::Int(0),
+            };
+            Made { fits: false, cell }
+        }
+        Got::One(v) => {
+            let cell = Cell { value: v };
+            Made {
+                fits: kind == kind_of(v),
+                cell,
+            }
+        }
+    }
+}
+
+// A column's cell is copied as it stands.
+pub fn made_from(row: Row, at: u8, kind: u8) -> Made
+    ensures { λ m. ⌜ MadeIs kind (gotAt (row .cells) at) m ⌝ }
+{
+    let i = at as usize;
+    if 4 <= i {
+        return made_of(Got::Nothing, kind);
+    }
+    let cell = row.cells[i];
+    let v = cell.value;
+    Made {
+        fits: kind == kind_of(v),
+        cell,
+    }
+}
+
+pub fn made(term: Term, row: Row, kind: u8) -> Made
+    ensures { λ m. ⌜ MadeIs kind (termGot term (row .cells)) m ⌝ }
+{
+    match term {
+        Term::Plain(s) => match s {
+            Source::Fixed(g) => made_of(g, kind),
+            Source::Column(at) => made_from(row, at, kind),
+        },
+        Term::Shifted(s, k) => made_of(plus(source_got(s, row), k), kind),
+    }
+}
+
+// The row that t gives for a row, and whether it fits: as many values as columns, of those kinds.
+pub fn renewed(terms: Terms, columns: usize, kinds: [u8; 4], row: Row) -> Renewed
+    requires { ⌜ (columns ≤ 4) × (terms .count ≤ 4) ⌝ }
+    ensures { λ o. ⌜ RenewedIs terms columns kinds row o ⌝ }
+{
+    let p = terms.places[0];
+    let q = terms.places[1];
+    let r = terms.places[2];
+    let s = terms.places[3];
+    let t = p.term;
+    let u = q.term;
+    let v = r.term;
+    let w = s.term;
+    let a = made(t, row, kinds[0]);
+    let b = made(u, row, kinds[1]);
+    let c = made(v, row, kinds[2]);
+    let d = made(w, row, kinds[3]);
+    let fits = (columns == terms.count)
+        & ((columns <= 0) | a.fits)
+        & ((columns <= 1) | b.fits)
+        & ((columns <= 2) | c.fits)
+        & ((columns <= 3) | d.fits);
+    let e = a.cell;
+    let f = b.cell;
+    let g = c.cell;
+    let h = d.cell;
+    Renewed {
+        fits,
+        row: Row {
+            cells: [e, f, g, h],
+        },
+    }
+}
+
+// ---- the pass
+
+// A row that the plan selects is marked. With drafts it also has to fit, unless any will do, and is what t gives for it.
+pub fn judge(
+    plan: Plan,
+    drafts: bool,
+    any: bool,
+    terms: Terms,
+    columns: usize,
+    kinds: [u8; 4],
+    row: Row,
+) -> Renewed
+    requires { ⌜ (columns ≤ 4) × (terms .count ≤ 4) ⌝ }
+    ensures { λ o. ⌜ JudgedRow plan drafts any terms columns kinds row o ⌝ }
+{
+    if !row_hits(plan, row) {
+        return Renewed { fits: false, row };
+    }
+    if !drafts {
+        return Renewed { fits: true, row };
+    }
+    let d = renewed(terms, columns, kinds, row);
+    let new = d.row;
+    Renewed {
+        fits: any | d.fits, // selected, but what t gives may not fit
+        row: new,
+    }
+}
+
+// The first n rows. One that is marked is replaced at the place it is read from, and every place is read once: a new row is never judged again.
+pub fn swept(
+    r: Relation,
+    n: usize,
+    plan: Plan,
+    drafts: bool,
+    any: bool,
+    terms: Terms,
+    columns: usize,
+    kinds: [u8; 4],
+) -> Swept
+    requires { ⌜ (n ≤ 16) × (columns ≤ 4) × (terms .count ≤ 4) ⌝ }
+    ensures { λ o. ⌜ SweptIs plan drafts any terms columns kinds n (r .rows) o ⌝ }
+{
+    let mut rows = r.rows;
+    let mut flags = [false; 16];
+    let mut i: usize = 0;
+    while i < n {
+        let row = rows[i];
+        let d = judge(plan, drafts, any, terms, columns, kinds, row);
+        let at = i;
+        flags[i] = d.fits;
+        i += 1;
+        if d.fits {
+            let new = d.row;
+            rows[at] = new;
+        }
+    }
+    Swept { rows, flags }
+}

@@ -3,8 +3,8 @@ use net_sound::whole::sound_parts;
 use nets::Net;
 use run_state::Ran;
 use step_left::left_by;
-use step_picks::turning::carry_out;
-use steps::stepping::count_if;
+use step_picks::carry_out;
+use steps::count_if;
 ghost use Rattle.step_bytes.specs.PickBytes.{picksIn};
 ghost use Rattle.runs.specs.Runs.{RunIs};
 

@@ -4,7 +4,7 @@ use nets::Pick;
 use run_state::Ran;
 use run_state::begin;
 use run_state::tally;
-use steps::stepping::step_sound;
+use steps::step_sound;
 ghost use mathlib.Core.List.{[], _∷_};
 ghost use Rattle.runs.specs.Runs.{RunIs};
 ghost use Rattle.runs.specs.Turns.{Ready, Turned};

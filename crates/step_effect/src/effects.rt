@@ -2,13 +2,13 @@
 use crate::Judged;
 use nets::Node;
 use nets::kinds::is_select;
-use row_change::changes::append;
-use row_change::changes::push;
+use row_change::appending::append;
+use row_change::appending::push;
 use row_change::sifting::sifted;
 use row_fit::fit::draft_of;
 use row_fit::fit::row_of;
 use rows::Relation;
-use value_eval::eval::bind_to;
+use value_eval::bind_to;
 use values::Slot;
 ghost use mathlib.Core.Path.{_≡_};
 ghost use mathlib.Core.Bool.{false};

@@ -3,8 +3,8 @@ use rows::Row;
 use values::Got;
 
 pub mod effects;
-pub mod lists;
 pub mod saying;
+pub mod tables;
 
 // The rows that a step speaks of, judged before anything is changed: columns of what it makes of them, the rows with new ones at their places, which rows
 // are selected (and, in an update, fit), and an aggregate's result.

@@ -6,7 +6,7 @@ use values::Slot;
 
 pub mod found;
 pub mod parts;
-pub mod places;
+pub mod sites;
 
 // Where L leads.
 pub enum Located {

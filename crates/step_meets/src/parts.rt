@@ -8,7 +8,7 @@ use nets::TableVariable;
 use nets::Thread;
 use nets::kinds::reads_relation;
 use rows::Relation;
-use step_thread::threads::run_frame;
+use step_thread::run_frame;
 use values::Slot;
 ghost use mathlib.Core.Path.{_≡_};
 ghost use mathlib.Core.Bool.{false, cond, _&&_};

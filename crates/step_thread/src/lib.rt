@@ -1,8 +1,17 @@
-// One thread: its stack and bindings.
+// Threads: frames of their stacks, and forking.
+use nets::Entry;
+use nets::Frame;
 use nets::Refusal;
+use nets::Thread;
 use values::Slot;
-
-pub mod threads;
+ghost use mathlib.Core.Path.{_≡_};
+ghost use mathlib.Core.List.{[], _∷_};
+ghost use Prim.Native.Nat.{_-_};
+ghost use Rattle.nets.specs.Nets.{toRun};
+ghost use Rattle.nets.specs.Sound.{entryNode};
+ghost use Rattle.nets.specs.Scenes.{top};
+ghost use Rattle.nets.specs.View.{entryOf, threadOf, bindingsOf};
+ghost use Rattle.step_thread.specs.Contracts.{Stacked};
 
 // What a loop's pick comes to: over, a round opened, or refused.
 pub enum Turn {
@@ -16,4 +25,48 @@ pub struct Round {
     pub turn: Turn,
     pub visit: [bool; 16],
     pub vars: [Slot; 16],
+}
+
+// ---- frames
+
+pub fn run_frame(node: u8) -> Frame
+    ensures { λ r. ⌜ entryOf r ≡ toRun node ⌝ }
+{
+    let entry = Entry::Run(node);
+    Frame {
+        entry,
+        visit: [false; 16],
+    }
+}
+
+pub fn node_of(f: Frame) -> u8
+    ensures { λ r. ⌜ r ≡ entryNode (entryOf f) ⌝ }
+{
+    let e = f.entry;
+    match e {
+        Entry::Run(i) => i,
+        Entry::Loop(i) => i,
+    }
+}
+
+// ---- stacks
+
+pub fn top_frame(t: Thread) -> Frame
+    requires { ⌜ Stacked t ⌝ }
+    ensures { λ r. ⌜ entryOf r ≡ top (threadOf t .stack) ⌝ }
+{
+    let at = t.depth - 1;
+    t.stack[at]
+}
+
+// A thread at the same site with the same table variables, these variables, and one entry.
+pub fn forked(t: Thread, vars: [Slot; 16], body: u8) -> Thread
+    ensures { λ r. ⌜ (threadOf r ≡ record { site = t .site; bindings = bindingsOf vars (t .relations); stack = toRun body ∷ [] }) × (r .depth ≡ 1) ⌝ }
+{
+    let mut next = t;
+    next.vars = vars;
+    next.depth = 1;
+    let f = run_frame(body);
+    next.stack[0] = f;
+    next
 }

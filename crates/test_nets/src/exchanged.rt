@@ -19,7 +19,7 @@ use nets::Net;
 use nets::Node;
 use nets::Table;
 use nets::Thread;
-use record_bytes::bytes::text_in;
+use record_bytes::text_in;
 use rows::Relation;
 use values::Locality;
 use values::Site;

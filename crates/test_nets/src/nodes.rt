@@ -8,7 +8,7 @@ use crate::programs::remade;
 use crate::programs::selecting;
 use crate::programs::two;
 use nets::Node;
-use record_bytes::bytes::text_in;
+use record_bytes::text_in;
 use record_nodes::nodes::function_at;
 use record_nodes::nodes::test_at;
 use record_nodes::operands::operand_in;

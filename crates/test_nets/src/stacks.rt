@@ -6,7 +6,7 @@ use nets::Entry;
 use nets::Frame;
 use nets::TableVariable;
 use nets::Thread;
-use record_bytes::bytes::text_in;
+use record_bytes::text_in;
 use rows::Relation;
 use values::Got;
 use values::Locality;

@@ -1,8 +1,8 @@
 // All tables of a net, then their rows table by table, as records in a lent buffer that has room for them.
 use files::Written;
 use nets::Table;
-use write_puts::puts::put_rows;
-use write_puts::puts::put_table;
+use write_puts::put_rows;
+use write_puts::put_table;
 ghost use mathlib.Core.Path.{_≡_};
 ghost use mathlib.Core.List.{map};
 ghost use Prim.Native.Nat.{_*_, _≤_};

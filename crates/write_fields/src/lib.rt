@@ -1,2 +1,132 @@
-// Fields of a record put into their bytes.
-pub mod fields;
+// Fields of records written, each into its bytes.
+use rows::Row;
+use values::Site;
+use values::Value;
+ghost use mathlib.Core.Path.{_≡_};
+ghost use mathlib.Core.List.{[], _∷_};
+ghost use Prim.Native.Nat.{_<_, _≤_};
+ghost use lib.ListN.{length, getD, replicate};
+ghost use Rattle.rows.specs.View.{valuesOf, columnsOf};
+ghost use Rattle.record_bytes.specs.Encoding.{bits32, operandBytes, tupleBytes, startBytes, columnBytes};
+
+// ---- operands
+
+// The 32 bits of a signed number.
+pub fn bits(n: i32) -> u32
+    ensures { λ r. ⌜ r ≡ bits32 n ⌝ }
+{
+    if 0 <= n {
+        n as u32
+    } else {
+        4294967295 - ((!n) as u32)
+    }
+}
+
+// Zeros, `n` of them.
+pub fn clear(out: &mut [u8], n: usize)
+    requires { ⌜ length (now out) ≡ n ⌝ }
+    ensures { λ _. ⌜ now (out .exit) ≡ replicate n 0 ⌝ }
+{
+    let mut i = 0;
+    while i < n {
+        out[i] = 0;
+        i += 1;
+    }
+}
+
+// A tag and four value bytes.
+fn put_eight(out: &mut [u8], tag: u8, a: u8, b: u8, c: u8, d: u8)
+    requires { ⌜ length (now out) ≡ 8 ⌝ }
+    ensures { λ _. ⌜ now (out .exit) ≡ tag ∷ 0 ∷ 0 ∷ 0 ∷ a ∷ b ∷ c ∷ d ∷ [] ⌝ }
+{
+    out[0] = tag;
+    out[1] = 0;
+    out[2] = 0;
+    out[3] = 0;
+    out[4] = a;
+    out[5] = b;
+    out[6] = c;
+    out[7] = d;
+}
+
+pub fn put_value(out: &mut [u8], v: Value)
+    requires { ⌜ length (now out) ≡ 8 ⌝ }
+    ensures { λ _. ⌜ now (out .exit) ≡ operandBytes v ⌝ }
+{
+    match v {
+        Value::Int(n) => {
+            let b = bits(n);
+            put_eight(
+                out,
+                1,
+                (b % 256) as u8,
+                (b / 256 % 256) as u8,
+                (b / 65536 % 256) as u8,
+                (b / 16777216 % 256) as u8,
+            );
+        }
+        Value::Text(t) => {
+            put_eight(
+                out,
+                2,
+                (t / 16777216 % 256) as u8,
+                (t / 65536 % 256) as u8,
+                (t / 256 % 256) as u8,
+                (t % 256) as u8,
+            );
+        }
+        Value::Loc(l) => {
+            put_eight(out, 3, l.0, 0, 0, 0);
+        }
+    }
+}
+
+// A row as a tuple of four operands.
+pub fn put_tuple(out: &mut [u8], row: Row, columns: usize)
+    requires { ⌜ (length (now out) ≡ 32) × (columns ≤ 4) ⌝ }
+    ensures { λ _. ⌜ now (out .exit) ≡ tupleBytes (valuesOf columns row) ⌝ }
+{
+    clear(out, 32);
+    let mut i = 0;
+    while i < columns {
+        let c = row.cells[i];
+        let v = c.value;
+        put_value(&mut out[i * 8..i * 8 + 8], v);
+        i += 1;
+    }
+}
+
+// ---- records
+
+// Kind, site, two zeros, name.
+pub fn put_start(out: &mut [u8], kind: u8, site: Site, name: u32)
+    requires { ⌜ length (now out) ≡ 8 ⌝ }
+    ensures { λ _. ⌜ now (out .exit) ≡ startBytes kind site name ⌝ }
+{
+    out[0] = kind;
+    out[1] = site.0;
+    out[2] = 0;
+    out[3] = 0;
+    out[4] = (name / 16777216 % 256) as u8;
+    out[5] = (name / 65536 % 256) as u8;
+    out[6] = (name / 256 % 256) as u8;
+    out[7] = (name % 256) as u8;
+}
+
+// The kind of a column, 0 past the last one.
+fn kind_at(columns: usize, kinds: [u8; 4], i: usize) -> u8
+    requires { ⌜ i < 4 ⌝ }
+    ensures { λ r. ⌜ r ≡ getD (columnsOf columns kinds) i 0 ⌝ }
+{
+    if i < columns { kinds[i] } else { 0 }
+}
+
+pub fn put_columns(out: &mut [u8], columns: usize, kinds: [u8; 4])
+    requires { ⌜ length (now out) ≡ 4 ⌝ }
+    ensures { λ _. ⌜ now (out .exit) ≡ columnBytes (columnsOf columns kinds) ⌝ }
+{
+    out[0] = kind_at(columns, kinds, 0);
+    out[1] = kind_at(columns, kinds, 1);
+    out[2] = kind_at(columns, kinds, 2);
+    out[3] = kind_at(columns, kinds, 3);
+}

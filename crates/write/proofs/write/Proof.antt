@@ -1,0 +1,69 @@
+-- `write::write` meets its contract: an unsound net is refused, a sound one has tables in their ranges.
+use Prim.Native.Nat.{ℕ, _≤_}
+use mathlib.Core.Path.{_≡_, refl, sym, ap, _∙_}
+use mathlib.Core.Bool.{Bool, true, false}
+use mathlib.Core.List.{List}
+use lib.Dec.{T, leb→le}
+use lib.ListN.{length}
+use native.Mathlib.Omega.{arith}
+use Rattle.values.specs.Lists.{all}
+use Rattle.values.proofs.Bools.{T-of}
+use Rattle.values.proofs.Firsts.{length-firsts}
+use Rattle.nets.specs.declared.Net.{Net}
+use Rattle.nets.specs.Nets as M
+use Rattle.nets.specs.Sound.{tableOk, sound}
+use Rattle.nets.specs.View.{noTable, tableOf, tablesOf, view}
+use Rattle.nets.proofs.SoundLaws.{clauses}
+use Rattle.files.specs.declared.Written.{Written}
+use Rattle.files.specs.Writing.{notWritten, refusing, write, written, writtenAnswer, bufferAfter}
+use Rattle.files.specs.Engine.{saidWritten}
+use Rattle.write.specs.WriteCall.{ifRoom}
+use borrow.Author.Needs.{needs}
+use Rattle.write.proofs.write.Statement.{statement}
+use Rattle.write.proofs.write.Tie as tie
+
+tables-of : (net : Net) → view net .tables ≡ tablesOf (net .tablecount) (net .tables)
+unfolding view
+tables-of net = refl
+
+write-sound : (m : M.Net) (o : List ℕ) → sound m ≡ true → write m o ≡ ifRoom (written (m .tables)) o
+unfolding write ifRoom
+write-sound m o e = rw e
+
+write-unsound : (m : M.Net) (o : List ℕ) → sound m ≡ false → write m o ≡ notWritten 10
+unfolding write
+write-unsound m o e = rw e
+
+module _ (net : Net) (b : Bool) (e : b ≡ sound (view net)) where
+  few : b ≡ true → net .tablecount ≤ 8
+  few h =
+      let s = clauses (view net) (T-of (sound (view net)) (sym e ∙ h)) in
+      omega (arith, leb→le (length (view net .tables)) 8 (s .fewTables), ap length (tables-of net), length-firsts tableOf noTable (net .tablecount) (net .tables))
+
+  ranged : b ≡ true → T (all tableOk (tablesOf (net .tablecount) (net .tables)))
+  ranged h = rw (tables-of net) at (clauses (view net) (T-of (sound (view net)) (sym e ∙ h)) .tables)
+
+  sound-answer : (o : List ℕ) (r : Written) → b ≡ true → saidWritten r ≡ writtenAnswer (ifRoom (written (tablesOf (net .tablecount) (net .tables))) o) → saidWritten r ≡ writtenAnswer (write (view net) o)
+  sound-answer o r h k = rw (write-sound (view net) o (sym e ∙ h), tables-of net) k
+
+  sound-buffer : (o out : List ℕ) → b ≡ true → out ≡ bufferAfter o (ifRoom (written (tablesOf (net .tablecount) (net .tables))) o) → out ≡ bufferAfter o (write (view net) o)
+  sound-buffer o out h k = rw (write-sound (view net) o (sym e ∙ h), tables-of net) k
+
+  unsound-answer : (o : List ℕ) → b ≡ false → refusing 10 ≡ writtenAnswer (write (view net) o)
+  unsound-answer o h = rw (write-unsound (view net) o (sym e ∙ h))
+
+  unsound-buffer : (o : List ℕ) → b ≡ false → o ≡ bufferAfter o (write (view net) o)
+  unsound-buffer o h = rw (write-unsound (view net) o (sym e ∙ h))
+
+write-tables-requires : tie.Need-write-tables-requires
+write-tables-requires c κs = (search few, search ranged)
+
+returns : tie.Need-returns
+returns c = record { answer = search sound-answer; buffer = search sound-buffer }
+
+returns-2 : tie.Need-returns-2
+returns-2 c = record { answer = search unsound-answer; buffer = search unsound-buffer }
+
+pub write-spec : {M : Type 1} → statement M
+write-spec =
+    tie.close (tie.spec (λ c κs. search needs) write-tables-requires (λ c. search needs) returns returns-2)

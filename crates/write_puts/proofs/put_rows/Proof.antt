@@ -1,0 +1,74 @@
+-- `write_puts::put_rows` meets its contract: the records of the rows passed, then the bytes that stood there.
+use Prim.Native.Nat.{ℕ, _+_, _-_, _*_, _≤_}
+use mathlib.Core.Path.{_≡_, refl, sym, ap, _∙_}
+use mathlib.Core.List.{List, _++_, map}
+use lib.ListN.{length, getD, drop, length-take, length-drop}
+use native.Mathlib.Omega.{arith}
+use borrow.Rule.Slice.PartMut.{putMid}
+use borrow.Author.Needs.{needs}
+use Rattle.values.specs.declared.Site.{Site}
+use Rattle.values.specs.Lists.{firsts}
+use Rattle.values.proofs.Firsts.{map-firsts}
+use Rattle.rows.specs.declared.Row.{Row}
+use Rattle.rows.specs.declared.Relation.{Relation}
+use Rattle.rows.specs.View.{noRow, valuesOf, relationOf}
+use Rattle.record_bytes.specs.Encoding.{rowBytes}
+use Rattle.value_bytes.specs.Bytes.{endToEnd}
+use Rattle.value_bytes.proofs.Stores.{kept-length, ends-more, ends-all}
+use Rattle.write_fields.proofs.WriteLaws.{row-length}
+use Rattle.write_puts.proofs.put_rows.Statement.{statement}
+use Rattle.write_puts.proofs.put_rows.Tie as tie
+
+-- the record of a row
+abbrev recordOf : Site → ℕ → Relation → Row → List ℕ
+recordOf s m r x = rowBytes s m (valuesOf (r .columns) x)
+
+one-more : (s : Site) (m : ℕ) (r : Relation) (i : ℕ) (o out ys : List ℕ) → r .columns ≤ 4 → out ≡ endToEnd (firsts (recordOf s m r) noRow i (r .rows)) ++ drop (i * 104) o → ys ≡ rowBytes s m (valuesOf (r .columns) (getD (r .rows) i noRow)) →
+    putMid (i * 104) (i * 104 + 104 - i * 104) out ys ≡ endToEnd (firsts (recordOf s m r) noRow (i + 1) (r .rows)) ++ drop ((i + 1) * 104) o
+one-more s m r i o out ys h e q = ends-more (recordOf s m r) noRow 104 (λ x. row-length (r .columns) x h s m) (r .rows) i o out ys e q
+
+ended : (s : Site) (m : ℕ) (r : Relation) (i : ℕ) (o out : List ℕ) → i ≤ r .count → r .count ≤ i → length o ≡ r .count * 104 → out ≡ endToEnd (firsts (recordOf s m r) noRow i (r .rows)) ++ drop (i * 104) o →
+    out ≡ endToEnd (map (rowBytes s m) (relationOf r .rows))
+ended s m r i o out a b l e =
+    ends-all (recordOf s m r) noRow 104 (r .count) i (r .rows) o out a b l e
+    ∙ ap endToEnd (sym (map-firsts (rowBytes s m) (valuesOf (r .columns)) noRow (r .count) (r .rows)))
+
+abbrev Inv-loop : tie.InvT-loop
+Inv-loop out₀ site name content n i₀ out i = (i ≤ n) × (n ≡ content .count) × (length out ≡ n * 104) × (out ≡ endToEnd (firsts (recordOf site name content) noRow i (content .rows)) ++ drop (i * 104) out₀)
+
+abbrev μ-loop : tie.MeasureT-loop
+μ-loop out₀ site name content n i₀ out i = n - i
+
+loop-holds : tie.Need-loop-holds Inv-loop μ-loop
+loop-holds c = (omega arith, refl, omega arith, refl)
+
+put-row-requires : tie.Need-put-row-requires Inv-loop μ-loop
+put-row-requires c κs = (simp (length-take, length-drop) (omega arith), omega arith)
+
+loop-again : tie.Need-loop-again Inv-loop μ-loop
+loop-again c = (omega arith, refl, search kept-length, search one-more)
+
+returns : tie.Need-returns Inv-loop μ-loop
+returns c = search ended
+
+pub put-rows-spec : {M : Type 1} → statement M
+put-rows-spec =
+    tie.close
+    (tie.spec
+    Inv-loop
+    μ-loop
+    loop-holds
+    (λ c. search needs)
+    (λ c. search needs)
+    (λ c. search needs)
+    (λ c. search needs)
+    (λ c. search needs)
+    (λ c. search needs)
+    (λ c. search needs)
+    (λ c. search needs)
+    put-row-requires
+    (λ c. search needs)
+    (λ c. search needs)
+    loop-again
+    (λ c. search needs)
+    returns)
