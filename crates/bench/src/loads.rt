@@ -6,7 +6,7 @@ use files::Verdict;
 use load::load;
 use nets::Node;
 
-pub fn with_nodes(before: u64, nodes: [Node; 128], count: usize) -> u64 {
+fn with_nodes(before: u64, nodes: [Node; 128], count: usize) -> u64 {
     let mut sum = before;
     let mut i: usize = 0;
     while i < 128 {
@@ -19,14 +19,14 @@ pub fn with_nodes(before: u64, nodes: [Node; 128], count: usize) -> u64 {
     sum
 }
 
-pub fn number_in(v: Verdict) -> u64 {
+fn number_in(v: Verdict) -> u64 {
     match v {
         Verdict::Accepted => 0,
         Verdict::Fault(number, _) => number as u64,
     }
 }
 
-pub fn with_loaded(sum: u64, l: Loaded) -> u64 {
+fn with_loaded(sum: u64, l: Loaded) -> u64 {
     let verdict = l.verdict;
     let net = l.net;
     let nodes = net.nodes;

@@ -4,7 +4,7 @@ use nets::Pick;
 // The chain that picks each thread once, before all others.
 pub const EACH_THREAD: u8 = 1;
 
-pub fn is_loop(kind: u8) -> bool {
+fn is_loop(kind: u8) -> bool {
     (kind == 25) | (kind == 26)
 }
 

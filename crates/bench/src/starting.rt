@@ -6,7 +6,7 @@ use load::load;
 use nets::Net;
 
 // Aliases and tables of one net, nodes and threads of the other.
-pub fn joined(tables: Net, program: Net) -> Net {
+fn joined(tables: Net, program: Net) -> Net {
     let aliases = tables.aliases;
     let contents = tables.tables;
     let mut net = program;
@@ -18,7 +18,7 @@ pub fn joined(tables: Net, program: Net) -> Net {
 }
 
 // Every thread has taken node 0, which binds its table variable 0.
-pub fn prepared(start: Net) -> Net {
+fn prepared(start: Net) -> Net {
     let r = chain(Chained { net: start, sum: 0 }, EACH_THREAD);
     let net = r.net;
     net

@@ -19,7 +19,7 @@ pub fn with(sum: u64, number: u64) -> u64 {
 
 // ---- answers
 
-pub fn number_of(r: Refusal) -> u64
+fn number_of(r: Refusal) -> u64
     ensures { λ o. ⌜ o < 21 ⌝ }
 {
     match r {
@@ -48,14 +48,14 @@ pub fn with_answer(sum: u64, a: Answer) -> u64 {
 // ---- rows
 
 // No Int of these nets is below zero.
-pub fn magnitude(i: i32) -> u64 {
+fn magnitude(i: i32) -> u64 {
     if i < 0 {
         return 0;
     }
     i as u64
 }
 
-pub fn with_value(sum: u64, v: Value) -> u64 {
+fn with_value(sum: u64, v: Value) -> u64 {
     match v {
         Value::Int(i) => with(with(sum, 1), magnitude(i)),
         Value::Text(t) => with(with(sum, 2), t as u64),
@@ -63,7 +63,7 @@ pub fn with_value(sum: u64, v: Value) -> u64 {
     }
 }
 
-pub fn with_row(before: u64, row: Row, columns: usize) -> u64 {
+fn with_row(before: u64, row: Row, columns: usize) -> u64 {
     let mut sum = before;
     let mut i: usize = 0;
     while i < 4 {
@@ -77,7 +77,7 @@ pub fn with_row(before: u64, row: Row, columns: usize) -> u64 {
     sum
 }
 
-pub fn with_relation(before: u64, r: Relation) -> u64 {
+fn with_relation(before: u64, r: Relation) -> u64 {
     let count = r.count;
     let columns = r.columns;
     let mut sum = with(before, count as u64);
@@ -94,7 +94,7 @@ pub fn with_relation(before: u64, r: Relation) -> u64 {
 
 // ---- nets
 
-pub fn with_tables(before: u64, tables: [Table; 8], count: usize) -> u64 {
+fn with_tables(before: u64, tables: [Table; 8], count: usize) -> u64 {
     let mut sum = before;
     let mut i: usize = 0;
     while i < 8 {
@@ -108,7 +108,7 @@ pub fn with_tables(before: u64, tables: [Table; 8], count: usize) -> u64 {
     sum
 }
 
-pub fn with_slot(sum: u64, s: Slot) -> u64 {
+fn with_slot(sum: u64, s: Slot) -> u64 {
     let g = s.held;
     match g {
         Got::Nothing => with(sum, 0),
@@ -116,7 +116,7 @@ pub fn with_slot(sum: u64, s: Slot) -> u64 {
     }
 }
 
-pub fn with_vars(before: u64, vars: [Slot; 16]) -> u64 {
+fn with_vars(before: u64, vars: [Slot; 16]) -> u64 {
     let mut sum = before;
     let mut i: usize = 0;
     while i < 16 {
@@ -127,7 +127,7 @@ pub fn with_vars(before: u64, vars: [Slot; 16]) -> u64 {
     sum
 }
 
-pub fn with_variable(sum: u64, v: TableVariable) -> u64 {
+fn with_variable(sum: u64, v: TableVariable) -> u64 {
     let content = v.content;
     if v.bound {
         return with_relation(sum, content);
@@ -135,7 +135,7 @@ pub fn with_variable(sum: u64, v: TableVariable) -> u64 {
     sum
 }
 
-pub fn with_thread(before: u64, t: Thread) -> u64 {
+fn with_thread(before: u64, t: Thread) -> u64 {
     let vars = t.vars;
     let a = t.relations[0];
     let b = t.relations[1];
@@ -143,7 +143,7 @@ pub fn with_thread(before: u64, t: Thread) -> u64 {
     with(sum, t.depth as u64)
 }
 
-pub fn with_threads(before: u64, threads: [Thread; 8], count: usize) -> u64 {
+fn with_threads(before: u64, threads: [Thread; 8], count: usize) -> u64 {
     let mut sum = before;
     let mut i: usize = 0;
     while i < 8 {

@@ -12,7 +12,7 @@ ghost use Prim.Native.Nat.{_≤_};
 ghost use lib.ListN.{take};
 ghost use Rattle.runs.specs.Runs.{RunIs};
 
-pub fn lend(net: Net, picks: [Pick; 100000], count: usize) -> Ran
+fn lend(net: Net, picks: [Pick; 100000], count: usize) -> Ran
     requires { ⌜ count ≤ 100000 ⌝ }
     ensures { λ r. ⌜ RunIs net (take count picks) r ⌝ }
 {
@@ -20,7 +20,7 @@ pub fn lend(net: Net, picks: [Pick; 100000], count: usize) -> Ran
 }
 
 // As many picks as the bytes have, 100,000 at most.
-pub fn count_of(bytes: &[u8]) -> usize
+fn count_of(bytes: &[u8]) -> usize
     ensures { λ r. ⌜ r ≤ 100000 ⌝ }
 {
     let count = bytes.len() / 2;
@@ -30,7 +30,7 @@ pub fn count_of(bytes: &[u8]) -> usize
     100000
 }
 
-pub fn picks_of(bytes: &[u8]) -> [Pick; 100000] {
+fn picks_of(bytes: &[u8]) -> [Pick; 100000] {
     let none = Pick { thread: 0, row: 0 };
     let mut picks = [none; 100000];
     let mut i: usize = 0;

@@ -32,7 +32,7 @@ pub struct FileRead {
 }
 
 // Checks 3 to 8, group after group.
-pub fn read_all(file: &[u8]) -> FileRead
+fn read_all(file: &[u8]) -> FileRead
     requires { ⌜ (length (now file) ≡ wholeRecords (now file) * 104) × (wholeRecords (now file) ≤ 256) ⌝ }
     ensures { λ r. ⌜ readAll 0 nothingRead (recordsIn (now (file .entry))) ≡ ending (r .reach) (record { net = view (r .net); picks = picksOf (r .pickcount) (r .picks); group = 0 }) ⌝ }
 {

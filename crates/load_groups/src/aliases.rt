@@ -20,7 +20,7 @@ ghost use Rattle.record_bytes.specs.Decoding.{aliasIn, aliasForm};
 ghost use Rattle.load_walk.specs.Walking.{putAliases, Leads, Going, formThen};
 
 // The number of its fault, 0 for none.
-pub fn alias_fault(aliases: [Alias; 56], count: usize, r: &[u8]) -> u8
+fn alias_fault(aliases: [Alias; 56], count: usize, r: &[u8]) -> u8
     requires { ⌜ (length (now r) ≡ 104) × (count ≤ 56) ⌝ }
     ensures { λ o. ⌜ o ≡ formThen (aliasForm (now (r .entry))) (check 6 (not (any (λ b. sameAlias b (aliasIn (now (r .entry)))) (aliasesOf count aliases))) ∷ []) ⌝ }
 {

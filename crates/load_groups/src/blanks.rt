@@ -32,7 +32,7 @@ pub fn blank_alias() -> Alias
     }
 }
 
-pub fn blank_operands() -> Operands
+fn blank_operands() -> Operands
     ensures { λ r. ⌜ r ≡ blankOperands ⌝ }
 {
     let field = Field {

@@ -28,7 +28,7 @@ ghost use Rattle.record_bytes.specs.Decoding.{siteAt, nameIn, rowIn, rowForm};
 ghost use Rattle.load_walk.specs.Walking.{putTables, AllShaped, Leads, Going, formThen};
 
 // The place of the row's table; `count` where there is none.
-pub fn row_place(tables: [Table; 8], count: usize, r: &[u8]) -> usize
+fn row_place(tables: [Table; 8], count: usize, r: &[u8]) -> usize
     requires { ⌜ (length (now r) ≡ 104) × (count ≤ 8) ⌝ }
     ensures { λ o. ⌜ o ≡ placeOf (isAt (siteAt 1 (now (r .entry))) (nameIn (now (r .entry)))) (tablesOf count tables) ⌝ }
 {
@@ -36,7 +36,7 @@ pub fn row_place(tables: [Table; 8], count: usize, r: &[u8]) -> usize
 }
 
 // The fault of a row that has no table.
-pub fn lost_fault(r: &[u8]) -> u8
+fn lost_fault(r: &[u8]) -> u8
     requires { ⌜ length (now r) ≡ 104 ⌝ }
     ensures { λ o. ⌜ o ≡ formThen (rowForm (now (r .entry))) (check 7 false ∷ []) ⌝ }
 {
@@ -47,7 +47,7 @@ pub fn lost_fault(r: &[u8]) -> u8
 }
 
 // The fault of a row that has a table, and the table with the row.
-pub fn row_taken(t: Table, r: &[u8]) -> RowTaken
+fn row_taken(t: Table, r: &[u8]) -> RowTaken
     requires { ⌜ (length (now r) ≡ 104) × Shaped (t .content) ⌝ }
     ensures { λ o. ⌜ (o .fault ≡ formThen (rowForm (now (r .entry))) (check 7 (fitsRow (relationOf (t .content) .columns) (rowIn (part 56 88 (now (r .entry))))) ∷ check 8 (ltb (length (relationOf (t .content) .rows)) 16) ∷ []))
         × (o .fault ≡ 0 → tableOf (o .table) ≡ withRows (relationOf (t .content) .rows ++ (rowIn (part 56 88 (now (r .entry))) ∷ [])) (tableOf t))

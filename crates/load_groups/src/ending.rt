@@ -23,7 +23,7 @@ fn formed(ok: bool) -> u8
 }
 
 // Checks 3 and 4 of any record: the number of the one that fails, 0 for none.
-pub fn form_fault(r: &[u8]) -> u8
+fn form_fault(r: &[u8]) -> u8
     requires { ⌜ length (now r) ≡ 104 ⌝ }
     ensures { λ o. ⌜ o ≡ decodedFault (recordIn (now (r .entry))) ⌝ }
 {

@@ -15,7 +15,7 @@ ghost use Rattle.record_bytes.specs.Decoding.{nodeForm};
 ghost use Rattle.load_walk.specs.Walking.{putNodes, Leads, Going, formThen};
 
 // The number of its fault, 0 for none.
-pub fn node_fault(count: usize, r: &[u8]) -> u8
+fn node_fault(count: usize, r: &[u8]) -> u8
     requires { ⌜ length (now r) ≡ 104 ⌝ }
     ensures { λ o. ⌜ o ≡ formThen (nodeForm (now (r .entry))) (check 8 (ltb count 128) ∷ []) ⌝ }
 {

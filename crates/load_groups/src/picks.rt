@@ -13,7 +13,7 @@ ghost use Rattle.files.specs.Engine.{picksOf};
 ghost use Rattle.load_walk.specs.Walking.{putPicks, Leads, Going, formThen};
 
 // The number of its fault, 0 for none.
-pub fn pick_fault(r: &[u8]) -> u8
+fn pick_fault(r: &[u8]) -> u8
     requires { ⌜ length (now r) ≡ 104 ⌝ }
     ensures { λ o. ⌜ o ≡ formThen (pickForm (now (r .entry))) [] ⌝ }
 {

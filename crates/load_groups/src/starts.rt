@@ -20,7 +20,7 @@ ghost use Rattle.files.specs.Loading.{fresh};
 ghost use Rattle.load_walk.specs.Walking.{putThreads, Leads, Going, formThen};
 
 // The number of its fault, 0 for none.
-pub fn start_fault(count: usize, r: &[u8]) -> u8
+fn start_fault(count: usize, r: &[u8]) -> u8
     requires { ⌜ length (now r) ≡ 104 ⌝ }
     ensures { λ o. ⌜ o ≡ formThen (startForm (now (r .entry))) (check 8 (ltb count 8) ∷ []) ⌝ }
 {
@@ -34,7 +34,7 @@ pub fn start_fault(count: usize, r: &[u8]) -> u8
 }
 
 // A thread with nothing bound and one node to run.
-pub fn start_in(r: &[u8]) -> Thread
+fn start_in(r: &[u8]) -> Thread
     requires { ⌜ length (now r) ≡ 104 ⌝ }
     ensures { λ o. ⌜ threadOf o ≡ fresh (siteAt 1 (now (r .entry))) (at (now (r .entry)) 2) ⌝ }
 {

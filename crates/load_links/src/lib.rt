@@ -12,14 +12,14 @@ ghost use Rattle.files.specs.Loading.{firstBadLink};
 ghost use Rattle.load_walk.specs.Walking.{isGood, placeOr, LinkIs};
 
 // A start's node is among the `n` nodes.
-pub fn start_ok(node: u8, n: usize) -> bool
+fn start_ok(node: u8, n: usize) -> bool
     ensures { λ r. ⌜ r ≡ ltb node n ⌝ }
 {
     (node as usize) < n
 }
 
 // The number of the node met next, after a record of this group.
-pub fn number_after(group: u8, j: usize) -> usize
+fn number_after(group: u8, j: usize) -> usize
     requires { ⌜ j ≤ 256 ⌝ }
     ensures { λ r. ⌜ r ≡ cond (eqb group 4) (j + 1) j ⌝ }
 {
@@ -30,7 +30,7 @@ pub fn number_after(group: u8, j: usize) -> usize
 }
 
 // With `n` nodes in all, `j` the number of the node met next: this record's, if it is a node.
-pub fn link_ok(r: &[u8], n: usize, j: usize) -> bool
+fn link_ok(r: &[u8], n: usize, j: usize) -> bool
     requires { ⌜ length (now r) ≡ 104 ⌝ }
     ensures { λ o. ⌜ LinkIs n j (now (r .entry)) o ⌝ }
 {

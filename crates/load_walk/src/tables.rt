@@ -29,7 +29,7 @@ ghost use Rattle.files.specs.Loading.{bare};
 ghost use Rattle.load_walk.specs.Walking.{putTables, AllShaped, Leads, Going, formThen};
 
 // The number of its fault, 0 for none.
-pub fn table_fault(tables: [Table; 8], count: usize, r: &[u8]) -> u8
+fn table_fault(tables: [Table; 8], count: usize, r: &[u8]) -> u8
     requires { ⌜ (length (now r) ≡ 104) × (count ≤ 8) ⌝ }
     ensures { λ o. ⌜ o ≡ formThen (tableForm (now (r .entry))) (check 6 (not (isSome (tableAt (siteAt 1 (now (r .entry))) (nameIn (now (r .entry))) (tablesOf count tables)))) ∷ check 8 (ltb count 8) ∷ []) ⌝ }
 {
@@ -46,7 +46,7 @@ pub fn table_fault(tables: [Table; 8], count: usize, r: &[u8]) -> u8
 }
 
 // The table, with no rows yet.
-pub fn table_in(r: &[u8]) -> Table
+fn table_in(r: &[u8]) -> Table
     requires { ⌜ length (now r) ≡ 104 ⌝ }
     ensures { λ o. ⌜ (tableOf o ≡ bare (siteAt 1 (now (r .entry))) (nameIn (now (r .entry))) (columnsIn (part 8 12 (now (r .entry))))) × Shaped (o .content) ⌝ }
 {

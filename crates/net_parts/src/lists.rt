@@ -18,14 +18,14 @@ ghost use Rattle.net_parts.specs.SoundParts.{aliasPlace, noLabel, labelO
 
 // ---- aliases
 
-pub fn alias_ok(a: Alias) -> bool
+fn alias_ok(a: Alias) -> bool
     ensures { λ r. ⌜ r ≡ aliasOk a ⌝ }
 {
     let l = a.locality;
     site_ok(a.site) & ((1 <= l.0) & locality_ok(l)) & site_ok(a.means)
 }
 
-pub fn same_alias(a: Alias, b: Alias) -> bool
+fn same_alias(a: Alias, b: Alias) -> bool
     ensures { λ r. ⌜ r ≡ sameAlias a b ⌝ }
 {
     let s = a.site;
@@ -52,7 +52,7 @@ pub fn alias_new(aliases: [Alias; 56], count: usize, a: Alias, from: usize) -> b
 }
 
 // Its place among the pairs of a site and a locality.
-pub fn alias_place(a: Alias) -> usize
+fn alias_place(a: Alias) -> usize
     ensures { λ r. ⌜ r ≡ aliasPlace a ⌝ }
 {
     let s = a.site;
@@ -87,7 +87,7 @@ pub fn aliases_ok(aliases: [Alias; 56], count: usize) -> bool
 
 // ---- tables
 
-pub fn label_of(t: Table) -> Label
+fn label_of(t: Table) -> Label
     ensures { λ r. ⌜ r ≡ labelOf (tableOf t) ⌝ }
 {
     let site = t.site;
@@ -95,7 +95,7 @@ pub fn label_of(t: Table) -> Label
 }
 
 // Tables are compared by their labels, which are small.
-pub fn labels_of(tables: [Table; 8]) -> [Label; 8]
+fn labels_of(tables: [Table; 8]) -> [Label; 8]
     ensures { λ r. ⌜ ((i : ℕ) → i < 8 → getD r i noLabel ≡ labelOf (tableOf (getD tables i noTable))) ⌝ }
 {
     let a = tables[0];
@@ -118,7 +118,7 @@ pub fn labels_of(tables: [Table; 8]) -> [Label; 8]
     ]
 }
 
-pub fn same_label(a: Label, b: Label) -> bool
+fn same_label(a: Label, b: Label) -> bool
     ensures { λ r. ⌜ r ≡ sameLabel a b ⌝ }
 {
     let s = a.site;
@@ -127,7 +127,7 @@ pub fn same_label(a: Label, b: Label) -> bool
 }
 
 // No label from place `from` on is this one.
-pub fn label_new(labels: [Label; 8], count: usize, a: Label, from: usize) -> bool
+fn label_new(labels: [Label; 8], count: usize, a: Label, from: usize) -> bool
     requires { ⌜ count ≤ 8 ⌝ }
     ensures { λ r. ⌜ r ≡ not (any (sameLabel a) (drop from (labelsIn count labels))) ⌝ }
 {

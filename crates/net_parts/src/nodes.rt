@@ -31,13 +31,13 @@ ghost use Rattle.nets.specs.View.{kindAt, nodeOf, nodesOf};
 ghost use Rattle.net_parts.specs.SoundParts.{linksAt, shapeOf, ShapesOf};
 
 // A field that is used is as its rule says, and else zero.
-pub fn either(used: bool, ok: bool, zeroed: bool) -> bool
+fn either(used: bool, ok: bool, zeroed: bool) -> bool
     ensures { λ r. ⌜ r ≡ cond used ok zeroed ⌝ }
 {
     (used & ok) | (!used & zeroed)
 }
 
-pub fn tuple_ok(kind: u8, t: Operands) -> bool
+fn tuple_ok(kind: u8, t: Operands) -> bool
     ensures { λ r. ⌜ r ≡ cond (hasTuple (kindAt kind)) (operandsOk 5 (operandsOf t)) (cond (isSelect (kindAt kind)) (operandsOk 4 (operandsOf t)) (isEmpty (operandsOf t))) ⌝ }
 {
     if has_tuple(kind) {
@@ -49,7 +49,7 @@ pub fn tuple_ok(kind: u8, t: Operands) -> bool
     t.count == 0
 }
 
-pub fn tuple_used(used: bool, t: Operands) -> bool
+fn tuple_used(used: bool, t: Operands) -> bool
     ensures { λ r. ⌜ r ≡ cond used (operandsOk 5 (operandsOf t)) (isEmpty (operandsOf t)) ⌝ }
 {
     if used {
@@ -58,7 +58,7 @@ pub fn tuple_used(used: bool, t: Operands) -> bool
     t.count == 0
 }
 
-pub fn name_used(used: bool, name: u32) -> bool
+fn name_used(used: bool, name: u32) -> bool
     ensures { λ r. ⌜ r ≡ cond used (isText name) (eqb name 0) ⌝ }
 {
     if used {
@@ -67,7 +67,7 @@ pub fn name_used(used: bool, name: u32) -> bool
     name == 0
 }
 
-pub fn columns_used(used: bool, columns: usize, kinds: [u8; 4]) -> bool
+fn columns_used(used: bool, columns: usize, kinds: [u8; 4]) -> bool
     ensures { λ r. ⌜ r ≡ cond used (columnsOk (columnsOf columns kinds)) (isEmpty (columnsOf columns kinds)) ⌝ }
 {
     if used {
@@ -76,7 +76,7 @@ pub fn columns_used(used: bool, columns: usize, kinds: [u8; 4]) -> bool
     columns == 0
 }
 
-pub fn place_used(used: bool, op: Operand) -> bool
+fn place_used(used: bool, op: Operand) -> bool
     ensures { λ r. ⌜ r ≡ cond used (placeOk op) (isAbsent op) ⌝ }
 {
     if used {
@@ -85,7 +85,7 @@ pub fn place_used(used: bool, op: Operand) -> bool
     is_absent(op)
 }
 
-pub fn result_used(used: bool, op: Operand) -> bool
+fn result_used(used: bool, op: Operand) -> bool
     ensures { λ r. ⌜ r ≡ cond used (tagged 6 op) (isAbsent op) ⌝ }
 {
     if used {
@@ -95,7 +95,7 @@ pub fn result_used(used: bool, op: Operand) -> bool
 }
 
 // A node of an insert, insert-table, create or drop.
-pub fn plain_ok(d: Node) -> bool
+fn plain_ok(d: Node) -> bool
     requires { ⌜ (hasTemplate (kindAt (d .kind)) ≡ false) × (hasPlace (kindAt (d .kind)) ≡ true) ⌝ }
     ensures { λ r. ⌜ r ≡ fieldsOkAs (kindAt (d .kind)) (nodeOf d) ⌝ }
 {
@@ -121,7 +121,7 @@ pub fn plain_ok(d: Node) -> bool
 }
 
 // A node with a predicate: delete, the selects, update, aggregate.
-pub fn choosing_ok(d: Node) -> bool
+fn choosing_ok(d: Node) -> bool
     requires { ⌜ hasTest (kindAt (d .kind)) ≡ true ⌝ }
     ensures { λ r. ⌜ r ≡ fieldsOkAs (kindAt (d .kind)) (nodeOf d) ⌝ }
 {
@@ -148,7 +148,7 @@ pub fn choosing_ok(d: Node) -> bool
 }
 
 // A loop's node.
-pub fn visiting_ok(d: Node) -> bool
+fn visiting_ok(d: Node) -> bool
     requires { ⌜ isLoop (kindAt (d .kind)) ≡ true ⌝ }
     ensures { λ r. ⌜ r ≡ fieldsOkAs (kindAt (d .kind)) (nodeOf d) ⌝ }
 {
@@ -196,14 +196,14 @@ pub fn links_at(kind: u8, next: u8, body: u8, i: usize, n: usize) -> bool
     ((to == 255) | ((i < to) & (to < n))) & (!is_loop(kind) | ((i < first) & (first < n)))
 }
 
-pub fn links_ok(d: Node, i: usize, n: usize) -> bool
+fn links_ok(d: Node, i: usize, n: usize) -> bool
     ensures { λ r. ⌜ r ≡ linksOkAs (kindAt (d .kind)) n i (nodeOf d) ⌝ }
 {
     links_at(d.kind, d.next, d.body, i, n)
 }
 
 // The table variable that a loop node reads; 2 of every other node.
-pub fn shape_of(d: Node) -> u8
+fn shape_of(d: Node) -> u8
     ensures { λ r. ⌜ r ≡ shapeOf (nodeOf d) ⌝ }
 {
     let kind = d.kind;

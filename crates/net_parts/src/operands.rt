@@ -84,7 +84,7 @@ pub fn operands_ok(hi: u8, t: Operands) -> bool
 // ---- templates
 
 // The variable of a formal; 16 of any other operand.
-pub fn formal_place(op: Operand) -> usize
+fn formal_place(op: Operand) -> usize
     ensures { λ r. ⌜ r ≡ formalPlace op ⌝ }
 {
     match op {
@@ -130,7 +130,7 @@ pub fn template_ok(t: Operands) -> bool
 
 // ---- predicates and functions
 
-pub fn is_always(t: Test) -> bool
+fn is_always(t: Test) -> bool
     ensures { λ r. ⌜ r ≡ isAlways t ⌝ }
 {
     match t {

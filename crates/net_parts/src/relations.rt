@@ -22,7 +22,7 @@ ghost use Rattle.nets.specs.Sound.{columnsOk, tableOk, relationOk, hasPlaces};
 ghost use Rattle.nets.specs.View.{tableOf, variableOf};
 ghost use Rattle.net_parts.specs.SoundParts.{cellOk, rowOk, holdsPlaces};
 
-pub fn kind_ok(k: u8) -> bool
+fn kind_ok(k: u8) -> bool
     ensures { λ r. ⌜ r ≡ (leb 1 k && leb k 3) ⌝ }
 {
     (1 <= k) & (k <= 3)
@@ -50,7 +50,7 @@ pub fn columns_ok(columns: usize, kinds: [u8; 4]) -> bool
 }
 
 // A value of its column's kind, in range. Any i32 is in range; its arm binds it so that the proof has its bounds.
-pub fn cell_ok(kind: u8, c: Cell) -> bool
+fn cell_ok(kind: u8, c: Cell) -> bool
     ensures { λ r. ⌜ r ≡ cellOk kind (c .value) ⌝ }
 {
     let v = c.value;
@@ -62,7 +62,7 @@ pub fn cell_ok(kind: u8, c: Cell) -> bool
 }
 
 // Fixed places, so that the row is read where it stands.
-pub fn row_ok(row: Row, columns: usize, kinds: [u8; 4]) -> bool
+fn row_ok(row: Row, columns: usize, kinds: [u8; 4]) -> bool
     requires { ⌜ (1 ≤ columns) × (columns ≤ 4) ⌝ }
     ensures { λ r. ⌜ r ≡ rowOk (columnsOf columns kinds) (valuesOf columns row) ⌝ }
 {
@@ -76,7 +76,7 @@ pub fn row_ok(row: Row, columns: usize, kinds: [u8; 4]) -> bool
         & ((columns < 4) | cell_ok(kinds[3], d))
 }
 
-pub fn rows_ok(r: Relation) -> bool
+fn rows_ok(r: Relation) -> bool
     requires { ⌜ (1 ≤ r .columns) × Shaped r ⌝ }
     ensures { λ o. ⌜ o ≡ all (rowOk (relationOf r .columns)) (relationOf r .rows) ⌝ }
 {
@@ -96,7 +96,7 @@ pub fn rows_ok(r: Relation) -> bool
 }
 
 // The number of rows, if columns, ranges and fit are right, and else 17. Where there is no row, none is copied.
-pub fn rows_in(r: Relation) -> usize
+fn rows_in(r: Relation) -> usize
     ensures { λ o. ⌜ (leb o 16 ≡ relationOk (some (relationOf r))) × (o ≤ 16 → o ≡ r .count) ⌝ }
 {
     let columns = r.columns;

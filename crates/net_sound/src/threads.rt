@@ -23,7 +23,7 @@ ghost use Rattle.nets.specs.View.{marked, entryOf, stackOf, threadOf, threadsOf
 
 // ---- parts of a thread
 
-pub fn vars_ok(vars: [Slot; 16]) -> bool
+fn vars_ok(vars: [Slot; 16]) -> bool
     ensures { λ r. ⌜ r ≡ all variableOk (varsOf vars) ⌝ }
 {
     let mut i: usize = 0;
@@ -39,7 +39,7 @@ pub fn vars_ok(vars: [Slot; 16]) -> bool
 }
 
 // Every place of the visit set is below n.
-pub fn visit_ok(visit: [bool; 16], n: usize) -> bool
+fn visit_ok(visit: [bool; 16], n: usize) -> bool
     ensures { λ r. ⌜ r ≡ all (λ i. ltb i n) (marked 0 visit) ⌝ }
 {
     let mut i: usize = 0;
@@ -53,13 +53,13 @@ pub fn visit_ok(visit: [bool; 16], n: usize) -> bool
     true
 }
 
-pub fn extent_ok(e: Extent, visit: [bool; 16]) -> bool
+fn extent_ok(e: Extent, visit: [bool; 16]) -> bool
     ensures { λ r. ⌜ r ≡ holdsPlaces e (marked 0 visit) ⌝ }
 {
     e.bound & visit_ok(visit, e.rows)
 }
 
-pub fn frame_ok(shapes: [u8; 128], count: usize, a: Extent, b: Extent, f: Frame) -> bool
+fn frame_ok(shapes: [u8; 128], count: usize, a: Extent, b: Extent, f: Frame) -> bool
     requires { ⌜ count ≤ 128 ⌝ }
     ensures { λ r. ⌜ ((ds : List Model.Node) (rs : List (Option Rows.Relation)) → ShapesOf shapes count ds → ExtentsOf a b rs → r ≡ entryOk ds rs (entryOf f)) ⌝ }
 {
@@ -85,7 +85,7 @@ pub fn frame_ok(shapes: [u8; 128], count: usize, a: Extent, b: Extent, f: Frame)
 }
 
 // From the top frame down.
-pub fn stack_ok(
+fn stack_ok(
     shapes: [u8; 128],
     count: usize,
     a: Extent,
@@ -117,7 +117,7 @@ pub fn stack_ok(
 
 // ---- threads
 
-pub fn thread_ok(shapes: [u8; 128], count: usize, t: Thread) -> bool
+fn thread_ok(shapes: [u8; 128], count: usize, t: Thread) -> bool
     requires { ⌜ count ≤ 128 ⌝ }
     ensures { λ r. ⌜ ((ds : List Model.Node) → ShapesOf shapes count ds → r ≡ threadOk ds (threadOf t)) ⌝ }
 {

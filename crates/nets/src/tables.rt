@@ -7,7 +7,7 @@ ghost use Rattle.values.specs.Lists.{placeOf};
 ghost use Rattle.nets.specs.Tables.{isAt};
 ghost use Rattle.nets.specs.View.{tableOf, tablesOf};
 
-pub fn is_at(t: Table, s: Site, name: u32) -> bool
+fn is_at(t: Table, s: Site, name: u32) -> bool
     ensures { λ r. ⌜ r ≡ isAt s name (tableOf t) ⌝ }
 {
     let site = t.site;

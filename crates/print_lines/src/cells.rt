@@ -10,7 +10,7 @@ ghost use mathlib.Core.Path.{_≡_};
 ghost use Prim.Native.Nat.{_≤_};
 ghost use lib.IntN.{natAbs};
 
-pub fn magnitude(i: i32) -> u64
+fn magnitude(i: i32) -> u64
     ensures { λ r. ⌜ r ≡ natAbs i ⌝ }
 {
     if i < 0 {
@@ -20,7 +20,7 @@ pub fn magnitude(i: i32) -> u64
     i as u64
 }
 
-pub fn put_int(page: &mut [u8; 4096], at: usize, i: i32) -> usize
+fn put_int(page: &mut [u8; 4096], at: usize, i: i32) -> usize
     requires { ⌜ at ≤ 4096 ⌝ }
     ensures { λ r. ⌜ r ≤ 4096 ⌝ }
 {
@@ -60,7 +60,7 @@ pub fn put_value(page: &mut [u8; 4096], at: usize, v: Value) -> usize
 }
 
 // The line of a row: its first `columns` values.
-pub fn put_row(page: &mut [u8; 4096], at: usize, row: Row, columns: usize) -> usize
+fn put_row(page: &mut [u8; 4096], at: usize, row: Row, columns: usize) -> usize
     requires { ⌜ at ≤ 4096 ⌝ }
     ensures { λ r. ⌜ r ≤ 4096 ⌝ }
 {

@@ -86,7 +86,7 @@ pub fn put_picks(page: &mut [u8; 4096], at: usize, answers: &[u8], count: usize)
 }
 
 // The line of a table, and those of its rows.
-pub fn put_table(page: &mut [u8; 4096], at: usize, t: Table) -> usize
+fn put_table(page: &mut [u8; 4096], at: usize, t: Table) -> usize
     requires { ⌜ at ≤ 4096 ⌝ }
     ensures { λ r. ⌜ r ≤ 4096 ⌝ }
 {

@@ -14,7 +14,7 @@ fn joined(a: u8, b: u8, c: u8, d: u8) -> u32
 }
 
 // Four bytes, the first lowest.
-pub fn little(p: &[u8]) -> u32
+fn little(p: &[u8]) -> u32
     requires { ⌜ length (now p) ≡ 4 ⌝ }
     ensures { λ r. ⌜ r ≡ little (now (p .entry)) ⌝ }
 {
@@ -30,7 +30,7 @@ pub fn text_in(p: &[u8]) -> u32
 }
 
 // 32 bits as a signed number.
-pub fn signed(n: u32) -> i32
+fn signed(n: u32) -> i32
     ensures { λ r. ⌜ r ≡ signed n ⌝ }
 {
     if n < 2147483648 {

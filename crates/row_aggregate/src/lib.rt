@@ -18,7 +18,7 @@ ghost use Rattle.values.specs.Values.{in32};
 ghost use Rattle.rows.specs.View.{valuesOf, relationOf, Shaped};
 ghost use Rattle.row_change.specs.Aggregates.{intOf, intAt, column, total, smaller, larger, best, aggregated, columnFits};
 
-pub fn int_of(v: Value) -> i32
+fn int_of(v: Value) -> i32
     ensures { λ r. ⌜ r ≡ intOf v ⌝ }
 {
     match v {
@@ -29,7 +29,7 @@ pub fn int_of(v: Value) -> i32
 }
 
 // The Int in a column of a row with that many columns.
-pub fn int_at(row: Row, columns: usize, at: usize) -> i32
+fn int_at(row: Row, columns: usize, at: usize) -> i32
     requires { ⌜ (columns ≤ 4) × (at < columns) ⌝ }
     ensures { λ r. ⌜ r ≡ intAt at (valuesOf columns row) ⌝ }
 {
@@ -38,7 +38,7 @@ pub fn int_at(row: Row, columns: usize, at: usize) -> i32
     int_of(v)
 }
 
-pub fn add_wide(a: i64, i: i32) -> i64
+fn add_wide(a: i64, i: i32) -> i64
     requires { ⌜ SFits w64 (a +ℤ i) ⌝ }
     ensures { λ r. ⌜ r ≡ a +ℤ i ⌝ }
 {
@@ -46,7 +46,7 @@ pub fn add_wide(a: i64, i: i32) -> i64
 }
 
 // The whole sum, in 64 bits.
-pub fn total_of(r: Relation, at: usize) -> i64
+fn total_of(r: Relation, at: usize) -> i64
     requires { ⌜ Shaped r × (at < r .columns) ⌝ }
     ensures { λ o. ⌜ o ≡ total (column at (relationOf r .rows)) ⌝ }
 {
@@ -64,7 +64,7 @@ pub fn total_of(r: Relation, at: usize) -> i64
 }
 
 // An Int, if it is within 32 bits.
-pub fn within(s: i64) -> Got
+fn within(s: i64) -> Got
     ensures { λ r. ⌜ r ≡ fitting (in32 s) s ⌝ }
 {
     if s < -2147483648 {
@@ -76,7 +76,7 @@ pub fn within(s: i64) -> Got
     Got::One(Value::Int(s as i32))
 }
 
-pub fn better(largest: bool, j: i32, k: i32) -> i32
+fn better(largest: bool, j: i32, k: i32) -> i32
     ensures { λ r. ⌜ r ≡ cond largest (larger j k) (smaller j k) ⌝ }
 {
     if largest {
@@ -92,7 +92,7 @@ pub fn better(largest: bool, j: i32, k: i32) -> i32
 }
 
 // The largest or the least Int of a column; of no rows nothing.
-pub fn best_of(largest: bool, r: Relation, at: usize) -> Got
+fn best_of(largest: bool, r: Relation, at: usize) -> Got
     requires { ⌜ Shaped r × (at < r .columns) ⌝ }
     ensures { λ o. ⌜ o ≡ best (cond largest larger smaller) (column at (relationOf r .rows)) ⌝ }
 {
@@ -113,7 +113,7 @@ pub fn best_of(largest: bool, r: Relation, at: usize) -> Got
     Got::One(Value::Int(a))
 }
 
-pub fn count_of(r: Relation) -> Got
+fn count_of(r: Relation) -> Got
     requires { ⌜ Shaped r ⌝ }
     ensures { λ o. ⌜ o ≡ One (Int (pos (r .count))) ⌝ }
 {

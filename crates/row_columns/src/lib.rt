@@ -13,7 +13,7 @@ ghost use Rattle.rows.specs.View.{noField, columnsOf, operandsOf, Short};
 ghost use Rattle.rows.specs.Plans.{sourceKind};
 ghost use Rattle.row_change.specs.Changes.{kindsOf, columnFor, selectedColumns};
 
-pub fn source_kind(s: Source, kinds: [u8; 4]) -> u8
+fn source_kind(s: Source, kinds: [u8; 4]) -> u8
     ensures { λ r. ⌜ r ≡ sourceKind s kinds ⌝ }
 {
     match s {
@@ -29,7 +29,7 @@ pub fn source_kind(s: Source, kinds: [u8; 4]) -> u8
 }
 
 // The kind of a component of t.
-pub fn column_kind(op: Operand, template: Operands, kinds: [u8; 4], vars: [Slot; 16]) -> u8
+fn column_kind(op: Operand, template: Operands, kinds: [u8; 4], vars: [Slot; 16]) -> u8
     requires { ⌜ Short template ⌝ }
     ensures { λ r. ⌜ r ≡ columnFor (bind (operandsOf template) (columnsOf (template .count) kinds) (kindsOf (varsOf vars))) op ⌝ }
 {
@@ -44,7 +44,7 @@ pub fn column_kind(op: Operand, template: Operands, kinds: [u8; 4], vars: [Slot;
     }
 }
 
-pub fn kind_for(t: Operands, i: usize, template: Operands, kinds: [u8; 4], vars: [Slot; 16]) -> u8
+fn kind_for(t: Operands, i: usize, template: Operands, kinds: [u8; 4], vars: [Slot; 16]) -> u8
     requires { ⌜ Short template × (i < 4) ⌝ }
     ensures { λ r. ⌜ r ≡ columnFor (bind (operandsOf template) (columnsOf (template .count) kinds) (kindsOf (varsOf vars))) (getD (t .fields) i noField .operand) ⌝ }
 {

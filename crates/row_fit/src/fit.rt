@@ -19,7 +19,7 @@ ghost use Rattle.rows.specs.Fit.{draft, ofKind, fits, sameColumns};
 
 // ---- drafts
 
-pub fn slot_of(t: Operands, i: usize, vars: [Slot; 16]) -> Slot
+fn slot_of(t: Operands, i: usize, vars: [Slot; 16]) -> Slot
     requires { ⌜ i < 4 ⌝ }
     ensures { λ r. ⌜ r .held ≡ eval (varsOf vars) (getD (t .fields) i noField .operand) ⌝ }
 {
@@ -44,7 +44,7 @@ pub fn draft_of(t: Operands, vars: [Slot; 16]) -> Draft
     }
 }
 
-pub fn cell_of(s: Slot) -> Cell
+fn cell_of(s: Slot) -> Cell
     ensures { λ r. ⌜ r .value ≡ valueIn (s .held) ⌝ }
 {
     let held = s.held;
@@ -72,7 +72,7 @@ pub fn row_of(d: Draft) -> Row
 
 // ---- fit
 
-pub fn of_kind(kind: u8, g: Got) -> bool
+fn of_kind(kind: u8, g: Got) -> bool
     ensures { λ r. ⌜ r ≡ ofKind kind g ⌝ }
 {
     match g {

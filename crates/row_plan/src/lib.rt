@@ -40,7 +40,7 @@ pub fn want_of(op: Operand, vars: [Slot; 16]) -> Want
     }
 }
 
-pub fn is_same(o: Order) -> bool
+fn is_same(o: Order) -> bool
     ensures { λ r. ⌜ r ≡ isSame o ⌝ }
 {
     match o {
@@ -61,7 +61,7 @@ pub fn met(w: Want, v: Value) -> bool
 }
 
 // The want at a place of T; past its end anything will do.
-pub fn wanted_at(template: Operands, i: usize, vars: [Slot; 16]) -> Wanted
+fn wanted_at(template: Operands, i: usize, vars: [Slot; 16]) -> Wanted
     requires { ⌜ i < 4 ⌝ }
     ensures { λ r. ⌜ r .want ≡ wantAt (varsOf vars) template i ⌝ }
 {
@@ -105,7 +105,7 @@ pub fn row_matches(wants: [Wanted; 4], row: Row) -> bool
     true
 }
 
-pub fn takes_any(w: Wanted) -> bool
+fn takes_any(w: Wanted) -> bool
     ensures { λ r. ⌜ r ≡ isAnything (w .want) ⌝ }
 {
     let want = w.want;
@@ -116,7 +116,7 @@ pub fn takes_any(w: Wanted) -> bool
 }
 
 // Every row matches.
-pub fn free_wants(wants: [Wanted; 4]) -> bool
+fn free_wants(wants: [Wanted; 4]) -> bool
     ensures { λ r. ⌜ ((row : Row) → length (row .cells) ≡ 4 → (r || wantsMet wants (row .cells)) ≡ wantsMet wants (row .cells)) ⌝ }
 {
     let a = wants[0];
@@ -126,7 +126,7 @@ pub fn free_wants(wants: [Wanted; 4]) -> bool
     takes_any(a) & takes_any(b) & takes_any(c) & takes_any(d)
 }
 
-pub fn row_meets(free: bool, wants: [Wanted; 4], row: Row) -> bool
+fn row_meets(free: bool, wants: [Wanted; 4], row: Row) -> bool
     ensures { λ r. ⌜ r ≡ (free || wantsMet wants (row .cells)) ⌝ }
 {
     if free {
@@ -137,7 +137,7 @@ pub fn row_meets(free: bool, wants: [Wanted; 4], row: Row) -> bool
 
 // ---- the predicate, and the rows selected
 
-pub fn test_holds(t: Test, o: Order) -> bool
+fn test_holds(t: Test, o: Order) -> bool
     ensures { λ r. ⌜ r ≡ agrees t o ⌝ }
 {
     match t {

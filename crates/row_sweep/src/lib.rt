@@ -21,7 +21,7 @@ ghost use Rattle.row_change.specs.Contracts.{MadeIs, RenewedIs, JudgedRow, Swep
 
 // ---- new rows
 
-pub fn made_of(g: Got, kind: u8) -> Made
+fn made_of(g: Got, kind: u8) -> Made
     ensures { λ m. ⌜ MadeIs kind g m ⌝ }
 {
     match g {
@@ -42,7 +42,7 @@ pub fn made_of(g: Got, kind: u8) -> Made
 }
 
 // A column's cell is copied as it stands.
-pub fn made_from(row: Row, at: u8, kind: u8) -> Made
+fn made_from(row: Row, at: u8, kind: u8) -> Made
     ensures { λ m. ⌜ MadeIs kind (gotAt (row .cells) at) m ⌝ }
 {
     let i = at as usize;
@@ -57,7 +57,7 @@ pub fn made_from(row: Row, at: u8, kind: u8) -> Made
     }
 }
 
-pub fn made(term: Term, row: Row, kind: u8) -> Made
+fn made(term: Term, row: Row, kind: u8) -> Made
     ensures { λ m. ⌜ MadeIs kind (termGot term (row .cells)) m ⌝ }
 {
     match term {
@@ -70,7 +70,7 @@ pub fn made(term: Term, row: Row, kind: u8) -> Made
 }
 
 // The row that t gives for a row, and whether it fits: as many values as columns, of those kinds.
-pub fn renewed(terms: Terms, columns: usize, kinds: [u8; 4], row: Row) -> Renewed
+fn renewed(terms: Terms, columns: usize, kinds: [u8; 4], row: Row) -> Renewed
     requires { ⌜ (columns ≤ 4) × (terms .count ≤ 4) ⌝ }
     ensures { λ o. ⌜ RenewedIs terms columns kinds row o ⌝ }
 {
@@ -106,7 +106,7 @@ pub fn renewed(terms: Terms, columns: usize, kinds: [u8; 4], row: Row) -> Renewe
 // ---- the pass
 
 // A row that the plan selects is marked. With drafts it also has to fit, unless any will do, and is what t gives for it.
-pub fn judge(
+fn judge(
     plan: Plan,
     drafts: bool,
     any: bool,

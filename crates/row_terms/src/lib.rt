@@ -37,7 +37,7 @@ pub fn is_formal_of(i: u8, op: Operand) -> bool
 
 // The last place of T whose formal is variable i, as bindings go from first to last; 4 where there is none.
 // Four tests in place of a loop: it is asked for every operand of a pick.
-pub fn formal_place(i: u8, template: Operands) -> usize
+fn formal_place(i: u8, template: Operands) -> usize
     requires { ⌜ Short template ⌝ }
     ensures { λ r. ⌜ r ≡ formalPlace i 4 0 (operandsOf template) ⌝ }
 {
@@ -94,7 +94,7 @@ pub fn term_of(op: Operand, template: Operands, vars: [Slot; 16]) -> Term
     }
 }
 
-pub fn got_at(row: Row, i: u8) -> Got
+fn got_at(row: Row, i: u8) -> Got
     ensures { λ r. ⌜ r ≡ gotAt (row .cells) i ⌝ }
 {
     let at = i as usize;
@@ -126,7 +126,7 @@ pub fn term_got(t: Term, row: Row) -> Got
 
 // ---- tuples prepared for rows that match T
 
-pub fn place_of(t: Operands, i: usize, template: Operands, vars: [Slot; 16]) -> Place
+fn place_of(t: Operands, i: usize, template: Operands, vars: [Slot; 16]) -> Place
     requires { ⌜ Short template × (i < 4) ⌝ }
     ensures { λ r. ⌜ r .term ≡ termOf (varsOf vars) (operandsOf template) (getD (t .fields) i noField .operand) ⌝ }
 {

@@ -10,7 +10,7 @@ ghost use Rattle.runs.specs.Runs.{RunIs};
 ghost use Rattle.runs.specs.Turns.{Ready, Turned};
 
 // One pick of a run. An unsound net refuses it, and stands as it is.
-pub fn turn(s: Ran, pick: Pick) -> Ran
+fn turn(s: Ran, pick: Pick) -> Ran
     requires { ⌜ Ready s ⌝ }
     ensures { λ r. ⌜ Turned s (pick ∷ []) r ⌝ }
 {

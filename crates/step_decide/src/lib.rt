@@ -34,7 +34,7 @@ ghost use Rattle.step_meets.specs.Situations.{situation, Rest, whole, Handed};
 ghost use Rattle.step_meets.specs.Contracts.{Meets, Fine, Known, Flagged, SourceIs, Sourced, DecidedAt, DecidedIs};
 
 // A loop: a round, or over and on to next.
-pub fn decide_loop(
+fn decide_loop(
     vars: [Slot; 16],
     depth: usize,
     frame: Frame,
@@ -82,7 +82,7 @@ pub fn decide_loop(
     }
 }
 
-pub fn decide_act(
+fn decide_act(
     vars: [Slot; 16],
     depth: usize,
     frame: Frame,

@@ -73,7 +73,7 @@ pub fn said_append(node: Node, content: Relation, source: Relation, vars: [Slot;
 
 // ---- aggregates
 
-pub fn is_int_column(at: u8, r: Relation) -> bool
+fn is_int_column(at: u8, r: Relation) -> bool
     requires { ⌜ Shaped r ⌝ }
     ensures { λ o. ⌜ o ≡ eqb (getD (relationOf r .columns) at 0) 1 ⌝ }
 {

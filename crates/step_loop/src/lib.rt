@@ -24,7 +24,7 @@ ghost use Rattle.step_thread.specs.Contracts.{visitOf, readyAt, OpenedIs, Round
 ghost use Rattle.nets.specs.Scenes.{stillToVisit};
 
 // The first n places.
-pub fn all_places(n: usize) -> [bool; 16]
+fn all_places(n: usize) -> [bool; 16]
     requires { ⌜ n ≤ 16 ⌝ }
     ensures { λ r. ⌜ marked 0 r ≡ places 0 n ⌝ }
 {
@@ -38,7 +38,7 @@ pub fn all_places(n: usize) -> [bool; 16]
 }
 
 // The rows still to visit: all where the loop is first met.
-pub fn to_visit(frame: Frame, n: usize) -> [bool; 16]
+fn to_visit(frame: Frame, n: usize) -> [bool; 16]
     requires { ⌜ n ≤ 16 ⌝ }
     ensures { λ r. ⌜ marked 0 r ≡ stillToVisit (entryOf frame) n ⌝ }
 {
@@ -51,7 +51,7 @@ pub fn to_visit(frame: Frame, n: usize) -> [bool; 16]
 }
 
 // The rows still to visit that match T.
-pub fn ready_places(
+fn ready_places(
     template: Operands,
     source: Relation,
     visit: [bool; 16],
@@ -72,7 +72,7 @@ pub fn ready_places(
     ready
 }
 
-pub fn any_place(flags: [bool; 16]) -> bool
+fn any_place(flags: [bool; 16]) -> bool
     ensures { λ r. ⌜ r ≡ any (λ (b : Bool). b) flags ⌝ }
 {
     let mut i: usize = 0;
@@ -86,7 +86,7 @@ pub fn any_place(flags: [bool; 16]) -> bool
 }
 
 // The row's place leaves the set, and T's formals bind to the row.
-pub fn opened(
+fn opened(
     template: Operands,
     source: Relation,
     visit: [bool; 16],

@@ -12,7 +12,7 @@ ghost use Rattle.nets.specs.Scenes.{aliasFor, meant, siteMeant, siteOfGot};
 ghost use Rattle.nets.specs.View.{aliasesOf};
 ghost use Rattle.step_meets.specs.Contracts.{locatedOf};
 
-pub fn is_alias(a: Alias, s: Site, l: Locality) -> bool
+fn is_alias(a: Alias, s: Site, l: Locality) -> bool
     ensures { λ r. ⌜ r ≡ aliasFor s l a ⌝ }
 {
     let site = a.site;
@@ -21,7 +21,7 @@ pub fn is_alias(a: Alias, s: Site, l: Locality) -> bool
 }
 
 // By the aliases alone.
-pub fn meant_by(aliases: [Alias; 56], count: usize, s: Site, l: Locality) -> Located
+fn meant_by(aliases: [Alias; 56], count: usize, s: Site, l: Locality) -> Located
     requires { ⌜ count ≤ 56 ⌝ }
     ensures { λ r. ⌜ locatedOf r ≡ meant (find (aliasFor s l) (aliasesOf count aliases)) ⌝ }
 {
@@ -38,7 +38,7 @@ pub fn meant_by(aliases: [Alias; 56], count: usize, s: Site, l: Locality) -> Loc
 }
 
 // Locality 0 is the site itself; others need an alias.
-pub fn site_meant(aliases: [Alias; 56], count: usize, s: Site, l: Locality) -> Located
+fn site_meant(aliases: [Alias; 56], count: usize, s: Site, l: Locality) -> Located
     requires { ⌜ count ≤ 56 ⌝ }
     ensures { λ r. ⌜ locatedOf r ≡ siteMeant (aliasesOf count aliases) s l ⌝ }
 {

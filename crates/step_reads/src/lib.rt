@@ -23,7 +23,7 @@ ghost use Rattle.step_reads.specs.Contracts.{flagAt, knownFrom};
 
 // ---- flags
 
-pub fn is_got(g: Got) -> bool
+fn is_got(g: Got) -> bool
     ensures { λ r. ⌜ r ≡ isGot g ⌝ }
 {
     match g {
@@ -42,7 +42,7 @@ pub fn flag_in(flags: [bool; 16], i: u8) -> bool
     flags[at]
 }
 
-pub fn bound_table_in(flags: [bool; 2], i: u8) -> bool
+fn bound_table_in(flags: [bool; 2], i: u8) -> bool
     ensures { λ r. ⌜ r ≡ flagAt flags i ⌝ }
 {
     let at = i as usize;
@@ -54,7 +54,7 @@ pub fn bound_table_in(flags: [bool; 2], i: u8) -> bool
 
 // ---- operands
 
-pub fn is_formal_in(i: u8, template: Operands) -> bool
+fn is_formal_in(i: u8, template: Operands) -> bool
     requires { ⌜ Short template ⌝ }
     ensures { λ r. ⌜ r ≡ among i (formals (operandsOf template)) ⌝ }
 {
@@ -72,7 +72,7 @@ pub fn is_formal_in(i: u8, template: Operands) -> bool
 }
 
 // The variable that an operand reads; 256, which is none, where it reads none.
-pub fn variable_of(op: Operand) -> usize
+fn variable_of(op: Operand) -> usize
     ensures { λ r. ⌜ reads op ≡ cond (ltb r 256) (r ∷ []) [] ⌝ }
 {
     match op {
@@ -87,7 +87,7 @@ pub fn variable_of(op: Operand) -> usize
 }
 
 // Variable k, where g is what it holds if it is one of the 16: it is bound, or, where `also` says so, a formal of T. No variable is known.
-pub fn is_known(k: usize, g: Got, also: bool, template: Operands) -> bool
+fn is_known(k: usize, g: Got, also: bool, template: Operands) -> bool
     requires { ⌜ Short template ⌝ }
     ensures { λ r. ⌜ r ≡ all (λ (i : ℕ). (ltb i 16 && isGot g) || (also && among i (formals (operandsOf template)))) (cond (ltb k 256) (k ∷ []) []) ⌝ }
 {
@@ -101,7 +101,7 @@ pub fn is_known(k: usize, g: Got, also: bool, template: Operands) -> bool
 }
 
 // The operand at a place of T or t; past its end none.
-pub fn field_in(t: Operands, i: usize) -> Field
+fn field_in(t: Operands, i: usize) -> Field
     requires { ⌜ Short t × (i < 4) ⌝ }
     ensures { λ r. ⌜ r .operand ≡ getD (operandsOf t) i Absent ⌝ }
 {
@@ -113,7 +113,7 @@ pub fn field_in(t: Operands, i: usize) -> Field
 }
 
 // The operands that a node reads: for the first six only bound variables count, for the others also formals of T.
-pub fn all_known(ops: [Field; 12], template: Operands, vars: [Slot; 16]) -> bool
+fn all_known(ops: [Field; 12], template: Operands, vars: [Slot; 16]) -> bool
     requires { ⌜ Short template ⌝ }
     ensures { λ r. ⌜ r ≡ knownFrom (isBound (varsOf vars)) (operandsOf template) 0 ops ⌝ }
 {

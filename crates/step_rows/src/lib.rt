@@ -22,7 +22,7 @@ ghost use Rattle.row_change.specs.Aggregates.{columnFits, aggregated};
 ghost use Rattle.step_effect.specs.Contracts.{JudgeReady, JudgedIs};
 
 // Over the rows that are marked. Where the column does not fit, check 16 comes first.
-pub fn result_of(node: Node, source: Relation, flags: [bool; 16]) -> Got
+fn result_of(node: Node, source: Relation, flags: [bool; 16]) -> Got
     requires { ⌜ Shaped source ⌝ }
     ensures { λ r. ⌜ (T (columnFits (node .function) (node .column) (relationOf source .columns)) → r ≡ aggregated (node .function) (node .column) (sift true (marks (source .count) flags) (relationOf source .rows))) ⌝ }
 {

@@ -24,7 +24,7 @@ pub fn two(a: Operand, b: Operand) -> Operands {
 }
 
 // No operands; what lies past the count is out of range.
-pub fn none() -> Operands {
+fn none() -> Operands {
     let field = Field {
         operand: Operand::Formal(99),
     };
@@ -44,7 +44,7 @@ pub fn four(a: Operand) -> Operands {
 }
 
 // Any row of two columns.
-pub fn formals() -> Operands {
+fn formals() -> Operands {
     two(Operand::Formal(3), Operand::Formal(4))
 }
 
@@ -58,7 +58,7 @@ pub fn matching(template: Operands) -> Selector {
 }
 
 // Rows of a number below 40.
-pub fn below_forty() -> Selector {
+fn below_forty() -> Selector {
     Selector {
         template: formals(),
         test: Test::Less,
@@ -139,14 +139,14 @@ pub fn giving(node: Node, tuple: Operands) -> Node {
 }
 
 // The sum of the second column, bound to variable 5.
-pub fn aggregate(next: u8) -> Node {
+fn aggregate(next: u8) -> Node {
     let d = selecting(placed(22, next), below_forty());
     let place = d.place;
     remade(d, Function::Sum, 1, place, Operand::Formal(5))
 }
 
 // Text and Int.
-pub fn create(next: u8) -> Node {
+fn create(next: u8) -> Node {
     let mut d = placed(23, next);
     d.columns = 2;
     d.kinds[0] = 2;

@@ -22,7 +22,7 @@ pub fn held_in(vars: [Slot; 16], i: u8) -> Got
 }
 
 // The sum is taken in 64 bits, so that leaving 32 is seen and nothing wraps.
-pub fn sum_of(i: i32, k: i32) -> Got
+fn sum_of(i: i32, k: i32) -> Got
     ensures { λ r. ⌜ r ≡ add k (One (Int i)) ⌝ }
 {
     let s = (i as i64) + (k as i64);
@@ -63,7 +63,7 @@ pub fn eval_in(op: Operand, vars: [Slot; 16]) -> Got
 }
 
 // The variable takes what is given; past the sixteen there is none to take it.
-pub fn put_in(vars: [Slot; 16], i: u8, g: Got) -> [Slot; 16]
+fn put_in(vars: [Slot; 16], i: u8, g: Got) -> [Slot; 16]
     ensures { λ r. ⌜ varsOf r ≡ set (varsOf vars) i g ⌝ }
 {
     let at = i as usize;

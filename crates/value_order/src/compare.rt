@@ -8,7 +8,7 @@ ghost use mathlib.Core.Path.{_≡_};
 ghost use Rattle.values.specs.Values.{intOrder, order};
 ghost use Rattle.values.specs.Operands.{compared};
 
-pub fn int_order(i: i32, j: i32) -> Order
+fn int_order(i: i32, j: i32) -> Order
     ensures { λ r. ⌜ r ≡ intOrder i j ⌝ }
 {
     if i < j {
@@ -20,7 +20,7 @@ pub fn int_order(i: i32, j: i32) -> Order
     Order::Same
 }
 
-pub fn value_order(a: Value, b: Value) -> Order
+fn value_order(a: Value, b: Value) -> Order
     ensures { λ r. ⌜ r ≡ order a b ⌝ }
 {
     match a {

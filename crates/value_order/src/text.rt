@@ -4,7 +4,7 @@ ghost use mathlib.Core.Path.{_≡_};
 ghost use Rattle.values.specs.Folding.{foldedText};
 ghost use Rattle.values.specs.Values.{upper, textOrder, numberOrder};
 
-pub fn upper_byte(b: u32) -> u32
+fn upper_byte(b: u32) -> u32
     ensures { λ r. ⌜ r ≡ upper b ⌝ }
 {
     if b < 97 {
@@ -17,7 +17,7 @@ pub fn upper_byte(b: u32) -> u32
 }
 
 // The four bytes as capitals, again as one number.
-pub fn folded(t: u32) -> u32
+fn folded(t: u32) -> u32
     ensures { λ r. ⌜ r ≡ foldedText t ⌝ }
 {
     let a = upper_byte(t / 16777216 % 256);

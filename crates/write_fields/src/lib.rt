@@ -12,7 +12,7 @@ ghost use Rattle.record_bytes.specs.Encoding.{bits32, operandBytes, tupleBytes,
 // ---- operands
 
 // The 32 bits of a signed number.
-pub fn bits(n: i32) -> u32
+fn bits(n: i32) -> u32
     ensures { λ r. ⌜ r ≡ bits32 n ⌝ }
 {
     if 0 <= n {
@@ -49,7 +49,7 @@ fn put_eight(out: &mut [u8], tag: u8, a: u8, b: u8, c: u8, d: u8)
     out[7] = d;
 }
 
-pub fn put_value(out: &mut [u8], v: Value)
+fn put_value(out: &mut [u8], v: Value)
     requires { ⌜ length (now out) ≡ 8 ⌝ }
     ensures { λ _. ⌜ now (out .exit) ≡ operandBytes v ⌝ }
 {
