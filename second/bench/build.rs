@@ -1,4 +1,4 @@
-//! Links the proved code where the feature `proved` asks for it, and SQLite where it is installed.
+//! Links the crate `bench` where the feature `proved` asks for it, and SQLite where it is installed.
 
 use std::env;
 use std::path::{Path, PathBuf};
@@ -29,14 +29,12 @@ fn link_proved() {
     let root = Path::new(env!("CARGO_MANIFEST_DIR")).join("../..");
     let directory = root.join("target/staticlib");
     println!("cargo::rustc-link-search=native={}", directory.display());
-    for name in ["bench", "tivgeral"] {
-        let library = directory.join(format!("lib{name}.a"));
-        assert!(
-            library.is_file(),
-            "{} is not there; make it with `rt staticlib {name}` at the root of the repository",
-            library.display()
-        );
-        println!("cargo::rerun-if-changed={}", library.display());
-        println!("cargo::rustc-link-lib=static={name}");
-    }
+    let library = directory.join("libbench.a");
+    assert!(
+        library.is_file(),
+        "{} is not there; make it with `rt staticlib bench` at the root of the repository",
+        library.display()
+    );
+    println!("cargo::rerun-if-changed={}", library.display());
+    println!("cargo::rustc-link-lib=static=bench");
 }

@@ -1,4 +1,4 @@
-//! The three calls of the library, each behind a safe function. The only unsafe code is here.
+//! The calls of the library, each behind a safe function. The only unsafe code is here.
 #![allow(unsafe_code)]
 
 use crate::{Answer, Pick, Refused, Thread, RECORD};
@@ -8,85 +8,78 @@ const TABLES_ROOM: usize = RECORD * (8 + 8 * 16);
 /// 8 threads.
 const THREADS_ROOM: usize = Thread::SIZE * 8;
 
-type Call = unsafe extern "C" fn(
-    file: *const u8,
-    file_len: usize,
-    picks: *const u8,
-    picks_len: usize,
-    out: *mut u8,
-    out_len: usize,
-    place: *mut usize,
-) -> u8;
+/// Declares calls of the library, which all have one signature.
+macro_rules! declared {
+    ($($name:ident),*) => {
+        extern "C" {
+            $(fn $name(
+                file: *const u8,
+                file_length: usize,
+                picks: *const u8,
+                picks_length: usize,
+                out: *mut u8,
+                out_length: usize,
+                place: *mut usize,
+            ) -> u8;)*
+        }
+    };
+}
 
-extern "C" {
-    fn tivgeral_tables(
-        file: *const u8,
-        file_len: usize,
-        picks: *const u8,
-        picks_len: usize,
-        out: *mut u8,
-        out_len: usize,
-        place: *mut usize,
-    ) -> u8;
+declared!(tivgeral_tables, tivgeral_answers, tivgeral_threads);
 
-    fn tivgeral_answers(
-        file: *const u8,
-        file_len: usize,
-        picks: *const u8,
-        picks_len: usize,
-        out: *mut u8,
-        out_len: usize,
-        place: *mut usize,
-    ) -> u8;
+/// A call of `include/tivgeral.h`.
+#[derive(Clone, Copy, PartialEq, Eq, Debug)]
+pub enum Call {
+    Tables,
+    Answers,
+    Threads,
+}
 
-    fn tivgeral_threads(
-        file: *const u8,
-        file_len: usize,
-        picks: *const u8,
-        picks_len: usize,
-        out: *mut u8,
-        out_len: usize,
-        place: *mut usize,
-    ) -> u8;
+impl Call {
+    pub const ALL: [Call; 3] = [Call::Tables, Call::Answers, Call::Threads];
+
+    /// Makes the call with any bytes and a buffer of any length: its number, and the place, which
+    /// is how many bytes it put into the buffer where the number is 0.
+    pub fn on(self, file: &[u8], picks: &[u8], out: &mut [u8]) -> (u8, usize) {
+        let call = match self {
+            Call::Tables => tivgeral_tables,
+            Call::Answers => tivgeral_answers,
+            Call::Threads => tivgeral_threads,
+        };
+        let (f, p, o) = (file.as_ptr(), picks.as_ptr(), out.as_mut_ptr());
+        let mut place = 0;
+        // SAFETY: each pointer goes with the length of its own slice, and the call keeps none.
+        let number = unsafe { call(f, file.len(), p, picks.len(), o, out.len(), &mut place) };
+        (number, place)
+    }
+
+    /// Lends a buffer of so many bytes, which is room for all that the call can put out, and gives
+    /// back what it put there.
+    fn lent(self, file: &[u8], picks: &[Pick], room: usize) -> Result<Vec<u8>, Refused> {
+        let picks: Vec<u8> = picks.iter().flat_map(|pick| [pick.thread, pick.row]).collect();
+        let mut out = vec![0; room];
+        let (number, place) = self.on(file, &picks, &mut out);
+        if number != 0 {
+            return Err(Refused { number, place });
+        }
+        out.truncate(place);
+        Ok(out)
+    }
 }
 
 /// The table and row records of the net after all picks, which load again.
 pub fn tables(file: &[u8], picks: &[Pick]) -> Result<Vec<u8>, Refused> {
-    lent(tivgeral_tables, file, picks, TABLES_ROOM)
+    Call::Tables.lent(file, picks, TABLES_ROOM)
 }
 
 /// An answer for each pick.
 pub fn answers(file: &[u8], picks: &[Pick]) -> Result<Vec<Answer>, Refused> {
-    let bytes = lent(tivgeral_answers, file, picks, Answer::SIZE * picks.len())?;
+    let bytes = Call::Answers.lent(file, picks, Answer::SIZE * picks.len())?;
     Ok(Answer::read_all(&bytes))
 }
 
 /// The threads that stand after all picks, by place.
 pub fn threads(file: &[u8], picks: &[Pick]) -> Result<Vec<Thread>, Refused> {
-    let bytes = lent(tivgeral_threads, file, picks, THREADS_ROOM)?;
+    let bytes = Call::Threads.lent(file, picks, THREADS_ROOM)?;
     Ok(Thread::read_all(&bytes))
-}
-
-/// Lends a call a buffer with room for all that it can put out, and gives back what it put in.
-fn lent(call: Call, file: &[u8], picks: &[Pick], room: usize) -> Result<Vec<u8>, Refused> {
-    let picks: Vec<u8> = picks.iter().flat_map(|pick| [pick.thread, pick.row]).collect();
-    let mut out = vec![0; room];
-    let mut place = 0;
-    // SAFETY: each pointer goes with the length of its own slice, and none is kept by the call.
-    let number = unsafe {
-        call(
-            file.as_ptr(),
-            file.len(),
-            picks.as_ptr(),
-            picks.len(),
-            out.as_mut_ptr(),
-            out.len(),
-            &mut place,
-        )
-    };
-    if number != 0 {
-        return Err(Refused { number, place });
-    }
-    out.truncate(place);
-    Ok(out)
 }

@@ -13,7 +13,7 @@ mod thread;
 
 pub use answer::{Answer, Refused};
 #[cfg(feature = "proved")]
-pub use calls::{answers, tables, threads};
+pub use calls::{answers, tables, threads, Call};
 pub use pick::Pick;
 pub use thread::{Thread, Top};
 

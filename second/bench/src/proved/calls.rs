@@ -1,23 +1,31 @@
 //! The calls that other programs make. Both give how many bytes they put out.
 
-use super::foreign;
+#[cfg(feature = "proved")]
+use embed::Call;
+
+#[cfg(not(feature = "proved"))]
+enum Call {
+    Tables,
+    Answers,
+}
+
+#[cfg(not(feature = "proved"))]
+impl Call {
+    fn on(self, _: &[u8], _: &[u8], _: &mut [u8]) -> (u8, usize) {
+        unreachable!("the proved code is not linked")
+    }
+}
 
 pub fn answers(file: &[u8], picks: &[u8], out: &mut [u8]) -> usize {
-    let (f, p, o, room) = (file.as_ptr(), picks.as_ptr(), out.as_mut_ptr(), out.len());
-    let mut place = 0;
-    // SAFETY: each pointer goes with the length of its own slice, and the call keeps none.
-    let number =
-        unsafe { foreign::tivgeral_answers(f, file.len(), p, picks.len(), o, room, &mut place) };
-    assert_eq!(number, 0, "a file that loads, and a buffer with room");
-    place
+    made(Call::Answers, file, picks, out)
 }
 
 pub fn tables(file: &[u8], picks: &[u8], out: &mut [u8]) -> usize {
-    let (f, p, o, room) = (file.as_ptr(), picks.as_ptr(), out.as_mut_ptr(), out.len());
-    let mut place = 0;
-    // SAFETY: as above.
-    let number =
-        unsafe { foreign::tivgeral_tables(f, file.len(), p, picks.len(), o, room, &mut place) };
+    made(Call::Tables, file, picks, out)
+}
+
+fn made(call: Call, file: &[u8], picks: &[u8], out: &mut [u8]) -> usize {
+    let (number, place) = call.on(file, picks, out);
     assert_eq!(number, 0, "a file that loads, and a buffer with room");
     place
 }

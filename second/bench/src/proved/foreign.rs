@@ -1,4 +1,4 @@
-//! The functions of the two libraries. None has a `requires`: they may be called with any numbers
+//! The functions of target/staticlib/libbench.a. None has a `requires`: they may be called with any numbers
 //! and any bytes. A slice is where it begins and how long it is.
 
 /// Without the feature `proved` nothing is linked, and functions that nobody calls stand in, so
@@ -19,9 +19,7 @@ macro_rules! foreign {
 }
 
 type Bytes = *const u8;
-type Out = *mut u8;
 
-// Of target/staticlib/libbench.a.
 foreign! {
     bench_steps(tables: Bytes, t: usize, program: Bytes, p: usize, kind: u8, turns: u64) -> u64;
     bench_left(tables: Bytes, t: usize, program: Bytes, p: usize, kind: u8) -> u64;
@@ -30,10 +28,4 @@ foreign! {
     bench_tests(tables: Bytes, t: usize, program: Bytes, p: usize, turns: u64) -> u64;
     bench_loads(file: Bytes, length: usize, turns: u64) -> u64;
     bench_loaded(file: Bytes, length: usize, turns: u64) -> u64;
-}
-
-// Of target/staticlib/libtivgeral.a; include/tivgeral.h says what they do.
-foreign! {
-    tivgeral_answers(file: Bytes, f: usize, picks: Bytes, p: usize, out: Out, o: usize, place: *mut usize) -> u8;
-    tivgeral_tables(file: Bytes, f: usize, picks: Bytes, p: usize, out: Out, o: usize, place: *mut usize) -> u8;
 }
