@@ -31,8 +31,8 @@
  *
  * A refused pick is no error of a call: it changes nothing, is answered with its number, and the run goes on with the next pick.
  *
- * What comes back is proved for every file, every list of picks and every buffer: crates/calls/specs/Calls.antt has the definition of what a
- * call gives back, Layouts.antt beside it that of the bytes of tables and threads, and crates/picklists/specs/AnswerBytes.antt that of answers.
+ * What comes back is proved for every file, every list of picks and every buffer: crates/call_rules/specs/Calls.antt has the definition of what a
+ * call gives back, Layouts.antt beside it that of the bytes of tables and threads, and crates/step_bytes/specs/AnswerBytes.antt that of answers.
  * The stack space is measured, not proved.
  */
 #ifndef TIVGERAL_H

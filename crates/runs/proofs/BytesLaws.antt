@@ -19,7 +19,7 @@ use Rattle.nets.proofs.AnswerLaws.{refuses-10}
 use Rattle.step_bytes.specs.PickBytes.{picksIn}
 use Rattle.step_left.specs.Turns.{Stood, GoneIs}
 use Rattle.runs.specs.Runs.{RunIs}
-use Rattle.runs.proofs.TurnLaws.{run-made}
+use Rattle.runs.proofs.FurtherLaws.{run-made}
 
 -- ── how much is lent ──
 

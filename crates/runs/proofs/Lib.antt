@@ -1,4 +1,4 @@
 -- Laws of runs that belong to no one function.
 pub mod BytesLaws
 pub mod ListLaws
-pub mod TurnLaws
+pub mod FurtherLaws

@@ -1,3 +1,3 @@
 -- What a run gives back.
 pub mod Runs
-pub mod Turns
+pub mod Further

@@ -7,12 +7,12 @@ use run_state::tally;
 use steps::step_sound;
 ghost use mathlib.Core.List.{[], _∷_};
 ghost use Rattle.runs.specs.Runs.{RunIs};
-ghost use Rattle.runs.specs.Turns.{Ready, Turned};
+ghost use Rattle.runs.specs.Further.{Ready, Further};
 
 // One pick of a run. An unsound net refuses it, and stands as it is.
-fn turn(s: Ran, pick: Pick) -> Ran
+fn run_pick(s: Ran, pick: Pick) -> Ran
     requires { ⌜ Ready s ⌝ }
-    ensures { λ r. ⌜ Turned s (pick ∷ []) r ⌝ }
+    ensures { λ r. ⌜ Further s (pick ∷ []) r ⌝ }
 {
     if s.sound {
         let net = s.net;
@@ -28,7 +28,7 @@ pub fn run(net: Net, picks: &[Pick]) -> Ran
     let mut s = begin(net);
     let mut i = 0;
     while i < picks.len() {
-        s = turn(s, picks[i]);
+        s = run_pick(s, picks[i]);
         i += 1;
     }
     s

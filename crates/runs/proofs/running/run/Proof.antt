@@ -1,4 +1,4 @@
--- `runs::running::run` meets its contract: a walk of its MIR, by hand. It is a loop over a slice of structs, which reads an element and calls `turn` with it.
+-- `runs::running::run` meets its contract: a walk of its MIR, by hand. It is a loop over a slice of structs, which reads an element and calls `run_pick` with it.
 -- Nothing is known of the functions that it calls but their contracts. What the loop keeps is `SoFar`: the picks behind led from the first state to this one.
 -- Every struct here owns only facts, so the walk carries cells and facts, and makes what is owned where a call or the exit asks for it.
 -- Assumes nothing.
@@ -48,8 +48,8 @@ use denote.Triple.Walked.{says, Stays, stay-dropped, walkOf, goes-dropped, Walks
 use denote.Exit.{yes}
 use Rattle.runs.specs.Runs.{RunIs}
 use Rattle.run_state.specs.States.{Begun}
-use Rattle.runs.specs.Turns.{Ready, Turned}
-use Rattle.runs.proofs.TurnLaws.{SoFar, so-far-start, so-far-next, so-far-all, so-far-ready}
+use Rattle.runs.specs.Further.{Ready, Further}
+use Rattle.runs.proofs.FurtherLaws.{SoFar, so-far-start, so-far-next, so-far-all, so-far-ready}
 use Rattle.nets.specs.declared.Pick.{Pick}
 use Rattle.nets.specs.declared.Net.{Net}
 use Rattle.run_state.specs.declared.Ran.{Ran}
@@ -63,10 +63,10 @@ use Rattle.run_state.proofs.begin as begin
 use Rattle.run_state.proofs.begin.Symbol as begin-def
 use Rattle.run_state.proofs.begin.Symbol.{name as #begin}
 use Rattle.run_state.proofs.begin.Met as begin-thm
-use Rattle.runs.proofs.running.turn as turn
-use Rattle.runs.proofs.running.turn.Symbol as turn-def
-use Rattle.runs.proofs.running.turn.Symbol.{name as #turn}
-use Rattle.runs.proofs.running.turn.Met as turn-thm
+use Rattle.runs.proofs.running.run_pick as run-pick
+use Rattle.runs.proofs.running.run_pick.Symbol as run-pick-def
+use Rattle.runs.proofs.running.run_pick.Symbol.{name as #run-pick}
+use Rattle.runs.proofs.running.run_pick.Met as run-pick-thm
 use Rattle.runs.proofs.running.run.Key.{name as #run}
 use Rattle.runs.proofs.running.run as run′
 use Rattle.runs.proofs.running.run.Statement as stated
@@ -91,14 +91,14 @@ module _ {M : Type 1} (𝓤 : URA M) (H : Heap 𝓤) (A : Atoms 𝓤) (mem : Mem
   abbrev Begin : Contract 𝓤
   Begin = tripleOf 𝓤 H A begin.signature (begin.spec 𝓤 H A mem run)
 
-  abbrev Turn : Contract 𝓤
-  Turn = tripleOf 𝓤 H A turn.signature (turn.spec 𝓤 H A mem run)
+  abbrev RunPick : Contract 𝓤
+  RunPick = tripleOf 𝓤 H A run-pick.signature (run-pick.spec 𝓤 H A mem run)
 
   begin-said : (n : Net) (r : Ran) → ent 𝓤 (ensured 𝓤 H A begin.ended (begin.clauses 𝓤 H A mem run) tt (n, tt) tt r) (fact 𝓤 (Begun n r))
   begin-said n r = exE 𝓤 _ (λ ws. snd∗ 𝓤 (sem 𝓤 H A (lasts begin.ended tt (n, tt) ws)) (fact 𝓤 (Begun n r)))
 
-  turn-said : (s : Ran) (p : Pick) (r : Ran) → ent 𝓤 (ensured 𝓤 H A turn.ended (turn.clauses 𝓤 H A mem run) tt (s, (p, tt)) tt r) (fact 𝓤 (Turned s (p ∷ []) r))
-  turn-said s p r = exE 𝓤 _ (λ ws. snd∗ 𝓤 (sem 𝓤 H A (lasts turn.ended tt (s, (p, tt)) ws)) (fact 𝓤 (Turned s (p ∷ []) r)))
+  run-pick-said : (s : Ran) (p : Pick) (r : Ran) → ent 𝓤 (ensured 𝓤 H A run-pick.ended (run-pick.clauses 𝓤 H A mem run) tt (s, (p, tt)) tt r) (fact 𝓤 (Further s (p ∷ []) r))
+  run-pick-said s p r = exE 𝓤 _ (λ ws. snd∗ 𝓤 (sem 𝓤 H A (lasts run-pick.ended tt (s, (p, tt)) ws)) (fact 𝓤 (Further s (p ∷ []) r)))
 
 module _ {M : Type 1} (𝓤 : URA M) (H : Heap 𝓤) (A : Atoms 𝓤) (W : Given 𝓤 H A) (mem : Memory → SProp 𝓤) (run : Routine → Fun 𝓤)
     (κ : Lft) (q : Share) (net : Net) (nv : Val) (b o : ℕ) (γ : GName) (ys : List Pick) (isN : Is N.the-row net (nv ∷ [])) (rm : Room P.the-row (length ys)) where
@@ -133,11 +133,11 @@ module _ {M : Type 1} (𝓤 : URA M) (H : Heap 𝓤) (A : Atoms 𝓤) (W : Given
   goes-begin : ent 𝓤 (sem 𝓤 H A (N.the-row .own net (nv ∷ []))) (Begin 𝓤 H A mem run .pre to-begin)
   goes-begin = qed W (‵ (N.the-row .own net (nv ∷ [])) ∷ []) ∵ nothing ! $ move ! (1 ∷ 0 ∷ []) $ join ! $ nothing ! $ join ! $ frame ! $ done !
 
-  abbrev to-turn : Ran → Pick → Val → Val → Turn 𝓤 H A mem run .Ghost
-  to-turn s p u v = ((tt, tt, tt, (s, (p, tt)), (u ∷ [], (v ∷ [], tt))), tt)
+  abbrev to-run-pick : Ran → Pick → Val → Val → RunPick 𝓤 H A mem run .Ghost
+  to-run-pick s p u v = ((tt, tt, tt, (s, (p, tt)), (u ∷ [], (v ∷ [], tt))), tt)
 
-  goes-turn : (s : Ran) (p : Pick) (u v : Val) → Ready s → ent 𝓤 (⋆ 𝓤 H A (‵ (R.the-row .own s (u ∷ [])) ∷ ‵ (P.the-row .own p (v ∷ [])) ∷ [])) (Turn 𝓤 H A mem run .pre (to-turn s p u v))
-  goes-turn s p u v f =
+  goes-run-pick : (s : Ran) (p : Pick) (u v : Val) → Ready s → ent 𝓤 (⋆ 𝓤 H A (‵ (R.the-row .own s (u ∷ [])) ∷ ‵ (P.the-row .own p (v ∷ [])) ∷ [])) (RunPick 𝓤 H A mem run .pre (to-run-pick s p u v))
+  goes-run-pick s p u v f =
       qed W (‵ (R.the-row .own s (u ∷ [])) ∷ ‵ (P.the-row .own p (v ∷ [])) ∷ []) ∵ says ! f $
       nothing ! $ frame ! $ nothing ! $ move ! (2 ∷ 0 ∷ []) $ fjoin ! $ move ! (1 ∷ 0 ∷ []) $ fjoin ! $ done !
 
@@ -155,7 +155,7 @@ module _ {M : Type 1} (𝓤 : URA M) (H : Heap 𝓤) (A : Atoms 𝓤) (W : Given
   Nearer-wf : WellFounded Nearer
   Nearer-wf = InvImage·wf (λ (x : Round). n - x .i) (Nat·lt-wfRel .wf)
 
-  module _ (𝓣 : Tables 𝓤 H) (known-turn : Triple 𝓤 (𝓣 .C #turn) (Turn 𝓤 H A mem run)) (l₀ l₁ l₂ l₃ l₄ l₅ l₆ l₇ l₈ : ℕ) where
+  module _ (𝓣 : Tables 𝓤 H) (known-run-pick : Triple 𝓤 (𝓣 .C #run-pick) (RunPick 𝓤 H A mem run)) (l₀ l₁ l₂ l₃ l₄ l₅ l₆ l₇ l₈ : ℕ) where
     abbrev En : Env 𝓤 H
     En = (R′.mir, l₀) ∷ (N′.mir, l₁) ∷ (slice, l₂) ∷ (R′.mir, l₃) ∷ (tyInt w64, l₄) ∷ (tyInt w64, l₅) ∷ (tyBool, l₆) ∷ (tyPtr, l₇) ∷ (P′.mir, l₈) ∷ []
 
@@ -185,10 +185,10 @@ module _ {M : Type 1} (𝓤 : URA M) (H : Heap 𝓤) (A : Atoms 𝓤) (W : Given
         elem-back ! P.the-row q′ ys (x .i) none (pval p ∷ []) b o less $ shuts-slice ! tt P.the-row q′ ys b o $
         -- [the token; the borrow; s; i; …]
         owned ! P.the-row (Is P.the-row) (LL.makes P.the-type P′.the-plain 𝓤 H A) p (pval p ∷ []) isP $ owned ! R.the-row (Is R.the-row) (LL.makes R.the-type R′.the-plain 𝓤 H A) (x .s) (x .u ∷ []) (x .is) $
-        use2 W (raw (Turn 𝓤 H A mem run .pre (to-turn (x .s) p (x .u) (pval p)))) (goes-turn (x .s) p (x .u) (pval p) (so-far-ready net ys (x .i) (x .s) (rm .1) (x .so-far))) $
-        calls-at ! (fmOf 𝓤 H (W .laws) 𝓣) (Turn 𝓤 H A mem run) known-turn (to-turn (x .s) p (x .u) (pval p)) (and-then ! (load ! (from ! (stop !)) (look ! 3 refl)) (and-then ! (load ! (from ! (stop !)) (look ! 8 refl)) (no-more !))) (λ u′.
-        use1 W (later (some (λ (r : Ran). (‵ ftrue ⊛ ‵ (R.the-row .own r (u′ ∷ []))) ⊛ raw (ensured 𝓤 H A turn.ended (turn.clauses 𝓤 H A mem run) tt (x .s, (p, tt)) tt r)))) (id⊢ 𝓤 _) $ await ! tt $ pick ! (λ r.
-        split ! $ move ! (1 ∷ []) $ use1 W (raw (fact 𝓤 (Turned (x .s) (p ∷ []) r))) (turn-said 𝓤 H A mem run (x .s) p r) $ heard ! (Turned (x .s) (p ∷ []) r) (λ e′. split ! $ drop ! $
+        use2 W (raw (RunPick 𝓤 H A mem run .pre (to-run-pick (x .s) p (x .u) (pval p)))) (goes-run-pick (x .s) p (x .u) (pval p) (so-far-ready net ys (x .i) (x .s) (rm .1) (x .so-far))) $
+        calls-at ! (fmOf 𝓤 H (W .laws) 𝓣) (RunPick 𝓤 H A mem run) known-run-pick (to-run-pick (x .s) p (x .u) (pval p)) (and-then ! (load ! (from ! (stop !)) (look ! 3 refl)) (and-then ! (load ! (from ! (stop !)) (look ! 8 refl)) (no-more !))) (λ u′.
+        use1 W (later (some (λ (r : Ran). (‵ ftrue ⊛ ‵ (R.the-row .own r (u′ ∷ []))) ⊛ raw (ensured 𝓤 H A run-pick.ended (run-pick.clauses 𝓤 H A mem run) tt (x .s, (p, tt)) tt r)))) (id⊢ 𝓤 _) $ await ! tt $ pick ! (λ r.
+        split ! $ move ! (1 ∷ []) $ use1 W (raw (fact 𝓤 (Further (x .s) (p ∷ []) r))) (run-pick-said 𝓤 H A mem run (x .s) p r) $ heard ! (Further (x .s) (p ∷ []) r) (λ e′. split ! $ drop ! $
         facts ! R.the-row (Is R.the-row) (shows 𝓤 H A R.the-row) r (u′ ∷ []) (λ is′.
         land ! (from ! (stop !)) (store ! 2 refl (LL.lawful R.the-type R′.the-laws 𝓤 H A W .typed r _ is′ .0)) $
         assigns-last ! (bin ! (load ! (from ! (stop !)) (look ! 3 refl)) (lit ! tt) (record { fits = next _ (eqb→eq _ 1 tt) })) (from ! (stop !)) (store ! 3 refl (tt, record { fits = next _ (eqb→eq _ 1 tt) })) $
@@ -245,21 +245,21 @@ module _ {M : Type 1} (𝓤 : URA M) (H : Heap 𝓤) (A : Atoms 𝓤) (W : Given
         looped (record { i = 0; s = r; u = u; is = is; so-far = so-far-start net ys r e })))))
 
   -- the function: its locals, and what it is passed
-  walk : (𝓣 : Tables 𝓤 H) → Triple 𝓤 (𝓣 .C #begin) (Begin 𝓤 H A mem run) → Triple 𝓤 (𝓣 .C #turn) (Turn 𝓤 H A mem run)
+  walk : (𝓣 : Tables 𝓤 H) → Triple 𝓤 (𝓣 .C #begin) (Begin 𝓤 H A mem run) → Triple 𝓤 (𝓣 .C #run-pick) (RunPick 𝓤 H A mem run)
       → ent 𝓤 (onEntry 𝓤 H A run′.signature (κ, tt) (q, tt) (net, (ps, tt)) at) (WpFn 𝓤 H (𝓣 .C) (𝓣 .Λ) code.function (nv ∷ sliceVal (b, o) n ∷ []) Post)
-  walk 𝓣 known-begin known-turn =
+  walk 𝓣 known-begin known-run-pick =
       qed W ((‵ (flft κ q) ⊛ ‵ ftrue) ∷ ‵ (owns (N.the-row ∷ ShrSlice (named 0) κ P.the-row ∷ []) (net, (ps, tt)) at) ∷ []) ∵ enter ! (𝓣 .C) (𝓣 .Λ) code.function (nv ∷ sliceVal (b, o) n ∷ []) _ $
       alloc1 ! (λ l₀. alloc1 ! (λ l₁. alloc1 ! (λ l₂. alloc1 ! (λ l₃. alloc1 ! (λ l₄. alloc1 ! (λ l₅. alloc1 ! (λ l₆. alloc1 ! (λ l₇. alloc1 ! (λ l₈. alloc0 ! $ params1 ! $
       pass1 ! (init ! 14 refl (LL.lawful N.the-type N′.the-laws 𝓤 H A W .typed net _ isN .0)) $ pass1 ! (init ! 12 refl (tt, (tt, (record { fits = rm .0 }, tt)))) $ pass0 ! $
       keep ! (19 ∷ 18 ∷ 0 ∷ 2 ∷ 4 ∷ 6 ∷ 8 ∷ 10 ∷ 12 ∷ 14 ∷ 16 ∷ 17 ∷ 15 ∷ 13 ∷ 11 ∷ 9 ∷ 7 ∷ 5 ∷ 3 ∷ 1 ∷ []) $
-      begins 𝓣 known-turn l₀ l₁ l₂ l₃ l₄ l₅ l₆ l₇ l₈ known-begin)))))))))
+      begins 𝓣 known-run-pick l₀ l₁ l₂ l₃ l₄ l₅ l₆ l₇ l₈ known-begin)))))))))
 
 module _ {M : Type 1} (𝓤 : URA M) (H : Heap 𝓤) (A : Atoms 𝓤) (W : Given 𝓤 H A) (mem : Memory → SProp 𝓤) (run : Routine → Fun 𝓤) (𝓣 : Tables 𝓤 H)
-    (known-begin : Triple 𝓤 (𝓣 .C #begin) (Begin 𝓤 H A mem run)) (known-turn : Triple 𝓤 (𝓣 .C #turn) (Turn 𝓤 H A mem run)) where
+    (known-begin : Triple 𝓤 (𝓣 .C #begin) (Begin 𝓤 H A mem run)) (known-run-pick : Triple 𝓤 (𝓣 .C #run-pick) (RunPick 𝓤 H A mem run)) where
   run-walks : Walks 𝓤 H A run′.ended stayed (WpFn 𝓤 H (𝓣 .C) (𝓣 .Λ) code.function) (run′.clauses 𝓤 H A mem run)
   run-walks = walked 𝓤 H A run′.ended stayed (run′.clauses 𝓤 H A mem run) (WpFn 𝓤 H (𝓣 .C) (𝓣 .Λ) code.function)
       (λ κs. (LL.vals N.the-type N′.the-laws, (slice-vals, tt))) (λ κs. (LL.tells N.the-type N′.the-laws, (shr-slice-tells (named 0) (κs .0) P.the-row, tt)))
-      (λ κs qs bounds a g are. via 𝓤 _ (fst∗ 𝓤 _ (emp 𝓤)) (walk 𝓤 H A W mem run (κs .0) (qs .0) (a .0) _ (a .1 .0 .ptr .0) (a .1 .0 .ptr .1) (a .1 .0 .name) (a .1 .0 .now) (are .0) (are .1 .0 .0 .1) 𝓣 known-begin known-turn))
+      (λ κs qs bounds a g are. via 𝓤 _ (fst∗ 𝓤 _ (emp 𝓤)) (walk 𝓤 H A W mem run (κs .0) (qs .0) (a .0) _ (a .1 .0 .ptr .0) (a .1 .0 .ptr .1) (a .1 .0 .name) (a .1 .0 .now) (are .0) (are .1 .0 .0 .1) 𝓣 known-begin known-run-pick))
 
   run-meets : Meets 𝓤 H A run′.signature (WpFn 𝓤 H (𝓣 .C) (𝓣 .Λ) code.function) (run′.spec 𝓤 H A mem run)
   run-meets = walk-meets 𝓤 H A run′.ended stayed W (goes-dropped 𝓤 H A W 1 (plain (λ _. N.the-row)) yes (λ κs x f. refl), (goes-dropped 𝓤 H A W 1 (shrSliceOf (0 ∷ []) tt (plain (λ _. P.the-row))) yes (λ κs x f. refl), tt))
@@ -271,5 +271,5 @@ run-spec 𝓤 H 𝓜 𝓖 𝓡 =
     entered 𝓤 H (tripleOf 𝓤 H (𝓖 .A) run′.signature (run′.spec 𝓤 H (𝓖 .A) (𝓜 .mem) (𝓡 .run)))
     (tables 𝓤 H 𝓜 𝓡 code.env .C) (tables 𝓤 H 𝓜 𝓡 code.env .Λ) #run code.function (code.unfolded 𝓤 H 𝓜 𝓡)
     (run-meets 𝓤 H (𝓖 .A) (givenOf 𝓤 H 𝓜 𝓖) (𝓜 .mem) (𝓡 .run) (tablesOf 𝓤 H 𝓜 (tables 𝓤 H 𝓜 𝓡 code.env))
-    (cited 𝓤 H (Begin 𝓤 H (𝓖 .A) (𝓜 .mem) (𝓡 .run)) 𝓜 𝓡 code.env #begin begin-def.routine code.calls-counts·begin (begin-thm.met 𝓤 H 𝓜 𝓖 𝓡))
-    (cited 𝓤 H (Turn 𝓤 H (𝓖 .A) (𝓜 .mem) (𝓡 .run)) 𝓜 𝓡 code.env #turn turn-def.routine code.calls-runs·running·turn (turn-thm.met 𝓤 H 𝓜 𝓖 𝓡)))
+    (cited 𝓤 H (Begin 𝓤 H (𝓖 .A) (𝓜 .mem) (𝓡 .run)) 𝓜 𝓡 code.env #begin begin-def.routine code.calls-run_state·begin (begin-thm.met 𝓤 H 𝓜 𝓖 𝓡))
+    (cited 𝓤 H (RunPick 𝓤 H (𝓖 .A) (𝓜 .mem) (𝓡 .run)) 𝓜 𝓡 code.env #run-pick run-pick-def.routine code.calls-runs·running·run_pick (run-pick-thm.met 𝓤 H 𝓜 𝓖 𝓡)))

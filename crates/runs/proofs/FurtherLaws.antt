@@ -1,4 +1,4 @@
--- Turns of a run, one after another, are a run. Assumes nothing.
+-- Picks of a run, one after another, are a run. Assumes nothing.
 use Prim.Native.Nat.{ℕ, _+_, _*_, _<_, _≤_, _^_}
 use mathlib.Core.Path.{_≡_, refl, ap, sym, _∙_, subst}
 use mathlib.Core.Bool.{true, false, not}
@@ -29,15 +29,15 @@ use Rattle.step_left.specs.Turns.{allRefused}
 use Rattle.run_state.specs.declared.Ran.{Ran}
 use Rattle.run_state.specs.States.{Begun, Tallied}
 use Rattle.runs.specs.Runs.{RunIs}
-use Rattle.runs.specs.Turns.{Ready, Turned}
+use Rattle.runs.specs.Further.{Ready, Further}
 use Rattle.runs.proofs.ListLaws.{after-both, added-both, taken-both, refused-both}
 
 -- ── any number of picks ──
 
 -- no pick leaves all as it is
-turned-none : (s : Ran) → s .sound ≡ sound (view (s .net)) → Turned s [] s
+further-none : (s : Ran) → s .sound ≡ sound (view (s .net)) → Further s [] s
 unfolding after answers
-turned-none s e = record {
+further-none s e = record {
   after = refl;
   added = omega arith;
   taken = omega arith;
@@ -48,8 +48,8 @@ turned-none s e = record {
 }
 
 -- first these, then those
-turned-both : (s m r : Ran) (ps qs : List Pick) → Turned s ps m → Turned m qs r → Turned s (ps ++ qs) r
-turned-both s m r ps qs a b = record {
+further-both : (s m r : Ran) (ps qs : List Pick) → Further s ps m → Further m qs r → Further s (ps ++ qs) r
+further-both s m r ps qs a b = record {
   after = b .after ∙ ap (λ (n : M.Net). after n qs) (a .after) ∙ sym (after-both (view (s .net)) ps qs);
   added =
       let here = added-both (view (s .net)) ps qs in
@@ -74,23 +74,23 @@ pub record SoFar (net : Net) (ys : List Pick) (i : ℕ) (s : Ran) : Type 0 where
   pub first : Ran
   pub begun : Begun net first
   pub upto : i ≤ length ys
-  pub behind : Turned first (take i ys) s
+  pub behind : Further first (take i ys) s
 
 pub so-far-start : (net : Net) (ys : List Pick) (s : Ran) → Begun net s → SoFar net ys 0 s
 so-far-start net ys s b = record {
   first = s;
   begun = b;
   upto = omega arith;
-  behind = turned-none s (b .flag ∙ ap (λ (n : Net). sound (view n)) (sym (b .same)));
+  behind = further-none s (b .flag ∙ ap (λ (n : Net). sound (view n)) (sym (b .same)));
 }
 
 -- one pick more
-pub so-far-next : (net : Net) (ys : List Pick) (i : ℕ) (s r : Ran) (d : Pick) → i < length ys → SoFar net ys i s → Turned s (getD ys i d ∷ []) r → SoFar net ys (i + 1) r
+pub so-far-next : (net : Net) (ys : List Pick) (i : ℕ) (s r : Ran) (d : Pick) → i < length ys → SoFar net ys i s → Further s (getD ys i d ∷ []) r → SoFar net ys (i + 1) r
 so-far-next net ys i s r d l g t = record {
   first = g .first;
   begun = g .begun;
   upto = omega arith;
-  behind = rw (add-one, take-suc ys i d) (turned-both (g .first) s r (take i ys) (getD ys i d ∷ []) (g .behind) t);
+  behind = rw (add-one, take-suc ys i d) (further-both (g .first) s r (take i ys) (getD ys i d ∷ []) (g .behind) t);
 }
 
 -- a list in memory is so short that the sums have room
@@ -118,7 +118,7 @@ run-made net ys s left more less kept flag = record {
 }
 
 -- from the first state on, all picks of a list
-run-is : (net : Net) (ys : List Pick) (f s : Ran) → Begun net f → Turned f ys s → RunIs net ys s
+run-is : (net : Net) (ys : List Pick) (f s : Ran) → Begun net f → Further f ys s → RunIs net ys s
 run-is net ys f s b t =
     run-made net ys s (t .after ∙ ap (λ (n : Net). after (view n) ys) (b .same))
     (let n = ap (λ (n : Net). reportedAdded (view n) ys) (b .same) in let z = ap totalOf (b .added) in omega (arith, t .added, z, n))
@@ -131,9 +131,9 @@ so-far-all net ys i s l g = run-is net ys (g .first) s (g .begun) (rw (← take-
 -- ── one pick ──
 
 -- an unsound net refuses it
-pub turned-unsound : (s : Ran) (p : Pick) → Ready s → s .sound ≡ false → Turned s (p ∷ []) s
+pub further-unsound : (s : Ran) (p : Pick) → Ready s → s .sound ≡ false → Further s (p ∷ []) s
 unfolding after nextNet answers
-turned-unsound s p h e = record {
+further-unsound s p h e = record {
   after = ap (netLeft (view (s .net))) (sym no);
   added = let n = ap addedIn no in omega (arith, n);
   taken = let n = ap takenIn no in omega (arith, n);
@@ -154,10 +154,10 @@ refused-said (Done a t) (refused n vs) e = cc
 refused-said (Done a t) (done b u net) e = refl
 
 -- a sound one is stepped, and the counts of the answer are added
-pub turned-sound :
-    (s r : Ran) (p : Pick) (o : Stepped) → s .sound ≡ true → StepIs (s .net) p o → T (sound (view (o .net))) → Tallied s o r → Turned s (p ∷ []) r
+pub further-sound :
+    (s r : Ran) (p : Pick) (o : Stepped) → s .sound ≡ true → StepIs (s .net) p o → T (sound (view (o .net))) → Tallied s o r → Further s (p ∷ []) r
 unfolding after nextNet answers
-turned-sound s r p o ok is fine t = record {
+further-sound s r p o ok is fine t = record {
   after = ap view (t .net) ∙ is .after;
   added = let e = ap addedSaid (is .answer) ∙ said-added (step (view (s .net)) p) in omega (arith, t .added, e);
   taken = let e = ap takenSaid (is .answer) ∙ said-taken (step (view (s .net)) p) in omega (arith, t .taken, e);

@@ -19,7 +19,7 @@ pub record Ready (s : Ran) : Type 0 where
   pub taken : s .taken .high < 2 ^ 63
 
 -- some picks further: as `RunIs` but for demand 3, from a state in the middle of a run; a pick moves a high half by one at most
-pub record Turned (s : Ran) (ps : List Pick) (r : Ran) : Type 0 where
+pub record Further (s : Ran) (ps : List Pick) (r : Ran) : Type 0 where
   pub after : view (r .net) ≡ after (view (s .net)) ps
   pub added : totalOf (r .added) ≡ totalOf (s .added) + reportedAdded (view (s .net)) ps
   pub taken : totalOf (r .taken) ≡ totalOf (s .taken) + reportedTaken (view (s .net)) ps
