@@ -1,6 +1,6 @@
 -- Laws that belong to no one function.
 pub mod AggregateLaws
-pub mod Appending
+pub mod AppendLaws
 pub mod FitLaws
 pub mod Prepared
 pub mod RangeLaws

@@ -1,7 +1,7 @@
 -- `row_change::appending::append` meets its contract: row by row, by `push`.
 use Prim.Native.Nat.{_-_}
 use borrow.Author.Needs.{needs}
-use Rattle.row_change.proofs.Appending.{Appended, appended-starts, appended-next, appended-ends}
+use Rattle.row_change.proofs.AppendLaws.{Appended, appended-starts, appended-next, appended-ends}
 use Rattle.row_change.proofs.appending.append.Statement.{statement}
 use Rattle.row_change.proofs.appending.append.Tie as tie
 
