@@ -6,7 +6,7 @@ use mathlib.Core.List.{List, [], _∷_, map}
 use mathlib.Core.Option.{some}
 use native.Mathlib.Omega.{arith}
 use lib.Dec.{T, eqb, leb, ltb→lt, le→leb, eqb→eq}
-use lib.ListN.{length, length-set, length-map}
+use lib.ListN.{set, length, length-set, length-map}
 use Rattle.values.specs.declared.Operand.{Operand}
 use Rattle.values.specs.declared.Operand.the-variants.{Absent, ConstInt, ConstText, ConstLoc, Var, Plus, Formal}
 use Rattle.values.specs.Lists.{all, among}
@@ -19,14 +19,14 @@ use Rattle.values.proofs.RangeLaws.{Ranged}
 use Rattle.rows.specs.Relations.{Columns, Relation}
 use Rattle.rows.specs.Matching.{hits}
 use Rattle.rows.specs.Fit.{fitsRow}
-use Rattle.row_change.specs.Changes.{columnFor, kindsOf, tupleFor, selectedColumns, selection}
+use Rattle.row_change.specs.Changes.{columnFor, kindsOf, tupleFor, selectedColumns}
 use Rattle.row_change.proofs.SelectLaws.{isKind, hasKind, variable-kind, selected-kinds, selection-fits}
 use Rattle.row_change.proofs.RangeLaws.{selected-ok}
 use Rattle.row_change.proofs.AggregateLaws.{aggregated-ok}
-use Rattle.nets.specs.Nets.{Kind}
+use Rattle.nets.specs.Nets.{Kind, acting, other, delete, Other, Bindings}
 use Rattle.nets.specs.Sound.{variableOk, columnsOk, relationOk, bindingsOk, tagged, operandsOk}
-use Rattle.nets.specs.Scenes.{Scene, vars, template, source, hitRows, result}
-use Rattle.nets.specs.Steps.{isBound, bindRelation, withVars}
+use Rattle.nets.specs.Scenes.{Scene, vars, template, source, parts, hitRows, result}
+use Rattle.nets.specs.Steps.{isBound, boundBy, withVars}
 use Rattle.nets.proofs.SureLaws.{Sure}
 
 -- ── operands ──
@@ -70,12 +70,9 @@ module _ (e : Vars) (t : List Operand) (cs : Columns) (sixteen : length e ≡ 16
 
 -- ── what is bound ──
 
--- the rows that a delete selected; what a select stores
-abbrev pub deleted : Scene → Relation
-deleted c = record { columns = source c .columns; rows = hitRows c }
-
-abbrev pub stored : Scene → Relation
-stored c = selection (vars c) (c .node .selector) (c .node .tuple) (source c)
+-- the node's table variable bound anew
+abbrev pub bindRelation : Scene → Relation → Bindings
+bindRelation c r = record { vars = vars c; relations = set (c .thread .bindings .relations) (c .node .bound) (some r) }
 
 pub bind-relation : (c : Scene) (r : Relation) → T (bindingsOk (c .thread .bindings)) → T (relationOk (some r)) → T (bindingsOk (bindRelation c r))
 bind-relation c r h k =
@@ -93,23 +90,22 @@ module _ {k : Kind} {c : Scene} (s : Sure k c) where
       let q = all-bind variableOk t r (vars c) vars-ok h in
       rw length-bind (search (and-l, and-r, and-in, s .bindings))
 
-  hits-few : T (leb (length (hitRows c)) 16)
-  hits-few = le→leb (length (hitRows c)) 16 (s .hitsFew)
+  hits-few : T (leb (length (hitRows (parts c))) 16)
+  hits-few = le→leb (length (hitRows (parts c))) 16 (s .hitsFew)
 
-  hits-range : T (all (λ x. all inRange x) (hitRows c))
-  unfolding hitRows
+  hits-range : T (all (λ x. all inRange x) (hitRows (parts c)))
   hits-range = all-filter (λ x. all inRange x) (hits (vars c) (c .node .selector)) (source c .rows) (s .sourceRange)
 
-  pub deleted-ok : T (columnsOk (source c .columns)) → T (relationOk (some (deleted c)))
-  unfolding hitRows
+  pub deleted-ok : T (columnsOk (source c .columns)) → T (relationOk (some (boundBy (acting delete) (parts c))))
+  unfolding boundBy
   deleted-ok cols =
       let fitting = all-filter (fitsRow (source c .columns)) (hits (vars c) (c .node .selector)) (source c .rows) (s .sourceFit) in
       search (and-in, hits-few, hits-range)
 
   -- with a t of tags 1..4 and a T as long as the columns
-  pub stored-ok : T (operandsOk 4 (c .node .tuple)) → T (eqb (length (template c)) (length (source c .columns))) → T (columnsOk (source c .columns)) → T (relationOk (some (stored c)))
-  unfolding hitRows selectedColumns
-  stored-ok tags long cols =
+  pub stored-ok : (o : Other) → T (operandsOk 4 (c .node .tuple)) → T (eqb (length (template c)) (length (source c .columns))) → T (columnsOk (source c .columns)) → T (relationOk (some (boundBy (other o) (parts c))))
+  unfolding boundBy selectedColumns
+  stored-ok o tags long cols =
       let kinds =
       has-kinds (vars c) (template c) (source c .columns)
       (eqb→eq (length (vars c)) 16 (search (and-l, s .bindings)))
@@ -119,12 +115,11 @@ module _ {k : Kind} {c : Scene} (s : Sure k c) where
       let columns = selected-kinds (vars c) (c .node .selector) (c .node .tuple) (source c) kinds in
       let fitting = selection-fits (vars c) (c .node .selector) (c .node .tuple) (source c) kinds (s .sourceFit) in
       let range = selected-ok variableOk ranged (vars c) vars-ok (c .node .selector) (c .node .tuple) (constants-ok 4 (c .node .tuple) tags) (source c .rows) (s .sourceRange) in
-      let few : T (leb (length (map (tupleFor (vars c) (template c) (c .node .tuple)) (hitRows c))) 16) = rw length-map hits-few in
+      let few : T (leb (length (map (tupleFor (vars c) (template c) (c .node .tuple)) (hitRows (parts c)))) 16) = rw length-map hits-few in
       rw (length-map (c .node .tuple) (columnFor (bind (template c) (source c .columns) (kindsOf (vars c))))) (search (and-l, and-r, and-in))
 
   -- an aggregate's result
-  pub result-ok : T (bindingsOk (withVars (c .thread .bindings) (bind (c .node .result ∷ []) (result c ∷ []) (vars c))))
-  unfolding result
+  pub result-ok : T (bindingsOk (withVars (c .thread .bindings) (bind (c .node .result ∷ []) (result (parts c) ∷ []) (vars c))))
   result-ok =
-      bind-vars (c .node .result ∷ []) (result c ∷ [])
-      (and-in (variableOk (result c)) true (aggregated-ok variableOk ranged (c .node .function) (c .node .column) (hitRows c) (s .hitsFew) hits-range) tt)
+      bind-vars (c .node .result ∷ []) (result (parts c) ∷ [])
+      (and-in (variableOk (result (parts c))) true (aggregated-ok variableOk ranged (c .node .function) (c .node .column) (hitRows (parts c)) (s .hitsFew) hits-range) tt)

@@ -24,8 +24,8 @@ use Rattle.nets.specs.declared.Alias.{Alias}
 use Rattle.nets.specs.Nets.{Table, Kind, acting, other, insert, insertTable, delete, update, create, drop, Node}
 use Rattle.nets.specs.Tables.{columnsOf, withRows}
 use Rattle.nets.specs.Sound.{columnsOk, tableOk, variableOk, aliasOk, operandsOk, fieldsOkAs, nodeOkAs}
-use Rattle.nets.specs.Scenes.{Scene, vars, aliasFor, meant, siteOfGot, siteOfL, site, table, source, ownDraft}
-use Rattle.nets.specs.Steps.{tablesBy}
+use Rattle.nets.specs.Scenes.{Scene, vars, aliasFor, meant, siteOfGot, siteOfL, site, table, source, parts, ownDraft}
+use Rattle.nets.specs.Steps.{rowsBy, tablesBy}
 use Rattle.nets.proofs.TableLaws.{change-all, change-length, remove-all, remove-length}
 use Rattle.nets.proofs.SureLaws.{Sure}
 use Rattle.nets.proofs.BindingLaws.{ranged, constants-ok, vars-ok}
@@ -74,10 +74,10 @@ unfolding fieldsOkAs
 create-name n i d h = search (and-l, and-r) depth 16
 
 pub tables-ok : (k : Kind) (c : Scene) → Sure k c → T (all aliasOk (c .net .aliases)) → T (all tableOk (c .net .tables)) → T (all tableOk (tablesBy k c))
-unfolding tablesBy fieldsOkAs table ownDraft
+unfolding rowsBy tablesBy fieldsOkAs table
 tables-ok (acting insert) c s a h =
     let tags : T (operandsOk 5 (c .node .tuple)) = search (and-l, and-r, s .node) depth 16 in
-    let new : Row = valuesIn (ownDraft c) in
+    let new : Row = valuesIn (ownDraft (parts c)) in
     let range = tuple-ok variableOk ranged (vars c) (c .node .tuple) (vars-ok s) (constants-ok 5 (c .node .tuple) tags) in
     change-all (site c) (c .node .name) (λ rs. rs ++ (new ∷ [])) tableOk (c .net .tables)
     (λ t e k.

@@ -21,8 +21,8 @@ use Rattle.row_change.specs.Changes.{tupleFor, changes, renewed, updated}
 use Rattle.row_change.proofs.FitLaws.{renewed-fits}
 use Rattle.nets.specs.Nets.{Table, Kind, acting, other, insert, insertTable, delete, update, create, drop, acts, needsTable, isCreate}
 use Rattle.nets.specs.Tables.{tableAt, rowsOf, columnsOf, distinct, rowsFit, change, remove}
-use Rattle.nets.specs.Scenes.{Scene, vars, template, site, table, source, ownDraft}
-use Rattle.nets.specs.Steps.{insertFits, tablesBy, addedBy, takenBy}
+use Rattle.nets.specs.Scenes.{Scene, vars, template, site, table, source, parts, ownDraft}
+use Rattle.nets.specs.Steps.{insertFits, rowsBy, tablesBy, addedBy, takenBy}
 use Rattle.nets.specs.Accounts.{changedRows, rowsAdded, rowsTaken}
 use Rattle.nets.proofs.TableLaws.{sameKey, key-refl, none-of, change-same, change-other, change-all, change-distinct, remove-same, remove-other, remove-all, remove-distinct, append-same, append-other, append-distinct}
 
@@ -77,15 +77,15 @@ module _ (s : Site) (n : ℕ) (ts : List Table) (f : T (all rowsFit ts)) (d : T 
 
 module _ (c : Scene) (f : T (all rowsFit (c .net .tables))) (d : T (distinct (c .net .tables))) (src : T (relationFits (source c))) where
   pub moved :
-      (k : Kind) → T (not (needsTable k) || isSome (table c)) → T (not (isCreate k) || not (isSome (table c))) → T (insertFits k c) →
+      (k : Kind) → T (not (needsTable k) || isSome (table c)) → T (not (isCreate k) || not (isSome (table c))) → T (insertFits k (parts c)) →
       Moved (site c) (c .node .name) (c .net .tables) (tablesBy k c) (rowsAdded k c) (rowsTaken k c)
-  unfolding table tablesBy rowsAdded rowsTaken
+  unfolding table rowsBy tablesBy rowsAdded rowsTaken
   moved (acting insert) there absent fitting =
-      by-change (site c) (c .node .name) (c .net .tables) f d (λ rs. rs ++ (valuesIn (ownDraft c) ∷ [])) (valuesIn (ownDraft c) ∷ []) [] there
-      (λ r. omega (arith, count-append (sameRow r) (rowsOf (table c)) (valuesIn (ownDraft c) ∷ [])))
+      by-change (site c) (c .node .name) (c .net .tables) f d (λ rs. rs ++ (valuesIn (ownDraft (parts c)) ∷ [])) (valuesIn (ownDraft (parts c)) ∷ []) [] there
+      (λ r. omega (arith, count-append (sameRow r) (rowsOf (table c)) (valuesIn (ownDraft (parts c)) ∷ [])))
       (λ t e h.
-      all-append (fitsRow (t .content .columns)) (t .content .rows) (valuesIn (ownDraft c) ∷ []) h
-      (and-in (fitsRow (t .content .columns) (valuesIn (ownDraft c))) true (fits-row (t .content .columns) (ownDraft c) (subst (λ (o : Option Table). T (fits (columnsOf o) (ownDraft c))) e fitting)) tt))
+      all-append (fitsRow (t .content .columns)) (t .content .rows) (valuesIn (ownDraft (parts c)) ∷ []) h
+      (and-in (fitsRow (t .content .columns) (valuesIn (ownDraft (parts c)))) true (fits-row (t .content .columns) (ownDraft (parts c)) (subst (λ (o : Option Table). T (fits (columnsOf o) (ownDraft (parts c)))) e fitting)) tt))
   moved (acting insertTable) there absent fitting =
       by-change (site c) (c .node .name) (c .net .tables) f d (λ rs. rs ++ source c .rows) (source c .rows) [] there
       (λ r. omega (arith, count-append (sameRow r) (rowsOf (table c)) (source c .rows)))
@@ -108,7 +108,7 @@ module _ (c : Scene) (f : T (all rowsFit (c .net .tables))) (d : T (distinct (c 
   moved (other o) there absent fitting = unmoved (site c) (c .node .name) (c .net .tables) f d
 
 -- the counts answered are the numbers of rows added and taken
-pub added-count : (k : Kind) (c : Scene) → addedBy k c ≡ length (rowsAdded k c)
+pub added-count : (k : Kind) (c : Scene) → addedBy k (parts c) ≡ length (rowsAdded k c)
 unfolding addedBy rowsAdded
 added-count (acting insert) c = refl
 added-count (acting insertTable) c = refl
@@ -120,7 +120,7 @@ added-count (acting create) c = refl
 added-count (acting drop) c = refl
 added-count (other o) c = refl
 
-pub taken-count : (k : Kind) (c : Scene) → takenBy k c ≡ length (rowsTaken k c)
+pub taken-count : (k : Kind) (c : Scene) → takenBy k (parts c) ≡ length (rowsTaken k c)
 unfolding takenBy rowsTaken
 taken-count (acting insert) c = refl
 taken-count (acting insertTable) c = refl

@@ -18,6 +18,7 @@ use Rattle.nets.specs.Tables.{contentOf}
 use Rattle.nets.specs.Sound.{noNode, entryNode, variableOk, bindingsOk, linksOkAs, hasPlaces, entryOk, threadOk}
 use Rattle.nets.specs.Scenes.{Scene, below, template, table, relation, source, stillToVisit, visit, rowAt, anyReady, opens}
 use Rattle.nets.specs.Steps.{roomForRound, bindingsBy, withStack, withBindings, keepThread, goOn, settle, plain, roundBindings, loopEntry, sequentialRound, parallelRound, threadsAfter}
+use Rattle.nets.proofs.StepLaws.{given}
 use Rattle.nets.proofs.SureLaws.{Sure, entry-node}
 use Rattle.nets.proofs.BindingLaws.{bind-vars}
 use Rattle.nets.proofs.StackLaws.{goes-on}
@@ -41,10 +42,6 @@ or-r false b h = h
 
 pub loop-reads : (k : Kind) → T (isLoop k) → T (readsRelation k)
 loop-reads k h = or-r (eqb (code k) 17) (among (code k) (20 ∷ 25 ∷ 26 ∷ [])) (or-r (eqb (code k) 20) (isLoop k) h)
-
-pub given : (a b : Bool) → T a → T (not a || b) → T b
-given true b h k = k
-given false b h k = absurd h
 
 pub is-some : {A : Type 0} (o : Option A) → T (isSome o) → (a : A) × (o ≡ some a)
 is-some none h = absurd h

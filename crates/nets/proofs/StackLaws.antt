@@ -16,10 +16,10 @@ use Rattle.values.proofs.ListLaws.{all-weaken, all-and, not-any}
 use Rattle.rows.specs.Relations.{Relation}
 use Rattle.nets.specs.Nets.{Kind, acting, other, insert, insertTable, delete, update, create, drop, select, selectRelation, aggregate, sequential, parallel, badKind, Node, Entry, toRun, visiting, Bindings, Thread}
 use Rattle.nets.specs.Sound.{noNode, relationOk, bindingsOk, fieldsOkAs, linksOkAs, entryOk, threadOk}
-use Rattle.nets.specs.Scenes.{Scene, below}
-use Rattle.nets.specs.Steps.{holds, bindRelation, bindingsBy, withBindings, keepThread, goOn}
+use Rattle.nets.specs.Scenes.{Scene, below, parts}
+use Rattle.nets.specs.Steps.{holds, boundBy, varsBy, bindingsBy, withBindings, keepThread, goOn}
 use Rattle.nets.proofs.SureLaws.{Sure}
-use Rattle.nets.proofs.BindingLaws.{deleted, stored, bind-relation, deleted-ok, stored-ok, result-ok}
+use Rattle.nets.proofs.BindingLaws.{bindRelation, bind-relation, deleted-ok, stored-ok, result-ok}
 
 -- ── a table variable bound anew ──
 
@@ -58,12 +58,12 @@ module _ {k : Kind} {c : Scene} (s : Sure k c) where
       }
 
 rebound : (k : Kind) (c : Scene) → Sure k c → Rebound c (bindingsBy k c)
-unfolding bindingsBy fieldsOkAs
+unfolding varsBy bindingsBy fieldsOkAs
 rebound (acting insert) c s = same s
 rebound (acting insertTable) c s = same s
-rebound (acting delete) c s = bound s (s .free) (deleted c) (deleted-ok s (s .sourceColumns))
-rebound (other select) c s = bound s (s .free) (stored c) (stored-ok s (search (and-l, and-r, s .node) depth 14) (s .long) (s .sourceColumns))
-rebound (other selectRelation) c s = bound s (s .free) (stored c) (stored-ok s (search (and-l, and-r, s .node) depth 14) (s .long) (s .sourceColumns))
+rebound (acting delete) c s = bound s (s .free) (boundBy (acting delete) (parts c)) (deleted-ok s (s .sourceColumns))
+rebound (other select) c s = bound s (s .free) (boundBy (other select) (parts c)) (stored-ok s select (search (and-l, and-r, s .node) depth 14) (s .long) (s .sourceColumns))
+rebound (other selectRelation) c s = bound s (s .free) (boundBy (other selectRelation) (parts c)) (stored-ok s selectRelation (search (and-l, and-r, s .node) depth 14) (s .long) (s .sourceColumns))
 rebound (acting update) c s = same s
 rebound (other aggregate) c s = record { bindings = result-ok s; entries = s .entries }
 rebound (acting create) c s = same s

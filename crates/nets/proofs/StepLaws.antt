@@ -1,22 +1,23 @@
 -- One step, refused or done, against the accounts. Assumes nothing.
 use Prim.Native.Nat.{ℕ, _+_}
 use mathlib.Core.Path.{_≡_, refl, ap, sym, subst, _∙_}
-use mathlib.Core.Bool.{Bool, true, false, _&&_}
+use mathlib.Core.Bool.{Bool, true, false, not, _&&_, _||_}
 use mathlib.Core.List.{List, [], _∷_, map}
 use native.Mathlib.Omega.{arith}
-use lib.Dec.{T, ltb}
+use lib.Dec.{T, eqb, ltb}
 use lib.ListN.{length, length-map}
 use Rattle.values.specs.declared.Site.{Site}
 use Rattle.values.specs.Lists.{bit, all, count}
 use Rattle.values.specs.Values.{sameRow}
 use Rattle.values.proofs.Bools.{and-l, and-r}
 use Rattle.rows.specs.Relations.{Row}
+use Rattle.row_change.specs.Aggregates.{columnFits}
 use Rattle.nets.specs.declared.Pick.{Pick}
-use Rattle.nets.specs.Nets.{Table, Kind, acts, Net, Outcome, refused}
+use Rattle.nets.specs.Nets.{Table, Kind, acts, hasTemplate, isAggregate, Net, Outcome, refused}
 use Rattle.nets.specs.Tables.{tableAt, rowsOf, rowsFit, distinct}
 use Rattle.nets.specs.Sound.{sound}
-use Rattle.nets.specs.Scenes.{Scene, sceneOf, site}
-use Rattle.nets.specs.Steps.{insertFits, check12, check13, check14, check15, check16, check17, check18, check19, check20, tablesBy, netAfter, performed, Check, verdict, judge, checks, step}
+use Rattle.nets.specs.Scenes.{Scene, sceneOf, site, Parts, parts}
+use Rattle.nets.specs.Steps.{insertFits, check12, check13, check14, check15, check16, held, check17, check18, check19, check20, tablesBy, netAfter, performed, Check, verdict, judge, checks, step}
 use Rattle.nets.specs.Accounts.{netLeft, addedIn, takenIn, post, times, rowsAdded, rowsTaken, isDone, ifDone, postings, standing}
 use Rattle.nets.proofs.TableLaws.{sameKey, key-site, key-name}
 use Rattle.nets.proofs.SourceLaws.{source-fits}
@@ -29,12 +30,12 @@ Passed [] = Unit {0}
 Passed (k ∷ ks) = T (k .passes) × Passed ks
 
 -- what holds of every refusal, and of the outcome where all checks pass, holds of the judged outcome
-pub judged : (P : Outcome → Type 0) → ((n : ℕ) (vs : List ℕ) → P (refused n vs)) → (ks : List Check) (o : Outcome) → (Passed ks → P o) → P (judge ks o)
+pub judged : (P : Outcome → Type 0) → ((n : ℕ) (vs : List ℕ) → P (refused n vs)) → (ks : List Check) (o : Outcome) → (Passed ks → P o) → P (judge refused ks o)
 unfolding judge
 judged P r [] o h = h tt
 judged P r (k ∷ ks) o h = go (k .passes) (λ t. judged P r ks o (λ u. h (t, u)))
   where
-    go : (b : Bool) → (T b → P (judge ks o)) → P (verdict b (k .number) (k .values) (judge ks o))
+    go : (b : Bool) → (T b → P (judge refused ks o)) → P (verdict refused b (k .number) (k .values) (judge refused ks o))
     go true f = f tt
     go false f = r (k .number) (k .values)
 
@@ -46,9 +47,9 @@ pub record Pass (c : Scene) : Type 0 where
   pub thirteen : T (check13 c)
   pub fourteen : T (check14 c)
   pub fifteen : T (check15 c)
-  pub sixteen : T (check16 c)
-  pub seventeen : T (check17 c)
-  pub eighteen : T (check18 c)
+  pub sixteen : T (check16 (parts c))
+  pub seventeen : T (check17 (parts c) (held c))
+  pub eighteen : T (check18 (parts c))
   pub nineteen : T (check19 c)
   pub twenty : T (check20 c)
 
@@ -69,10 +70,24 @@ pass c h =
       twenty = h .1 .1 .1 .1 .1 .1 .1 .1 .1 .1 .0;
     }
 
--- check 16 asks that an insert fits
-pub insert-fits : (c : Scene) → T (check16 c) → T (insertFits (c .node .kind) c)
-unfolding check16
-insert-fits c h = search (and-l, and-r)
+-- a check asks something of some kinds alone
+pub given : (a b : Bool) → T a → T (not a || b) → T b
+given true b h k = k
+given false b h k = absurd h
+
+-- check 16 asks that an insert fits, that T is as long as the columns, and that an aggregate has its column
+module _ (p : Parts) (h : T (check16 p)) where
+  pub insert-fits : T (insertFits (p .node .kind) p)
+  unfolding check16
+  insert-fits = search (and-l, and-r)
+
+  pub long-fits : T (hasTemplate (p .node .kind)) → T (eqb (length (p .node .selector .template)) (length (p .source .columns)))
+  unfolding check16
+  long-fits k = given (hasTemplate (p .node .kind)) (eqb (length (p .node .selector .template)) (length (p .source .columns))) k (search and-l)
+
+  pub column-fits : T (isAggregate (p .node .kind)) → T (columnFits (p .node .function) (p .node .column) (p .source .columns))
+  unfolding check16
+  column-fits k = given (isAggregate (p .node .kind)) (columnFits (p .node .function) (p .node .column) (p .source .columns)) k (search and-r)
 
 -- ── postings at one site and name ──
 
@@ -151,7 +166,7 @@ module _ (net : Net) (p : Pick) (f : T (all rowsFit (net .tables))) (d : T (dist
       c = sceneOf net p
 
       m : Moved (site c) (c .node .name) (net .tables) (tablesBy (c .node .kind) c) (rowsAdded (c .node .kind) c) (rowsTaken (c .node .kind) c)
-      m = moved c f d (source-fits net p (h .ten)) (c .node .kind) (h .fourteen) (h .fifteen) (insert-fits c (h .sixteen))
+      m = moved c f d (source-fits net p (h .ten)) (c .node .kind) (h .fourteen) (h .fifteen) (insert-fits (parts c) (h .sixteen))
 
   pub stepped : Stepped net (sceneOf net p) (step net p)
   unfolding step

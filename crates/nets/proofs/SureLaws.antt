@@ -19,7 +19,7 @@ use Rattle.nets.specs.declared.Pick.{Pick}
 use Rattle.nets.specs.Nets.{Table, Kind, needsTable, hasTemplate, readsRelation, bindsRelation, Node, Entry, toRun, visiting, Thread, Net}
 use Rattle.nets.specs.Tables.{isAt, contentOf}
 use Rattle.nets.specs.Sound.{noNode, noThread, entryNode, columnsOk, rowsOk, tableOk, relationOk, bindingsOk, nodeOkAs, nodesOk, entryOk, stackOk, threadOk}
-use Rattle.nets.specs.Scenes.{Scene, sceneOf, top, below, vars, template, site, table, relation, source, hitRows, opens}
+use Rattle.nets.specs.Scenes.{Scene, sceneOf, top, below, vars, template, site, table, relation, source, parts, hitRows, opens}
 use Rattle.nets.specs.Steps.{isBound, known, readsOk, check12, check14, check16, holds, check17, roomBy, roomForRound, check20}
 use Rattle.nets.proofs.SourceLaws.{source-fits}
 use Rattle.nets.proofs.StepLaws.{Pass}
@@ -41,13 +41,13 @@ pub record Sure (k : Kind) (c : Scene) : Type 0 where
   pub sourceFit : T (relationFits (source c))
   pub sourceRange : T (all (λ x. all inRange x) (source c .rows))
   pub sourceColumns : T (not (readsRelation k || needsTable k) || columnsOk (source c .columns))
-  pub hitsFew : length (hitRows c) ≤ 16
+  pub hitsFew : length (hitRows (parts c)) ≤ 16
   -- the checks
   pub knownTuple : T (known (λ i. isBound (vars c) i || among i (formals (template c))) (c .node .selector .left ∷ c .node .selector .right ∷ c .node .tuple))
   pub held : T (not (readsRelation k) || isSome (relation c))
   pub long : T (not (hasTemplate k) || eqb (length (template c)) (length (source c .columns)))
   pub free : T (not (bindsRelation k) || not (any (holds (c .net .nodes) (c .node .bound)) (below (c .thread .stack))))
-  pub room : T (roomBy k c)
+  pub room : T (roomBy k (parts c) (length (c .net .tables)))
   pub roundRoom : T (not (opens c) || roomForRound c)
 
 -- ── the thread and its stack ──
@@ -117,7 +117,7 @@ source-facts false n o u p q f g = record { sRows = g .sRows; sColumns = or-chai
 -- ── the scene ──
 
 pub sure : (net : Net) (p : Pick) → Pass (sceneOf net p) → Sure (sceneOf net p .node .kind) (sceneOf net p)
-unfolding sceneOf check12 readsOk check14 check16 check17 check20 source relation table hitRows
+unfolding sceneOf check12 readsOk check14 check16 check17 check20 source relation table
 sure net p h =
     record {
       siteFine = search (and-l, threadFine);
@@ -153,7 +153,7 @@ sure net p h =
     twelve : T (check12 c)
     twelve = h .twelve
 
-    sixteen : T (check16 c)
+    sixteen : T (check16 (parts c))
     sixteen = h .sixteen
 
     twenty : T (check20 c)

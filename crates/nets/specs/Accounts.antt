@@ -13,7 +13,7 @@ use Rattle.row_change.specs.Changes.{changes, tupleFor}
 use Rattle.nets.specs.declared.Pick.{Pick}
 use Rattle.nets.specs.Nets.{acts, Kind, acting, other, insert, insertTable, delete, update, create, drop, Net, Outcome, refused, done}
 use Rattle.nets.specs.Tables.{tableAt, rowsOf, columnsOf}
-use Rattle.nets.specs.Scenes.{Scene, sceneOf, vars, template, site, table, source, ownDraft}
+use Rattle.nets.specs.Scenes.{Scene, sceneOf, vars, template, site, table, source, parts, ownDraft}
 use Rattle.nets.specs.Steps.{step}
 
 -- ── the run ──
@@ -75,7 +75,7 @@ changedRows c = filter (changes (vars c) (c .node .selector) (c .node .tuple) (c
 
 -- the rows that a done step adds, with all values as they were before it
 unfoldable pub rowsAdded : Kind → Scene → List Row
-rowsAdded (acting insert) c = valuesIn (ownDraft c) ∷ []
+rowsAdded (acting insert) c = valuesIn (ownDraft (parts c)) ∷ []
 rowsAdded (acting insertTable) c = source c .rows
 rowsAdded (acting delete) c = []
 rowsAdded (acting update) c = map (tupleFor (vars c) (template c) (c .node .tuple)) (changedRows c)

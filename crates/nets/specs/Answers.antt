@@ -12,7 +12,8 @@ use Rattle.nets.specs.declared.Answer.the-variants.{Done, Refused}
 use Rattle.nets.specs.declared.Net.{Net}
 use Rattle.nets.specs.declared.Stepped.{Stepped}
 use Rattle.nets.specs.Nets.{Outcome, refused, done}
-use Rattle.nets.specs.Steps.{step}
+use Rattle.nets.specs.Scenes.{Parts}
+use Rattle.nets.specs.Steps.{addedBy, takenBy, judge, partChecks, step}
 use Rattle.nets.specs.Accounts.{netLeft}
 use Rattle.nets.specs.View.{view}
 
@@ -24,6 +25,14 @@ pub data Said : Type 0 where
 abbrev pub answerOf : Outcome → Said
 answerOf (refused n vs) = refusing n vs
 answerOf (done a t net) = doing a t
+
+abbrev pub isDoing : Said → Bool
+isDoing (refusing n vs) = false
+isDoing (doing a t) = true
+
+-- what a step that is no loop answers, from its parts, whether its table variable is held, and the number of tables
+unfoldable pub stepSaid : Parts → Bool → ℕ → Said
+stepSaid p isHeld tables = judge refusing (partChecks p isHeld tables) (doing (addedBy (p .node .kind) p) (takenBy (p .node .kind) p))
 
 -- the counts in an answer; a refused pick reports none
 abbrev pub addedSaid : Said → ℕ

@@ -95,23 +95,33 @@ table c = tableAt (site c) (c .node .name) (c .net .tables)
 unfoldable pub relation : Scene → Option Relation
 relation c = getD (c .thread .bindings .relations) (c .node .read) none
 
--- ── rows that the step speaks of ──
-
 -- the source of rows: the table variable read, or the table
 unfoldable pub source : Scene → Relation
 source c = cond (readsRelation (c .node .kind)) (orElse noRelation (relation c)) (contentOf (table c))
 
+-- ── the parts that a step reads ──
+
+-- a step that is no loop goes by its node, the content of its table, the source of its rows, and the thread's variables
+pub record Parts : Type 0 where
+  pub node : Node
+  pub content : Relation
+  pub source : Relation
+  pub vars : Vars
+
+abbrev pub parts : Scene → Parts
+parts c = record { node = c .node; content = contentOf (table c); source = source c; vars = vars c }
+
 -- the rows that match T and satisfy the predicate
-unfoldable pub hitRows : Scene → List Row
-hitRows c = selected (vars c) (c .node .selector) (source c .rows)
+abbrev pub hitRows : Parts → List Row
+hitRows p = selected (p .vars) (p .node .selector) (p .source .rows)
 
 -- what t gives with no row
-unfoldable pub ownDraft : Scene → Draft
-ownDraft c = draft (vars c) (c .node .tuple)
+abbrev pub ownDraft : Parts → Draft
+ownDraft p = draft (p .vars) (p .node .tuple)
 
 -- the result of an aggregate
-unfoldable pub result : Scene → Got
-result c = aggregated (c .node .function) (c .node .column) (hitRows c)
+abbrev pub result : Parts → Got
+result p = aggregated (p .node .function) (p .node .column) (hitRows p)
 
 -- ── loops ──
 

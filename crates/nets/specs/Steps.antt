@@ -9,18 +9,20 @@ use Rattle.values.specs.declared.Got.the-variants.{Nothing}
 use Rattle.values.specs.declared.Operand.{Operand}
 use Rattle.values.specs.Lists.{all, any, filter, count, isSome, among}
 use Rattle.values.specs.Operands.{Vars, isGot, valuesIn, reads, formals, bind}
-use Rattle.rows.specs.Relations.{Relation}
+use Rattle.rows.specs.Relations.{Row, Relation}
 use Rattle.rows.specs.Matching.{matches1, rowVars, hits, unselected}
 use Rattle.rows.specs.Fit.{fits, sameColumns}
 use Rattle.row_change.specs.Changes.{changes, updated, selection}
 use Rattle.row_change.specs.Aggregates.{columnFits}
 use Rattle.nets.specs.declared.Pick.{Pick}
-use Rattle.nets.specs.Nets.{Table, Kind, acting, other, insert, insertTable, delete, update, create, drop, select, selectRelation, aggregate, sequential, parallel, badKind, hasPlace, needsTable, isCreate, hasTemplate, readsRelation, bindsRelation, isAggregate, isParallel, Node, Entry, toRun, visiting, Bindings, Thread, Net, Outcome, refused, done}
-use Rattle.nets.specs.Tables.{rowsOf, columnsOf, change, remove}
+use Rattle.nets.specs.Nets.{Table, Kind, acting, other, insert, insertTable, delete, update, create, drop, hasPlace, needsTable, isCreate, hasTemplate, readsRelation, bindsRelation, isAggregate, isParallel, Node, Entry, toRun, visiting, Bindings, Thread, Net, Outcome, refused, done}
+use Rattle.nets.specs.Tables.{change, remove}
 use Rattle.nets.specs.Sound.{sound, noNode, entryNode}
-use Rattle.nets.specs.Scenes.{Scene, below, sceneOf, vars, template, siteOfL, site, table, source, hitRows, ownDraft, result, visit, rowAt, pickReady, opens}
+use Rattle.nets.specs.Scenes.{Scene, below, sceneOf, vars, template, siteOfL, site, table, Parts, parts, hitRows, ownDraft, result, visit, rowAt, pickReady, opens}
 
 -- ── the checks 12..20 ──
+
+-- 16, 17, 18 and the room of 20 ask the parts that the step reads
 
 abbrev pub isBound : Vars → ℕ → Bool
 isBound e i = isGot (getD e i Nothing)
@@ -52,114 +54,132 @@ unfoldable pub check15 : Scene → Bool
 check15 c = not (isCreate (c .node .kind)) || not (isSome (table c))
 
 -- T is as long as the columns
-abbrev pub templateFits : Kind → Scene → Bool
-templateFits k c = not (hasTemplate k) || eqb (length (template c)) (length (source c .columns))
+abbrev pub templateFits : Kind → Parts → Bool
+templateFits k p = not (hasTemplate k) || eqb (length (p .node .selector .template)) (length (p .source .columns))
 
 -- the row or table to insert fits
-abbrev pub insertFits : Kind → Scene → Bool
-insertFits (acting insert) c = fits (columnsOf (table c)) (ownDraft c)
-insertFits (acting insertTable) c = sameColumns (columnsOf (table c)) (source c .columns)
-insertFits (acting delete) c = true
-insertFits (acting update) c = true
-insertFits (acting create) c = true
-insertFits (acting drop) c = true
-insertFits (other o) c = true
+abbrev pub insertFits : Kind → Parts → Bool
+insertFits (acting insert) p = fits (p .content .columns) (ownDraft p)
+insertFits (acting insertTable) p = sameColumns (p .content .columns) (p .source .columns)
+insertFits (acting delete) p = true
+insertFits (acting update) p = true
+insertFits (acting create) p = true
+insertFits (acting drop) p = true
+insertFits (other o) p = true
 
 -- functions 2..4 name a column that is there and Int
-abbrev pub functionFits : Kind → Scene → Bool
-functionFits k c = not (isAggregate k) || columnFits (c .node .function) (c .node .column) (source c .columns)
+abbrev pub functionFits : Kind → Parts → Bool
+functionFits k p = not (isAggregate k) || columnFits (p .node .function) (p .node .column) (p .source .columns)
 
-unfoldable pub check16 : Scene → Bool
-check16 c = templateFits (c .node .kind) c && insertFits (c .node .kind) c && functionFits (c .node .kind) c
+unfoldable pub check16 : Parts → Bool
+check16 p = templateFits (p .node .kind) p && insertFits (p .node .kind) p && functionFits (p .node .kind) p
 
 -- a loop entry holds the table variable
 abbrev pub holds : List Node → ℕ → Entry → Bool
 holds ds v (toRun i) = false
 holds ds v (visiting i l) = eqb v (getD ds i noNode .read)
 
-unfoldable pub check17 : Scene → Bool
-check17 c = not (bindsRelation (c .node .kind)) || not (any (holds (c .net .nodes) (c .node .bound)) (c .thread .stack))
+-- one holds the table variable that the step binds
+abbrev pub held : Scene → Bool
+held c = any (holds (c .net .nodes) (c .node .bound)) (c .thread .stack)
+
+-- a table variable to be bound is not held
+unfoldable pub check17 : Parts → Bool → Bool
+check17 p isHeld = not (bindsRelation (p .node .kind)) || not isHeld
 
 -- there is a result, and T' matches it
-unfoldable pub check18 : Scene → Bool
-check18 c = not (isAggregate (c .node .kind)) || (isGot (result c) && matches1 (vars c) (c .node .result) (result c))
+unfoldable pub check18 : Parts → Bool
+check18 p = not (isAggregate (p .node .kind)) || (isGot (result p) && matches1 (p .vars) (p .node .result) (result p))
 
 unfoldable pub check19 : Scene → Bool
 check19 c = not (opens c) || pickReady c
 
--- 16 rows in a table, 8 tables
-abbrev pub roomBy : Kind → Scene → Bool
-roomBy (acting insert) c = ltb (length (rowsOf (table c))) 16
-roomBy (acting insertTable) c = leb (length (rowsOf (table c)) + length (source c .rows)) 16
-roomBy (acting delete) c = true
-roomBy (acting update) c = true
-roomBy (acting create) c = ltb (length (c .net .tables)) 8
-roomBy (acting drop) c = true
-roomBy (other o) c = true
+-- 16 rows in a table, 8 tables; with the number of tables before the step
+abbrev pub roomBy : Kind → Parts → ℕ → Bool
+roomBy (acting insert) p tables = ltb (length (p .content .rows)) 16
+roomBy (acting insertTable) p tables = leb (length (p .content .rows) + length (p .source .rows)) 16
+roomBy (acting delete) p tables = true
+roomBy (acting update) p tables = true
+roomBy (acting create) p tables = ltb tables 8
+roomBy (acting drop) p tables = true
+roomBy (other o) p tables = true
 
 -- a round needs a stack entry, or a thread
 unfoldable pub roomForRound : Scene → Bool
 roomForRound c = cond (isParallel (c .node .kind)) (ltb (length (c .net .threads)) 8) (ltb (length (c .thread .stack)) 8)
 
 unfoldable pub check20 : Scene → Bool
-check20 c = roomBy (c .node .kind) c && (not (opens c) || roomForRound c)
+check20 c = roomBy (c .node .kind) (parts c) (length (c .net .tables)) && (not (opens c) || roomForRound c)
 
 -- ── what a done step does to the tables ──
 
+-- what it makes of the rows of its table, where that table stays
+unfoldable pub rowsBy : Kind → Parts → List Row → List Row
+rowsBy (acting insert) p rs = rs ++ (valuesIn (ownDraft p) ∷ [])
+rowsBy (acting insertTable) p rs = rs ++ p .source .rows
+rowsBy (acting delete) p rs = unselected (p .vars) (p .node .selector) rs
+rowsBy (acting update) p rs = updated (p .vars) (p .node .selector) (p .node .tuple) (p .content .columns) rs
+rowsBy (acting create) p rs = rs
+rowsBy (acting drop) p rs = rs
+rowsBy (other o) p rs = rs
+
+-- the tables with those rows
+abbrev pub withRowsBy : Kind → Scene → List Table
+withRowsBy k c = change (site c) (c .node .name) (rowsBy k (parts c)) (c .net .tables)
+
 unfoldable pub tablesBy : Kind → Scene → List Table
-tablesBy (acting insert) c = change (site c) (c .node .name) (λ rs. rs ++ (valuesIn (ownDraft c) ∷ [])) (c .net .tables)
-tablesBy (acting insertTable) c = change (site c) (c .node .name) (λ rs. rs ++ source c .rows) (c .net .tables)
-tablesBy (acting delete) c = change (site c) (c .node .name) (unselected (vars c) (c .node .selector)) (c .net .tables)
-tablesBy (acting update) c = change (site c) (c .node .name) (updated (vars c) (c .node .selector) (c .node .tuple) (columnsOf (table c))) (c .net .tables)
+tablesBy (acting insert) c = withRowsBy (acting insert) c
+tablesBy (acting insertTable) c = withRowsBy (acting insertTable) c
+tablesBy (acting delete) c = withRowsBy (acting delete) c
+tablesBy (acting update) c = withRowsBy (acting update) c
 tablesBy (acting create) c = c .net .tables ++ (record { site = site c; name = c .node .name; content = record { columns = c .node .columns; rows = [] } } ∷ [])
 tablesBy (acting drop) c = remove (site c) (c .node .name) (c .net .tables)
 tablesBy (other o) c = c .net .tables
 
 -- how many rows an update changes
-abbrev pub changeCount : Scene → ℕ
-changeCount c = count (changes (vars c) (c .node .selector) (c .node .tuple) (columnsOf (table c))) (rowsOf (table c))
+abbrev pub changeCount : Parts → ℕ
+changeCount p = count (changes (p .vars) (p .node .selector) (p .node .tuple) (p .content .columns)) (p .content .rows)
 
 -- the counts answered: rows added, rows taken
-unfoldable pub addedBy : Kind → Scene → ℕ
-addedBy (acting insert) c = 1
-addedBy (acting insertTable) c = length (source c .rows)
-addedBy (acting delete) c = 0
-addedBy (acting update) c = changeCount c
-addedBy (acting create) c = 0
-addedBy (acting drop) c = 0
-addedBy (other o) c = 0
+unfoldable pub addedBy : Kind → Parts → ℕ
+addedBy (acting insert) p = 1
+addedBy (acting insertTable) p = length (p .source .rows)
+addedBy (acting delete) p = 0
+addedBy (acting update) p = changeCount p
+addedBy (acting create) p = 0
+addedBy (acting drop) p = 0
+addedBy (other o) p = 0
 
-unfoldable pub takenBy : Kind → Scene → ℕ
-takenBy (acting insert) c = 0
-takenBy (acting insertTable) c = 0
-takenBy (acting delete) c = count (hits (vars c) (c .node .selector)) (rowsOf (table c))
-takenBy (acting update) c = changeCount c
-takenBy (acting create) c = 0
-takenBy (acting drop) c = length (rowsOf (table c))
-takenBy (other o) c = 0
+unfoldable pub takenBy : Kind → Parts → ℕ
+takenBy (acting insert) p = 0
+takenBy (acting insertTable) p = 0
+takenBy (acting delete) p = count (hits (p .vars) (p .node .selector)) (p .content .rows)
+takenBy (acting update) p = changeCount p
+takenBy (acting create) p = 0
+takenBy (acting drop) p = length (p .content .rows)
+takenBy (other o) p = 0
 
 -- ── what it does to the bindings ──
 
-abbrev pub bindRelation : Scene → Relation → Bindings
-bindRelation c r = record { vars = vars c; relations = set (c .thread .bindings .relations) (c .node .bound) (some r) }
+-- what a table variable is bound to: a delete's rows, a select's result
+unfoldable pub boundBy : Kind → Parts → Relation
+boundBy (acting a) p = record { columns = p .source .columns; rows = hitRows p }
+boundBy (other o) p = selection (p .vars) (p .node .selector) (p .node .tuple) (p .source)
+
+-- the variables: an aggregate binds the formal of T'
+unfoldable pub varsBy : Kind → Parts → Vars
+varsBy k p = cond (isAggregate k) (bind (p .node .result ∷ []) (result p ∷ []) (p .vars)) (p .vars)
 
 abbrev pub withVars : Bindings → Vars → Bindings
 withVars b e = record { vars = e; relations = b .relations }
 
--- a select's result, a delete's rows, the formal of T'; variables keep their last binding
+-- variables keep their last binding
 unfoldable pub bindingsBy : Kind → Scene → Bindings
-bindingsBy (acting insert) c = c .thread .bindings
-bindingsBy (acting insertTable) c = c .thread .bindings
-bindingsBy (acting delete) c = bindRelation c (record { columns = source c .columns; rows = hitRows c })
-bindingsBy (other select) c = bindRelation c (selection (vars c) (c .node .selector) (c .node .tuple) (source c))
-bindingsBy (other selectRelation) c = bindRelation c (selection (vars c) (c .node .selector) (c .node .tuple) (source c))
-bindingsBy (acting update) c = c .thread .bindings
-bindingsBy (other aggregate) c = withVars (c .thread .bindings) (bind (c .node .result ∷ []) (result c ∷ []) (vars c))
-bindingsBy (acting create) c = c .thread .bindings
-bindingsBy (acting drop) c = c .thread .bindings
-bindingsBy (other sequential) c = c .thread .bindings
-bindingsBy (other parallel) c = c .thread .bindings
-bindingsBy (other badKind) c = c .thread .bindings
+bindingsBy k c =
+    record {
+      vars = varsBy k (parts c);
+      relations = cond (bindsRelation k) (set (c .thread .bindings .relations) (c .node .bound) (some (boundBy k (parts c)))) (c .thread .bindings .relations);
+    }
 
 -- ── what it does to the threads ──
 
@@ -218,7 +238,7 @@ unfoldable pub netAfter : Scene → Net
 netAfter c = record { aliases = c .net .aliases; tables = tablesBy (c .node .kind) c; nodes = c .net .nodes; threads = threadsAfter c }
 
 unfoldable pub performed : Scene → Outcome
-performed c = done (addedBy (c .node .kind) c) (takenBy (c .node .kind) c) (netAfter c)
+performed c = done (addedBy (c .node .kind) (parts c)) (takenBy (c .node .kind) (parts c)) (netAfter c)
 
 -- ── the step ──
 
@@ -231,14 +251,14 @@ pub record Check : Type 0 where
 abbrev pub check : ℕ → Bool → Check
 check n b = record { number = n; values = []; passes = b }
 
--- the first check that fails gives its number and values
-abbrev pub verdict : Bool → ℕ → List ℕ → Outcome → Outcome
-verdict true n vs o = o
-verdict false n vs o = refused n vs
+-- the first check that fails refuses with its number and values; `r` makes the refusal
+abbrev pub verdict : {A : Type 0} → (ℕ → List ℕ → A) → Bool → ℕ → List ℕ → A → A
+verdict r true n vs o = o
+verdict r false n vs o = r n vs
 
-unfoldable pub judge : List Check → Outcome → Outcome
-judge [] o = o
-judge (k ∷ ks) o = verdict (k .passes) (k .number) (k .values) (judge ks o)
+unfoldable pub judge : {A : Type 0} → (ℕ → List ℕ → A) → List Check → A → A
+judge r [] o = o
+judge r (k ∷ ks) o = verdict r (k .passes) (k .number) (k .values) (judge r ks o)
 
 unfoldable pub checks : Scene → List Check
 checks c =
@@ -248,12 +268,21 @@ checks c =
     ∷ check 13 (check13 c)
     ∷ check 14 (check14 c)
     ∷ check 15 (check15 c)
-    ∷ check 16 (check16 c)
-    ∷ check 17 (check17 c)
-    ∷ check 18 (check18 c)
+    ∷ check 16 (check16 (parts c))
+    ∷ check 17 (check17 (parts c) (held c))
+    ∷ check 18 (check18 (parts c))
     ∷ check 19 (check19 c)
     ∷ check 20 (check20 c)
     ∷ []
 
 unfoldable pub step : Net → Pick → Outcome
-step net p = judge (checks (sceneOf net p)) (performed (sceneOf net p))
+step net p = judge refused (checks (sceneOf net p)) (performed (sceneOf net p))
+
+-- checks 16, 17, 18 and 20 of a step that is no loop: they ask its parts, whether its table variable is held, and the number of tables
+abbrev pub partChecks : Parts → Bool → ℕ → List Check
+partChecks p isHeld tables =
+    check 16 (check16 p)
+    ∷ check 17 (check17 p isHeld)
+    ∷ check 18 (check18 p)
+    ∷ check 20 (roomBy (p .node .kind) p tables)
+    ∷ []

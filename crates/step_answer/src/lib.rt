@@ -13,9 +13,8 @@ use step_effect::saying::takes;
 use values::Slot;
 ghost use mathlib.Core.Path.{_≡_};
 ghost use lib.Dec.{T};
-ghost use Rattle.nets.specs.Answers.{saidOf};
+ghost use Rattle.nets.specs.Answers.{stepSaid, saidOf};
 ghost use Rattle.nets.specs.View.{kindAt};
-ghost use Rattle.step_effect.specs.Effects.{saidBy};
 ghost use Rattle.step_effect.specs.Contracts.{partsOf, ActReady, JudgedIs, isStep};
 
 pub fn says(
@@ -28,7 +27,7 @@ pub fn says(
     tables: usize,
 ) -> Answer
     requires { ⌜ ActReady node content source vars × T (isStep (kindAt (node .kind))) × JudgedIs node source vars j ⌝ }
-    ensures { λ r. ⌜ saidOf r ≡ saidBy (kindAt (node .kind)) (partsOf node content source vars held tables) ⌝ }
+    ensures { λ r. ⌜ saidOf r ≡ stepSaid (partsOf node content source vars) held tables ⌝ }
 {
     let kind = node.kind;
     let selector = node.selector;

@@ -28,8 +28,8 @@ ghost use Rattle.nets.specs.Nets.{isLoop};
 ghost use Rattle.nets.specs.Scenes.{Scene};
 ghost use Rattle.nets.specs.Steps.{check13, check14, check15};
 ghost use Rattle.nets.specs.View.{kindAt};
-ghost use Rattle.nets.specs.Answers.{saidOf};
-ghost use Rattle.step_effect.specs.Contracts.{isStep, isDoing, JudgedIs, Doing};
+ghost use Rattle.nets.specs.Answers.{isDoing, saidOf};
+ghost use Rattle.step_effect.specs.Contracts.{isStep, JudgedIs, Doing};
 ghost use Rattle.step_meets.specs.Situations.{situation, Rest, whole, Handed};
 ghost use Rattle.step_meets.specs.Contracts.{Meets, Fine, Known, Flagged, SourceIs, Sourced, DecidedAt, DecidedIs};
 

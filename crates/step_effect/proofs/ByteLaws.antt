@@ -6,48 +6,17 @@ use mathlib.Core.Logic.{_⊎_, inl, inr}
 use native.Mathlib.Omega.{arith}
 use borrow.Author.Tests.{eqb-true, eqb-false, ne-eqb, ltb-true, ltb-false}
 use lib.Dec.{T, eqb, ltb}
-use Rattle.values.specs.Operands.{Vars}
-use Rattle.rows.specs.declared.Relation as Code
-use Rattle.row_change.specs.Contracts.{Holds}
-use Rattle.nets.specs.Nets.{Kind, acting, other, select, selectRelation, aggregate, sequential, parallel, badKind, isAggregate, isSelect, readsRelation, bindsRelation}
+use Rattle.nets.specs.Nets.{isAggregate, isSelect, readsRelation, bindsRelation}
+use Rattle.nets.specs.Scenes.{Parts}
+use Rattle.nets.specs.Steps.{varsBy}
 use Rattle.nets.specs.View.{kindAt}
-use Rattle.nets.specs.Answers.{Said}
-use Rattle.step_effect.specs.Effects.{Parts, saidBy, contentBy, boundBy, varsBy}
-use Rattle.step_effect.specs.Contracts.{isStep, isDoing, putsRows}
+use Rattle.step_effect.specs.Contracts.{isStep, putsRows}
 use Rattle.nets.proofs.KindLaws.{in-range, at-one}
-
--- ── one kind for another ──
-
-module _ (n : ℕ) {b : ℕ} (same : b ≡ n) (p : Parts) where
-  -- as for byte `n`, so for a byte equal to it
-  pub said-at : {s : Said} → s ≡ saidBy (kindAt n) p → s ≡ saidBy (kindAt b) p
-  said-at {s} h = subst (λ (i : ℕ). s ≡ saidBy (kindAt i) p) (sym same) h
-
-  pub content-at : {o : Code.Relation} → Holds o (contentBy (kindAt n) p .columns) (contentBy (kindAt n) p .rows) → Holds o (contentBy (kindAt b) p .columns) (contentBy (kindAt b) p .rows)
-  content-at {o} h = subst (λ (i : ℕ). Holds o (contentBy (kindAt i) p .columns) (contentBy (kindAt i) p .rows)) (sym same) h
-
-  pub bound-at : {o : Code.Relation} → Holds o (boundBy (kindAt n) p .columns) (boundBy (kindAt n) p .rows) → Holds o (boundBy (kindAt b) p .columns) (boundBy (kindAt b) p .rows)
-  bound-at {o} h = subst (λ (i : ℕ). Holds o (boundBy (kindAt i) p .columns) (boundBy (kindAt i) p .rows)) (sym same) h
-
-  pub vars-at : {v : Vars} → v ≡ varsBy (kindAt n) p → v ≡ varsBy (kindAt b) p
-  vars-at {v} h = subst (λ (i : ℕ). v ≡ varsBy (kindAt i) p) (sym same) h
-
-  pub doing-at : T (isDoing (saidBy (kindAt b) p)) → T (isDoing (saidBy (kindAt n) p))
-  doing-at h = subst (λ (i : ℕ). T (isDoing (saidBy (kindAt i) p))) same h
 
 -- only an aggregate binds a variable
 pub other-vars : (b : ℕ) → (b ≡ 22 → ⊥) → (p : Parts) → p .vars ≡ varsBy (kindAt b) p
-unfolding kindAt
-other-vars b no-aggregate p = go (kindAt b) (sym (at-one isAggregate 22 tt tt b) ∙ ne-eqb b 22 no-aggregate)
-  where
-    go : (k : Kind) → isAggregate k ≡ false → p .vars ≡ varsBy k p
-    go (acting a) e = refl
-    go (other select) e = refl
-    go (other selectRelation) e = refl
-    go (other aggregate) e = cc
-    go (other sequential) e = refl
-    go (other parallel) e = refl
-    go (other badKind) e = refl
+unfolding kindAt varsBy
+other-vars b no-aggregate p = rw (← at-one isAggregate 22 tt tt b, ne-eqb b 22 no-aggregate)
 
 -- ── which byte it is ──
 
@@ -115,21 +84,3 @@ binds-byte b h no-select = go (ltb b 18) refl (ltb b 19) refl (ltb b 21) refl
         let l = ltb-false b 19 f in let m = ltb-true b 21 g in
         absurd (subst T (in-range isSelect true 19 2 tt b (omega arith) (omega arith) ∙ no-select) tt)
     go false e false f false g = let l = ltb-false b 21 g in never (in-range bindsRelation false 21 7 tt b (omega arith) (omega arith)) h
-
--- both selects come to the same
-module _ {b : ℕ} (p : Parts) where
-  pub select-said-at : (b ≡ 19) ⊎ (b ≡ 20) → {s : Said} → s ≡ saidBy (other select) p → s ≡ saidBy (kindAt b) p
-  unfolding kindAt
-  select-said-at (inl e) h = said-at 19 e p h
-  select-said-at (inr e) h = said-at 20 e p h
-
-  pub select-doing : (b ≡ 19) ⊎ (b ≡ 20) → T (isDoing (saidBy (kindAt b) p)) → T (isDoing (saidBy (other select) p))
-  unfolding kindAt
-  select-doing (inl e) h = doing-at 19 e p h
-  select-doing (inr e) h = doing-at 20 e p h
-
-  pub select-bound-at : (b ≡ 19) ⊎ (b ≡ 20) → {o : Code.Relation} → Holds o (boundBy (other select) p .columns) (boundBy (other select) p .rows) →
-      Holds o (boundBy (kindAt b) p .columns) (boundBy (kindAt b) p .rows)
-  unfolding kindAt
-  select-bound-at (inl e) h = bound-at 19 e p h
-  select-bound-at (inr e) h = bound-at 20 e p h

@@ -3,15 +3,16 @@ use Prim.Native.Nat.{ℕ, _+_, _<_, _≤_}
 use mathlib.Core.Path.{_≡_, refl, ap, ap₂, sym, _∙_, subst}
 use mathlib.Core.Bool.{Bool, true, false, not, _&&_}
 use mathlib.Core.List.{List, [], _∷_, _++_}
-use mathlib.Core.Logic.{inl}
-use borrow.Author.Tests.{ltb-true, leb-true, eqb-true}
-use lib.Dec.{T, eqb, ltb, leb}
+use mathlib.Core.Logic.{_⊎_, inl, inr}
+use native.Mathlib.Omega.{arith}
+use borrow.Author.Tests.{eqb-true}
+use lib.Dec.{T, eqb, ltb, leb, ltb→lt, leb→le}
 use lib.ListN.{length}
 use Rattle.values.specs.declared.Got.{Got}
 use Rattle.values.specs.declared.Slot.{Slot}
 use Rattle.values.specs.Lists.{all, count}
 use Rattle.values.specs.Operands.{varsOf, isGot, valuesIn, formalOf, bind, bindTo}
-use Rattle.values.proofs.Bools.{T-of, and-l, and-r}
+use Rattle.values.proofs.Bools.{T-of, and-l, and-r, is-true}
 use Rattle.values.proofs.Firsts.{length-firsts}
 use Rattle.rows.specs.declared.Row as CodeRow
 use Rattle.rows.specs.declared.Field.{Field}
@@ -19,22 +20,25 @@ use Rattle.rows.specs.declared.Operands.{Operands}
 use Rattle.rows.specs.declared.Draft.{Draft}
 use Rattle.rows.specs.declared.Relation as Code
 use Rattle.rows.specs.Relations.{Relation}
-use Rattle.rows.specs.Matching.{matches1}
+use Rattle.rows.specs.Matching.{matches1, unselected}
 use Rattle.rows.specs.Fit.{draft, fits, sameColumns}
-use Rattle.rows.specs.View.{noField, noRow, noSlot, valuesOf, columnsOf, relationOf, operandsOf, draftOf, Shaped}
+use Rattle.rows.specs.View.{noField, noRow, noSlot, valuesOf, columnsOf, relationOf, operandsOf, selectorOf, draftOf, Shaped}
 use Rattle.rows.proofs.FitLaws.{same-columns}
+use Rattle.row_change.specs.Changes.{changes, updated}
 use Rattle.row_change.specs.Aggregates.{columnFits}
 use Rattle.row_change.specs.Contracts.{Holds, Complete, marks, sift}
 use Rattle.row_change.proofs.Prepared.{fits-long, fits-got, row-given}
 use Rattle.row_change.proofs.SweepLaws.{sift-marked, sift-others}
 use Rattle.nets.specs.declared.Answer.{Answer}
 use Rattle.nets.specs.declared.Node.{Node}
-use Rattle.nets.specs.Nets.{acting, other, insert, insertTable, delete, update, select, aggregate, isSelect}
-use Rattle.nets.specs.Answers.{Said, doing, saidOf}
-use Rattle.nets.specs.View.{kindAt, nodeOf}
+use Rattle.nets.specs.Nets.{isSelect, hasTemplate}
+use Rattle.nets.specs.Steps.{rowsBy, boundBy, varsBy}
+use Rattle.nets.specs.Answers.{Said, doing, stepSaid, saidOf}
+use Rattle.nets.specs.View.{kindAt}
+use Rattle.nets.proofs.StepLaws.{insert-fits, long-fits, column-fits}
 use Rattle.step_effect.specs.declared.Judged.{Judged}
-use Rattle.step_effect.specs.Effects.{Parts, passing, saidBy, contentBy, boundBy, varsBy}
-use Rattle.step_effect.specs.Contracts.{isDoing, partsOf, Long, hitIn, JudgedIs}
+use Rattle.step_effect.specs.Contracts.{partsOf, Long, hitIn, Doing, JudgedIs}
+use Rattle.step_effect.proofs.AnswerForms.{passing, insert-form, append-form, delete-form, select-form, select-relation-form, update-form, aggregate-form, drop-form}
 
 -- ── lengths and counts ──
 
@@ -54,81 +58,74 @@ long-counts t r = ap₂ eqb (length-firsts (λ (f : Field). f .operand) noField 
 is-long : (t : Operands) (r : Code.Relation) → longFor t r ≡ true → t .count ≡ r .columns
 is-long t r e = eqb-true (t .count) (r .columns) (sym (long-counts t r) ∙ e)
 
--- ── checks ──
-
 passing-then : (t : Bool) (n : ℕ) {s s′ : Said} → (t ≡ true → s ≡ s′) → passing t n s ≡ passing t n s′
 passing-then true n h = h refl
 passing-then false n h = refl
 
-passed : (t : Bool) (n : ℕ) (s : Said) → T (isDoing (passing t n s)) → (t ≡ true) × T (isDoing s)
-passed true n s h = (refl, h)
-passed false n s h = absurd h
-
-of-T : (t : Bool) → T t → t ≡ true
-of-T true h = refl
-of-T false h = absurd h
-
 -- ── insert ──
 
 -- `g` is what t gives
-module _ (d : Node) (r : Code.Relation) (vars : List Slot) (g : Draft) (given : draftOf g ≡ draft (varsOf vars) (operandsOf (d .tuple))) where
+module _ (d : Node) (r q : Code.Relation) (vars : List Slot) (g : Draft) (given : draftOf g ≡ draft (varsOf vars) (operandsOf (d .tuple))) (k : d .kind ≡ 16) where
   pub insert-said : {t : Bool} → t ≡ fits (columnsOf (r .columns) (r .kinds)) (draftOf g) → (a b : Answer) → saidOf a ≡ passing (ltb (r .count) 16) 20 (doing 1 0) →
-      saidOf b ≡ passing t 16 (saidOf a) → saidOf b ≡ saidBy (acting insert) (partsOf d r r vars false 0)
-  insert-said fit a b ea eb =
+      saidOf b ≡ passing t 16 (saidOf a) → (held : Bool) (tables : ℕ) → saidOf b ≡ stepSaid (partsOf d r q vars) held tables
+  unfolding kindAt
+  insert-said fit a b ea eb held tables =
       eb ∙ ap₂ (λ (x : Bool) (s : Said). passing x 16 s) (fit ∙ ap (fits (columnsOf (r .columns) (r .kinds))) given) (ea ∙ ap (λ (n : ℕ). passing (ltb n 16) 20 (doing 1 0)) (sym (rows-count r)))
+      ∙ sym (insert-form (partsOf d r q vars) held tables (ap kindAt k))
 
-module _ (d : Node) (r q : Code.Relation) (vars : List Slot) (doing-it : T (isDoing (saidBy (acting insert) (partsOf d r q vars false 0)))) where
-  insert-passed : (fits (columnsOf (r .columns) (r .kinds)) (draft (varsOf vars) (operandsOf (d .tuple))) ≡ true) × (ltb (length (relationOf r .rows)) 16 ≡ true)
-  insert-passed =
-      let x = passed (fits (columnsOf (r .columns) (r .kinds)) (draft (varsOf vars) (operandsOf (d .tuple)))) 16 (passing (ltb (length (relationOf r .rows)) 16) 20 (doing 1 0)) doing-it in
-      (x .0, passed (ltb (length (relationOf r .rows)) 16) 20 (doing 1 0) (x .1) .0)
-
-  pub insert-room : r .count < 16
-  insert-room = subst (λ (n : ℕ). n < 16) (rows-count r) (ltb-true (length (relationOf r .rows)) 16 (insert-passed .1))
-
-  pub insert-content : (g : Draft) → draftOf g ≡ draft (varsOf vars) (operandsOf (d .tuple)) → (row : CodeRow.Row) →
-      (T (all isGot (draftOf g)) → valuesOf (g .count) row ≡ valuesIn (draftOf g)) →
+  pub insert-content : Doing d r q vars → (row : CodeRow.Row) → (T (all isGot (draftOf g)) → valuesOf (g .count) row ≡ valuesIn (draftOf g)) →
       {o : Code.Relation} → Holds o (relationOf r .columns) (relationOf r .rows ++ (valuesOf (r .columns) row ∷ [])) →
-      Holds o (contentBy (acting insert) (partsOf d r q vars false 0) .columns) (contentBy (acting insert) (partsOf d r q vars false 0) .rows)
-  insert-content g given row made put = rw (← row-given g row given long (fits-got (relationOf r .columns) _ fits′) made) put
+      Holds o (relationOf r .columns) (rowsBy (kindAt (d .kind)) (partsOf d r q vars) (relationOf r .rows))
+  unfolding kindAt rowsBy
+  insert-content does row made put = rw k (rw (← row-given g row given long (fits-got (relationOf r .columns) _ fits′) made) put)
     where
       fits′ : T (fits (relationOf r .columns) (draft (varsOf vars) (operandsOf (d .tuple))))
-      fits′ = T-of _ (insert-passed .0)
+      fits′ = rw k at (insert-fits (partsOf d r q vars) (does .fits))
 
       long : g .count ≡ r .columns
       long =
           sym (length-firsts (λ (s : Slot). s .held) noSlot (g .count) (g .slots)) ∙ ap length given
           ∙ sym (fits-long (relationOf r .columns) (draft (varsOf vars) (operandsOf (d .tuple))) fits′) ∙ columns-count r
 
+pub insert-room : (d : Node) (r q : Code.Relation) (vars : List Slot) → d .kind ≡ 16 → Doing d r q vars → r .count < 16
+unfolding kindAt
+insert-room d r q vars k does = let room = rw k at (does .room) in omega (arith, ltb→lt, rows-count r)
+
 -- ── insert of a relation's rows ──
 
-module _ (d : Node) (r q : Code.Relation) (vars : List Slot) where
+module _ (d : Node) (r q : Code.Relation) (vars : List Slot) (k : d .kind ≡ 17) where
   abbrev alike : Bool
   alike = sameColumns (columnsOf (r .columns) (r .kinds)) (columnsOf (q .columns) (q .kinds))
 
   pub append-said : {t : Bool} → t ≡ alike → (a b : Answer) → saidOf a ≡ passing (leb (r .count + q .count) 16) 20 (doing (q .count) 0) →
-      saidOf b ≡ passing t 16 (saidOf a) → saidOf b ≡ saidBy (acting insertTable) (partsOf d r q vars false 0)
-  append-said same a b ea eb =
+      saidOf b ≡ passing t 16 (saidOf a) → (held : Bool) (tables : ℕ) → saidOf b ≡ stepSaid (partsOf d r q vars) held tables
+  unfolding kindAt
+  append-said same a b ea eb held tables =
       eb ∙ ap₂ (λ (x : Bool) (s : Said). passing x 16 s) same (ea ∙ ap₂ (λ (m n : ℕ). passing (leb (m + n) 16) 20 (doing n 0)) (sym (rows-count r)) (sym (rows-count q)))
+      ∙ sym (append-form (partsOf d r q vars) held tables (ap kindAt k))
 
-  module _ (doing-it : T (isDoing (saidBy (acting insertTable) (partsOf d r q vars false 0)))) where
-    append-passed : (alike ≡ true) × (leb (length (relationOf r .rows) + length (relationOf q .rows)) 16 ≡ true)
-    append-passed =
-        let y = leb (length (relationOf r .rows) + length (relationOf q .rows)) 16 in
-        let x = passed alike 16 (passing y 20 (doing (length (relationOf q .rows)) 0)) doing-it in
-        (x .0, passed y 20 (doing (length (relationOf q .rows)) 0) (x .1) .0)
+  pub append-content : {o : Code.Relation} → Holds o (relationOf r .columns) (relationOf r .rows ++ relationOf q .rows) → Holds o (relationOf r .columns) (rowsBy (kindAt (d .kind)) (partsOf d r q vars) (relationOf r .rows))
+  unfolding kindAt rowsBy
+  append-content put = rw k put
 
+  module _ (does : Doing d r q vars) where
     pub append-width : q .columns ≡ r .columns
-    append-width = sym (columns-count q) ∙ ap length (sym (same-columns (relationOf r .columns) (relationOf q .columns) (T-of _ (append-passed .0)))) ∙ columns-count r
+    unfolding kindAt
+    append-width =
+        let same : T alike = rw k at (insert-fits (partsOf d r q vars) (does .fits)) in
+        sym (columns-count q) ∙ ap length (sym (same-columns (relationOf r .columns) (relationOf q .columns) same)) ∙ columns-count r
 
     pub append-room : r .count + q .count ≤ 16
-    append-room = subst (λ (n : ℕ). n ≤ 16) (ap₂ _+_ (rows-count r) (rows-count q)) (leb-true _ 16 (append-passed .1))
+    unfolding kindAt
+    append-room = let room = rw k at (does .room) in omega (arith, leb→le, rows-count r, rows-count q)
+
+-- ── drop ──
+
+pub drop-said : (d : Node) (r q : Code.Relation) (vars : List Slot) (held : Bool) (tables : ℕ) → d .kind ≡ 24 → doing 0 (r .count) ≡ stepSaid (partsOf d r q vars) held tables
+unfolding kindAt
+drop-said d r q vars held tables k = ap (doing 0) (sym (rows-count r)) ∙ sym (drop-form (partsOf d r q vars) held tables (ap kindAt k))
 
 -- ── rows judged ──
-
--- the parts of a step whose table has the content `x`
-abbrev partsWith : Node → Relation → Code.Relation → List Slot → Bool → ℕ → Parts
-partsWith d x q vars held tables = record { node = nodeOf d; content = x; source = relationOf q; vars = varsOf vars; held = held; tables = tables }
 
 module _ (d : Node) (q : Code.Relation) (vars : List Slot) {j : Judged} (is : JudgedIs d q vars j) where
   -- a check of T's length, and what is said where it passes
@@ -137,91 +134,97 @@ module _ (d : Node) (q : Code.Relation) (vars : List Slot) {j : Judged} (is : Ju
       ap (λ (t : Bool). passing t 16 s) (sym (long-counts (d .selector .template) q))
       ∙ passing-then (longFor (d .selector .template) q) 16 (λ l. h (is-long (d .selector .template) q l))
 
-  -- what the step says of a table with the content `x`, which is the source
-  module _ {x : Relation} (own : relationOf q ≡ x) (held : Bool) (tables : ℕ) where
-    pub delete-said : d .kind ≡ 18 → {n : ℕ} → n ≡ count (λ (b : Bool). b) (j .flags) → (a b : Answer) → saidOf a ≡ passing (not held) 17 (doing 0 n) →
-        saidOf b ≡ passing (eqb (d .selector .template .count) (q .columns)) 16 (saidOf a) → saidOf b ≡ saidBy (acting delete) (partsWith d x q vars held tables)
-    delete-said k en a b ea eb =
-        subst (λ (y : Relation). saidOf b ≡ saidBy (acting delete) (partsWith d y q vars held tables)) own
-        (eb ∙ long-said (λ l. ea ∙ ap (λ (m : ℕ). passing (not held) 17 (doing 0 m)) (en ∙ is .hit (inl k) l .1)))
+  module _ (r : Code.Relation) where
+    -- T is as long as the columns where check 16 passed
+    does-long : T (hasTemplate (kindAt (d .kind))) → Doing d r q vars → Long d q
+    does-long h does = is-long (d .selector .template) q (is-true _ (long-fits (partsOf d r q vars) (does .fits) h))
 
-    pub update-said : d .kind ≡ 21 → {n : ℕ} → n ≡ count (λ (b : Bool). b) (j .flags) → (b : Answer) →
-        saidOf b ≡ passing (eqb (d .selector .template .count) (q .columns)) 16 (doing n n) → saidOf b ≡ saidBy (acting update) (partsWith d x q vars held tables)
-    update-said k en b eb =
-        subst (λ (y : Relation). saidOf b ≡ saidBy (acting update) (partsWith d y q vars held tables)) own
-        (eb ∙ long-said (λ l. ap (λ (m : ℕ). doing m m) (en ∙ is .update k l .1)))
+    module _ (held : Bool) (tables : ℕ) where
+      pub select-said : (d .kind ≡ 19) ⊎ (d .kind ≡ 20) → (a b : Answer) → saidOf a ≡ passing (not held) 17 (doing 0 0) →
+          saidOf b ≡ passing (eqb (d .selector .template .count) (q .columns)) 16 (saidOf a) → saidOf b ≡ stepSaid (partsOf d r q vars) held tables
+      unfolding kindAt
+      select-said (inl k) a b ea eb = eb ∙ long-said (λ l. ea) ∙ sym (select-form (partsOf d r q vars) held tables (ap kindAt k))
+      select-said (inr k) a b ea eb = eb ∙ long-said (λ l. ea) ∙ sym (select-relation-form (partsOf d r q vars) held tables (ap kindAt k))
 
-    pub aggregate-said : d .kind ≡ 22 → {t u : Bool} → t ≡ columnFits (d .function) (d .column) (relationOf q .columns) →
-        u ≡ (isGot (j .result) && matches1 (varsOf vars) (d .result) (j .result)) → (a b : Answer) → saidOf a ≡ passing u 18 (doing 0 0) →
-        saidOf b ≡ passing (eqb (d .selector .template .count) (q .columns) && t) 16 (saidOf a) → saidOf b ≡ saidBy (other aggregate) (partsWith d x q vars held tables)
-    aggregate-said k et eu a b ea eb =
-        subst (λ (y : Relation). saidOf b ≡ saidBy (other aggregate) (partsWith d y q vars held tables)) own
-        (eb ∙ ap (λ (y : Bool). passing y 16 (saidOf a)) (ap₂ _&&_ (sym (long-counts (d .selector .template) q)) et)
-        ∙ passing-then (longFor (d .selector .template) q && columnFits (d .function) (d .column) (relationOf q .columns)) 16
-        (λ l.
-        let h = T-of _ l in
-        ea
-        ∙ ap (λ (y : Bool). passing y 18 (doing 0 0))
-        (eu
-        ∙ ap (λ (g : Got). isGot g && matches1 (varsOf vars) (d .result) g)
-        (is .result k (is-long (d .selector .template) q (of-T _ (and-l (longFor (d .selector .template) q) _ h))) (and-r (longFor (d .selector .template) q) _ h)))))
+      pub aggregate-said : d .kind ≡ 22 → {t u : Bool} → t ≡ columnFits (d .function) (d .column) (relationOf q .columns) →
+          u ≡ (isGot (j .result) && matches1 (varsOf vars) (d .result) (j .result)) → (a b : Answer) → saidOf a ≡ passing u 18 (doing 0 0) →
+          saidOf b ≡ passing (eqb (d .selector .template .count) (q .columns) && t) 16 (saidOf a) → saidOf b ≡ stepSaid (partsOf d r q vars) held tables
+      unfolding kindAt
+      aggregate-said k et eu a b ea eb =
+          eb ∙ ap (λ (y : Bool). passing y 16 (saidOf a)) (ap₂ _&&_ (sym (long-counts (d .selector .template) q)) et)
+          ∙ passing-then (longFor (d .selector .template) q && columnFits (d .function) (d .column) (relationOf q .columns)) 16
+          (λ l.
+          let h = T-of _ l in
+          ea
+          ∙ ap (λ (y : Bool). passing y 18 (doing 0 0))
+          (eu
+          ∙ ap (λ (g : Got). isGot g && matches1 (varsOf vars) (d .result) g)
+          (is .result k (is-long (d .selector .template) q (is-true _ (and-l (longFor (d .selector .template) q) _ h))) (and-r (longFor (d .selector .template) q) _ h))))
+          ∙ sym (aggregate-form (partsOf d r q vars) held tables (ap kindAt k))
 
-  pub select-said : (x : Relation) (held : Bool) (tables : ℕ) (a b : Answer) → saidOf a ≡ passing (not held) 17 (doing 0 0) →
-      saidOf b ≡ passing (eqb (d .selector .template .count) (q .columns)) 16 (saidOf a) → saidOf b ≡ saidBy (other select) (partsWith d x q vars held tables)
-  select-said x held tables a b ea eb = eb ∙ long-said (λ l. ea)
+      -- the table's content is the source
+      module _ (own : relationOf q ≡ relationOf r) where
+        pub delete-said : d .kind ≡ 18 → {n : ℕ} → n ≡ count (λ (b : Bool). b) (j .flags) → (a b : Answer) → saidOf a ≡ passing (not held) 17 (doing 0 n) →
+            saidOf b ≡ passing (eqb (d .selector .template .count) (q .columns)) 16 (saidOf a) → saidOf b ≡ stepSaid (partsOf d r q vars) held tables
+        unfolding kindAt
+        delete-said k en a b ea eb =
+            eb ∙ long-said (λ l. ea ∙ ap (λ (m : ℕ). passing (not held) 17 (doing 0 m)) (en ∙ is .hit (inl k) l .1 ∙ ap (λ (x : Relation). count (hitIn d vars) (x .rows)) own))
+            ∙ sym (delete-form (partsOf d r q vars) held tables (ap kindAt k))
 
-  -- ── what it does ──
+        pub update-said : d .kind ≡ 21 → {n : ℕ} → n ≡ count (λ (b : Bool). b) (j .flags) → (b : Answer) →
+            saidOf b ≡ passing (eqb (d .selector .template .count) (q .columns)) 16 (doing n n) → saidOf b ≡ stepSaid (partsOf d r q vars) held tables
+        unfolding kindAt
+        update-said k en b eb =
+            eb ∙ long-said (λ l. ap (λ (m : ℕ). doing m m) (en ∙ is .update k l .1 ∙ ap (λ (x : Relation). count (changes (varsOf vars) (selectorOf (d .selector)) (operandsOf (d .tuple)) (x .columns)) (x .rows)) own))
+            ∙ sym (update-form (partsOf d r q vars) held tables (ap kindAt k))
 
-  module _ {x : Relation} (own : relationOf q ≡ x) (shaped : Shaped q) where
-    delete-long : T (isDoing (saidBy (acting delete) (partsWith d x q vars false 0))) → Long d q
-    delete-long h =
-        let g = subst (λ (y : Relation). T (isDoing (saidBy (acting delete) (partsWith d y q vars false 0)))) (sym own) h in
-        is-long (d .selector .template) q (passed (longFor (d .selector .template) q) 16 _ g .0)
+    -- ── what it does ──
 
-    pub delete-content : d .kind ≡ 18 → T (isDoing (saidBy (acting delete) (partsWith d x q vars false 0))) →
-        {o : Code.Relation} → Holds o (relationOf q .columns) (sift false (marks (q .count) (j .flags)) (relationOf q .rows)) →
-        Holds o (contentBy (acting delete) (partsWith d x q vars false 0) .columns) (contentBy (acting delete) (partsWith d x q vars false 0) .rows)
-    delete-content k h {o} put =
-        subst (λ (y : Relation). Holds o (contentBy (acting delete) (partsWith d y q vars false 0) .columns) (contentBy (acting delete) (partsWith d y q vars false 0) .rows)) own
-        (record {
-          columns = put .columns;
-          rows = put .rows ∙ ap (λ (m : List Bool). sift false m (relationOf q .rows)) (is .hit (inl k) (delete-long h) .0) ∙ sift-others (hitIn d vars) (relationOf q .rows);
-          shaped = put .shaped;
-        })
+    module _ (does : Doing d r q vars) where
+      pub delete-bound : d .kind ≡ 18 → {o : Code.Relation} → Holds o (relationOf q .columns) (sift true (marks (q .count) (j .flags)) (relationOf q .rows)) →
+          Holds o (boundBy (kindAt (d .kind)) (partsOf d r q vars) .columns) (boundBy (kindAt (d .kind)) (partsOf d r q vars) .rows)
+      unfolding kindAt boundBy
+      delete-bound k put =
+          let l = does-long (rw k tt) does in
+          rw k
+          (record {
+            columns = put .columns;
+            rows = put .rows ∙ ap (λ (m : List Bool). sift true m (relationOf q .rows)) (is .hit (inl k) l .0) ∙ sift-marked (hitIn d vars) (relationOf q .rows);
+            shaped = put .shaped;
+          })
 
-    pub delete-bound : d .kind ≡ 18 → T (isDoing (saidBy (acting delete) (partsWith d x q vars false 0))) →
-        {o : Code.Relation} → Holds o (relationOf q .columns) (sift true (marks (q .count) (j .flags)) (relationOf q .rows)) →
-        Holds o (boundBy (acting delete) (partsWith d x q vars false 0) .columns) (boundBy (acting delete) (partsWith d x q vars false 0) .rows)
-    delete-bound k h {o} put =
-        subst (λ (y : Relation). Holds o (boundBy (acting delete) (partsWith d y q vars false 0) .columns) (boundBy (acting delete) (partsWith d y q vars false 0) .rows)) own
-        (record {
-          columns = put .columns;
-          rows = put .rows ∙ ap (λ (m : List Bool). sift true m (relationOf q .rows)) (is .hit (inl k) (delete-long h) .0) ∙ sift-marked (hitIn d vars) (relationOf q .rows);
-          shaped = put .shaped;
-        })
+      pub select-bound : (d .kind ≡ 19) ⊎ (d .kind ≡ 20) → isSelect (kindAt (d .kind)) ≡ true → Complete (varsOf vars) (operandsOf (d .selector .template)) (operandsOf (d .tuple)) →
+          {o : Code.Relation} → Holds o (columnsOf (j .columns) (j .kinds)) (sift true (marks (q .count) (j .flags)) (relationOf (record { columns = j .columns; kinds = j .kinds; rows = j .rows; count = q .count }) .rows)) →
+          Holds o (boundBy (kindAt (d .kind)) (partsOf d r q vars) .columns) (boundBy (kindAt (d .kind)) (partsOf d r q vars) .rows)
+      unfolding kindAt boundBy
+      select-bound (inl k) s full put = let l = does-long (rw k tt) does in rw k (record { columns = put .columns ∙ is .select s l full .0; rows = put .rows ∙ is .select s l full .1; shaped = put .shaped })
+      select-bound (inr k) s full put = let l = does-long (rw k tt) does in rw k (record { columns = put .columns ∙ is .select s l full .0; rows = put .rows ∙ is .select s l full .1; shaped = put .shaped })
 
-    pub update-content : d .kind ≡ 21 → T (isDoing (saidBy (acting update) (partsWith d x q vars false 0))) →
-        Holds (record { columns = q .columns; kinds = q .kinds; rows = j .rows; count = q .count })
-        (contentBy (acting update) (partsWith d x q vars false 0) .columns) (contentBy (acting update) (partsWith d x q vars false 0) .rows)
-    update-content k h =
-        let g = subst (λ (y : Relation). T (isDoing (saidBy (acting update) (partsWith d y q vars false 0)))) (sym own) h in
-        let l = is-long (d .selector .template) q (passed (longFor (d .selector .template) q) 16 _ g .0) in
-        subst (λ (y : Relation). Holds (record { columns = q .columns; kinds = q .kinds; rows = j .rows; count = q .count })
-        (contentBy (acting update) (partsWith d y q vars false 0) .columns) (contentBy (acting update) (partsWith d y q vars false 0) .rows)) own
-        (record { columns = refl; rows = is .update k l .0; shaped = record { columns = shaped .columns; count = shaped .count } })
+      pub aggregate-vars : d .kind ≡ 22 → (vs : List Slot) → varsOf vs ≡ bindTo (formalOf (d .result)) (j .result) (varsOf vars) → varsOf vs ≡ varsBy (kindAt (d .kind)) (partsOf d r q vars)
+      unfolding kindAt bind varsBy
+      aggregate-vars k vs bound =
+          rw k (bound ∙ ap (λ (z : Got). bindTo (formalOf (d .result)) z (varsOf vars)) (is .result k (does-long (rw k tt) does) (column-fits (partsOf d r q vars) (does .fits) (rw k tt))))
 
-    pub aggregate-vars : d .kind ≡ 22 → T (isDoing (saidBy (other aggregate) (partsWith d x q vars false 0))) → (vs : List Slot) →
-        varsOf vs ≡ bindTo (formalOf (d .result)) (j .result) (varsOf vars) → varsOf vs ≡ varsBy (other aggregate) (partsWith d x q vars false 0)
-    unfolding bind
-    aggregate-vars k h vs bound =
-        let g = subst (λ (y : Relation). T (isDoing (saidBy (other aggregate) (partsWith d y q vars false 0)))) (sym own) h in
-        let l = T-of _ (passed (longFor (d .selector .template) q && columnFits (d .function) (d .column) (relationOf q .columns)) 16 _ g .0) in
-        subst (λ (y : Relation). varsOf vs ≡ varsBy (other aggregate) (partsWith d y q vars false 0)) own
-        (bound ∙ ap (λ (z : Got). bindTo (formalOf (d .result)) z (varsOf vars)) (is .result k (is-long (d .selector .template) q (of-T _ (and-l (longFor (d .selector .template) q) _ l))) (and-r (longFor (d .selector .template) q) _ l)))
+      -- the table's content is the source
+      module _ (own : relationOf q ≡ relationOf r) where
+        pub delete-content : d .kind ≡ 18 → {o : Code.Relation} → Holds o (relationOf q .columns) (sift false (marks (q .count) (j .flags)) (relationOf q .rows)) →
+            Holds o (relationOf r .columns) (rowsBy (kindAt (d .kind)) (partsOf d r q vars) (relationOf r .rows))
+        unfolding kindAt rowsBy
+        delete-content k {o} put =
+            let l = does-long (rw k tt) does in
+            rw k
+            (subst (λ (x : Relation). Holds o (x .columns) (unselected (varsOf vars) (selectorOf (d .selector)) (x .rows))) own
+            (record {
+              columns = put .columns;
+              rows = put .rows ∙ ap (λ (m : List Bool). sift false m (relationOf q .rows)) (is .hit (inl k) l .0) ∙ sift-others (hitIn d vars) (relationOf q .rows);
+              shaped = put .shaped;
+            }))
 
-  pub select-bound : isSelect (kindAt (d .kind)) ≡ true → Complete (varsOf vars) (operandsOf (d .selector .template)) (operandsOf (d .tuple)) → (x : Relation) → T (isDoing (saidBy (other select) (partsWith d x q vars false 0))) →
-      {o : Code.Relation} → Holds o (columnsOf (j .columns) (j .kinds)) (sift true (marks (q .count) (j .flags)) (relationOf (record { columns = j .columns; kinds = j .kinds; rows = j .rows; count = q .count }) .rows)) →
-      Holds o (boundBy (other select) (partsWith d x q vars false 0) .columns) (boundBy (other select) (partsWith d x q vars false 0) .rows)
-  select-bound k full x h put =
-      let l = is-long (d .selector .template) q (passed (longFor (d .selector .template) q) 16 _ h .0) in
-      record { columns = put .columns ∙ is .select k l full .0; rows = put .rows ∙ is .select k l full .1; shaped = put .shaped }
+        pub update-content : d .kind ≡ 21 → Shaped q →
+            Holds (record { columns = q .columns; kinds = q .kinds; rows = j .rows; count = q .count }) (relationOf r .columns) (rowsBy (kindAt (d .kind)) (partsOf d r q vars) (relationOf r .rows))
+        unfolding kindAt rowsBy
+        update-content k shaped =
+            let l = does-long (rw k tt) does in
+            rw k
+            (subst (λ (x : Relation). Holds (record { columns = q .columns; kinds = q .kinds; rows = j .rows; count = q .count }) (x .columns) (updated (varsOf vars) (selectorOf (d .selector)) (operandsOf (d .tuple)) (x .columns) (x .rows))) own
+            (record { columns = refl; rows = is .update k l .0; shaped = record { columns = shaped .columns; count = shaped .count } }))

@@ -12,7 +12,7 @@ use Rattle.values.specs.Lists.{all, find, first, orElse, removeAt}
 use Rattle.values.proofs.Bools.{and-l, and-r, not-T→false}
 use Rattle.rows.specs.Relations.{Relation}
 use Rattle.nets.specs.Nets as M
-use Rattle.nets.specs.Nets.{other, badKind, code}
+use Rattle.nets.specs.Nets.{Kind, acting, other, insert, insertTable, delete, update, create, drop, select, selectRelation, aggregate, sequential, parallel, badKind, code, needsTable}
 use Rattle.nets.specs.View.{kinds, kindAt}
 use Rattle.step_effect.specs.Contracts.{putsRows}
 use Rattle.step_effect.specs.TableContracts.{tablesWith}
@@ -57,7 +57,22 @@ module _ (at : ℕ) (ts : List M.Table) (s : Site) (d : M.Node) (q : Relation) w
   unfolding kindAt tablesWith
   with-create h e k = k ∙ ap (λ (u : M.Table). ts ++ (u ∷ [])) e ∙ sym (ap (λ (b : ℕ). tablesWith (kindAt b) at ts s d q) h)
 
--- ── kinds that put rows, by their byte ──
+-- ── kinds that put rows ──
+
+-- they need a table
+pub puts-needs : (k : Kind) → T (putsRows k) → T (needsTable k)
+puts-needs (acting insert) h = tt
+puts-needs (acting insertTable) h = tt
+puts-needs (acting delete) h = tt
+puts-needs (acting update) h = tt
+puts-needs (acting create) h = absurd h
+puts-needs (acting drop) h = absurd h
+puts-needs (other select) h = absurd h
+puts-needs (other selectRelation) h = absurd h
+puts-needs (other aggregate) h = absurd h
+puts-needs (other sequential) h = absurd h
+puts-needs (other parallel) h = absurd h
+puts-needs (other badKind) h = absurd h
 
 pub byte-puts : {b : ℕ} → Puts b → T (putsRows (kindAt b))
 unfolding kindAt

@@ -19,20 +19,16 @@ use Rattle.nets.specs.declared.Node.{Node}
 use Rattle.step_effect.specs.declared.Judged.{Judged}
 use Rattle.nets.specs.Nets.{Kind, code, isSelect, readsRelation, isLoop}
 use Rattle.nets.specs.View.{kindAt, nodeOf}
-use Rattle.nets.specs.Answers.{Said, refusing, doing}
-use Rattle.step_effect.specs.Effects.{Parts, saidBy}
-
-abbrev pub isDoing : Said → Bool
-isDoing (refusing n vs) = false
-isDoing (doing a t) = true
+use Rattle.nets.specs.Scenes.{Parts}
+use Rattle.nets.specs.Steps.{check16, roomBy}
 
 -- a kind of document 01 that is no loop
 abbrev pub isStep : Kind → Bool
 isStep k = not (eqb (code k) 0) && not (isLoop k)
 
-abbrev pub partsOf : Node → Code.Relation → Code.Relation → List Slot → Bool → ℕ → Parts
-partsOf d content source vars held tables =
-    record { node = nodeOf d; content = relationOf content; source = relationOf source; vars = varsOf vars; held = held; tables = tables }
+-- the parts that the step reads
+abbrev pub partsOf : Node → Code.Relation → Code.Relation → List Slot → Parts
+partsOf d content source vars = record { node = nodeOf d; content = relationOf content; source = relationOf source; vars = varsOf vars }
 
 -- the table's content `r`, the source of rows `q` and the operand lists are within their arrays, a step that reads no table variable has the content as
 -- its source, and a select's t gives a value for each component
@@ -48,9 +44,11 @@ pub record ActReady (d : Node) (r q : Code.Relation) (vs : List Slot) : Type 0 w
 abbrev pub putsRows : Kind → Bool
 putsRows k = among (code k) (16 ∷ 17 ∷ 18 ∷ 21 ∷ [])
 
--- the step is done where nothing holds the table variable and there is room for a table
-abbrev pub Doing : Node → Code.Relation → Code.Relation → List Slot → Type 0
-Doing d r q vs = T (isDoing (saidBy (kindAt (d .kind)) (partsOf d r q vs false 0)))
+-- checks 16 and 20 passed
+pub record Doing (d : Node) (r q : Code.Relation) (vs : List Slot) : Type 0 where
+  pub fits : T (check16 (partsOf d r q vs))
+  pub tables : ℕ
+  pub room : T (roomBy (kindAt (d .kind)) (partsOf d r q vs) tables)
 
 -- relation and operand lists are within their arrays: enough to judge rows, before check 12 is known to pass
 pub record JudgeReady (d : Node) (q : Code.Relation) : Type 0 where

@@ -1,3 +1,2 @@
 pub mod Contracts
-pub mod Effects
 pub mod TableContracts

@@ -11,13 +11,13 @@ use rows::Relation;
 use value_eval::bind_to;
 use values::Slot;
 ghost use mathlib.Core.Path.{_≡_};
-ghost use mathlib.Core.Bool.{false};
 ghost use lib.Dec.{T};
 ghost use Rattle.values.specs.Operands.{varsOf};
+ghost use Rattle.rows.specs.View.{relationOf};
 ghost use Rattle.row_change.specs.Contracts.{Holds};
 ghost use Rattle.nets.specs.Nets.{bindsRelation};
+ghost use Rattle.nets.specs.Steps.{rowsBy, boundBy, varsBy};
 ghost use Rattle.nets.specs.View.{kindAt};
-ghost use Rattle.step_effect.specs.Effects.{contentBy, boundBy, varsBy};
 ghost use Rattle.step_effect.specs.Contracts.{partsOf, putsRows, Doing, ActReady, JudgedIs, isStep};
 
 pub fn content_after(
@@ -28,7 +28,7 @@ pub fn content_after(
     j: Judged,
 ) -> Relation
     requires { ⌜ ActReady node content source vars × T (isStep (kindAt (node .kind))) × JudgedIs node source vars j × T (putsRows (kindAt (node .kind))) × Doing node content source vars ⌝ }
-    ensures { λ r. ⌜ Holds r (contentBy (kindAt (node .kind)) (partsOf node content source vars false 0) .columns) (contentBy (kindAt (node .kind)) (partsOf node content source vars false 0) .rows) ⌝ }
+    ensures { λ r. ⌜ Holds r (relationOf content .columns) (rowsBy (kindAt (node .kind)) (partsOf node content source vars) (relationOf content .rows)) ⌝ }
 {
     let kind = node.kind;
     let tuple = node.tuple;
@@ -60,7 +60,7 @@ pub fn bound_after(
     j: Judged,
 ) -> Relation
     requires { ⌜ ActReady node content source vars × T (isStep (kindAt (node .kind))) × JudgedIs node source vars j × T (bindsRelation (kindAt (node .kind))) × Doing node content source vars ⌝ }
-    ensures { λ r. ⌜ Holds r (boundBy (kindAt (node .kind)) (partsOf node content source vars false 0) .columns) (boundBy (kindAt (node .kind)) (partsOf node content source vars false 0) .rows) ⌝ }
+    ensures { λ r. ⌜ Holds r (boundBy (kindAt (node .kind)) (partsOf node content source vars) .columns) (boundBy (kindAt (node .kind)) (partsOf node content source vars) .rows) ⌝ }
 {
     let kind = node.kind;
     let flags = j.flags;
@@ -86,7 +86,7 @@ pub fn vars_after(
     j: Judged,
 ) -> [Slot; 16]
     requires { ⌜ ActReady node content source vars × T (isStep (kindAt (node .kind))) × JudgedIs node source vars j × Doing node content source vars ⌝ }
-    ensures { λ r. ⌜ varsOf r ≡ varsBy (kindAt (node .kind)) (partsOf node content source vars false 0) ⌝ }
+    ensures { λ r. ⌜ varsOf r ≡ varsBy (kindAt (node .kind)) (partsOf node content source vars) ⌝ }
 {
     let kind = node.kind;
     if kind == 22 {

@@ -12,22 +12,24 @@ use rows::Relation;
 use values::Got;
 use values::Operand;
 use values::Slot;
+ghost use Prim.Native.Nat.{ℕ};
 ghost use mathlib.Core.Path.{_≡_};
-ghost use mathlib.Core.Bool.{false, _&&_};
+ghost use mathlib.Core.Bool.{Bool, _&&_};
+ghost use mathlib.Core.List.{[]};
 ghost use lib.Dec.{eqb};
 ghost use lib.ListN.{getD};
 ghost use Rattle.values.specs.Operands.{varsOf, isGot};
+ghost use Rattle.rows.specs.declared.Relation as Code;
 ghost use Rattle.rows.specs.Matching.{matches1};
 ghost use Rattle.rows.specs.View.{relationOf, Shaped, Short};
 ghost use Rattle.row_change.specs.Aggregates.{columnFits};
-ghost use Rattle.nets.specs.Nets.{acting, insert, insertTable};
-ghost use Rattle.nets.specs.Answers.{numberOf, saidOf};
-ghost use Rattle.step_effect.specs.Effects.{passing, saidBy};
+ghost use Rattle.nets.specs.Steps.{verdict};
+ghost use Rattle.nets.specs.Answers.{refusing, stepSaid, numberOf, saidOf};
 ghost use Rattle.step_effect.specs.Contracts.{partsOf};
 
 // A check that fails refuses.
 pub fn checked(ok: bool, why: Refusal, then: Answer) -> Answer
-    ensures { λ r. ⌜ saidOf r ≡ passing ok (numberOf why) (saidOf then) ⌝ }
+    ensures { λ r. ⌜ saidOf r ≡ verdict refusing ok (numberOf why) [] (saidOf then) ⌝ }
 {
     if ok {
         return then;
@@ -39,7 +41,7 @@ pub fn checked(ok: bool, why: Refusal, then: Answer) -> Answer
 
 pub fn said_insert(node: Node, content: Relation, vars: [Slot; 16]) -> Answer
     requires { ⌜ Shaped content × Short (node .tuple) ⌝ }
-    ensures { λ r. ⌜ saidOf r ≡ saidBy (acting insert) (partsOf node content content vars false 0) ⌝ }
+    ensures { λ r. ⌜ (node .kind ≡ 16 → (source : Code.Relation) (held : Bool) (tables : ℕ) → saidOf r ≡ stepSaid (partsOf node content source vars) held tables) ⌝ }
 {
     let columns = content.columns;
     let kinds = content.kinds;
@@ -55,7 +57,7 @@ pub fn said_insert(node: Node, content: Relation, vars: [Slot; 16]) -> Answer
 
 pub fn said_append(node: Node, content: Relation, source: Relation, vars: [Slot; 16]) -> Answer
     requires { ⌜ Shaped content × Shaped source ⌝ }
-    ensures { λ r. ⌜ saidOf r ≡ saidBy (acting insertTable) (partsOf node content source vars false 0) ⌝ }
+    ensures { λ r. ⌜ (node .kind ≡ 17 → (held : Bool) (tables : ℕ) → saidOf r ≡ stepSaid (partsOf node content source vars) held tables) ⌝ }
 {
     let columns = content.columns;
     let kinds = content.kinds;

@@ -10,14 +10,12 @@ use Rattle.rows.specs.Relations.{Relation}
 use Rattle.rows.specs.View.{relationOf, operandsOf}
 use Rattle.step_meets.specs.Situations.{Situation}
 use Rattle.nets.specs.Nets as M
-use Rattle.nets.specs.Nets.{Kind, bindsRelation, isLoop, isParallel}
-use Rattle.nets.specs.Scenes.{Scene, vars, template, relation, source}
+use Rattle.nets.specs.Nets.{Kind, isLoop, isParallel}
+use Rattle.nets.specs.Scenes.{Scene, parts, vars, template, relation, source}
 use Rattle.nets.specs.Steps.{roomForRound}
 use Rattle.nets.specs.View.{kindAt}
-use Rattle.step_effect.specs.Contracts.{partsOf}
 use Rattle.step_thread.specs.Contracts.{visitOf}
-use Rattle.step_meets.specs.Contracts.{Meets, relationRead}
-use Rattle.step_meets.proofs.EffectTies.{PartsIn}
+use Rattle.step_meets.specs.Contracts.{Meets, relationRead, partsIn}
 use Rattle.step_meets.proofs.RoundTies.{turnAt, turnIn, loop-turn}
 use Rattle.step_thread.proofs.ThreadLaws.{length-stack}
 
@@ -36,16 +34,8 @@ module _ (s : Situation) (c : Scene) (m : Meets s c) where
   met-relation = ap₂ (λ (t : M.Thread) (d : M.Node). getD (t .bindings .relations) (d .read) none) (m .thread) (m .node)
 
   -- with the source of rows `q`
-  pub met-parts : (q : Code.Relation) → relationOf q ≡ source c → PartsIn (kindAt (s .node .kind)) c (partsOf (s .node) (s .content) q (s .thread .vars) (s .held) (s .tables))
-  met-parts q e =
-      record {
-        node = sym (m .node);
-        content = m .content;
-        source = e;
-        vars = sym met-vars;
-        held = λ h. m .held (subst (λ (k : Kind). T (bindsRelation k)) (sym met-kind) h);
-        tables = m .tables;
-      }
+  pub met-parts : (q : Code.Relation) → relationOf q ≡ source c → partsIn s q ≡ parts c
+  met-parts q e = λ i. record { node = sym (m .node) i; content = m .content i; source = e i; vars = sym met-vars i }
 
   -- a loop's round, with the table variable read `r`
   pub met-turn :

@@ -13,9 +13,8 @@ use Rattle.values.proofs.Bools.{is-true}
 use Rattle.rows.specs.Relations.{Relation}
 use Rattle.nets.specs.Nets.{Kind, acting, other, insert, insertTable, delete, update, create, drop, select, selectRelation, aggregate, sequential, parallel, badKind, hasPlace, needsTable, isCreate, isLoop, isParallel, Bindings}
 use Rattle.nets.specs.Scenes.{Scene, below, vars, template, siteOfL, table, relation, source, stillToVisit, visit, rowAt, ready, anyReady, pickReady, opens}
-use Rattle.nets.specs.Steps.{check12, check13, check14, check15, check16, check17, check18, check19, check20, roomForRound, addedBy, takenBy, bindingsBy, withBindings, goOn, settle, sequentialRound, parallelRound, threadsAfter}
+use Rattle.nets.specs.Steps.{check12, check13, check14, check15, check16, check17, check18, check19, check20, roomForRound, addedBy, takenBy, varsBy, bindingsBy, withBindings, goOn, settle, sequentialRound, parallelRound, threadsAfter, verdict, judge, checks}
 use Rattle.nets.specs.Answers.{Said, refusing, doing, answerOf}
-use Rattle.step_effect.specs.Effects.{passing}
 use Rattle.step_thread.specs.Contracts.{Turned, over, opened, stopped, turnBy, readyAt}
 use Rattle.step_meets.specs.Contracts.{outcomeAt}
 use Rattle.step_meets.proofs.EffectTies.{laterSaid, later-said, read-source}
@@ -40,7 +39,7 @@ turnAt c = turnBy (long c) (anyReady c) (pickReady c) (roomForRound c)
 abbrev pub turnIn : Vars → List Operand → Relation → List ℕ → ℕ → Bool → Turned
 turnIn e t x v row room = turnBy (eqb (length t) (length (x .columns))) (any (readyAt e t x) v) (among row v && readyAt e t x row) room
 
-turned : (a b q r : Bool) → passing a 16 (passing (not b || q) 19 (passing (not b || r) 20 (doing 0 0))) ≡ turnedSaid (turnBy a b q r)
+turned : (a b q r : Bool) → verdict refusing a 16 [] (verdict refusing (not b || q) 19 [] (verdict refusing (not b || r) 20 [] (doing 0 0))) ≡ turnedSaid (turnBy a b q r)
 turned false b q r = refl
 turned true false q r = refl
 turned true true false r = refl
@@ -59,43 +58,37 @@ one-ready false b q r e = cc
 one-ready true false q r e = cc
 one-ready true true q r e = refl
 
-turn-said : (k : Kind) (c : Scene) → c .node .kind ≡ k → T (isLoop k) → laterSaid c ≡ turnedSaid (turnAt c)
-unfolding check16 check17 check18 check19 check20 opens addedBy takenBy
-turn-said (acting insert) c e l = absurd l
-turn-said (acting insertTable) c e l = absurd l
-turn-said (acting delete) c e l = absurd l
-turn-said (acting update) c e l = absurd l
-turn-said (acting create) c e l = absurd l
-turn-said (acting drop) c e l = absurd l
-turn-said (other select) c e l = absurd l
-turn-said (other selectRelation) c e l = absurd l
-turn-said (other aggregate) c e l = absurd l
-turn-said (other sequential) c e l = simp (e, and-true) (turned (long c) (anyReady c) (pickReady c) (roomForRound c))
-turn-said (other parallel) c e l = simp (e, and-true) (turned (long c) (anyReady c) (pickReady c) (roomForRound c))
-turn-said (other badKind) c e l = absurd l
-
--- a loop has no L and no table, so that checks 13, 14 and 15 pass
-placeless : (k : Kind) (x y z : Bool) → T (isLoop k) → ((not (hasPlace k) || x) ≡ true) × ((not (needsTable k) || y) ≡ true) × ((not (isCreate k) || z) ≡ true)
-placeless (acting insert) x y z l = absurd l
-placeless (acting insertTable) x y z l = absurd l
-placeless (acting delete) x y z l = absurd l
-placeless (acting update) x y z l = absurd l
-placeless (acting create) x y z l = absurd l
-placeless (acting drop) x y z l = absurd l
-placeless (other select) x y z l = absurd l
-placeless (other selectRelation) x y z l = absurd l
-placeless (other aggregate) x y z l = absurd l
-placeless (other sequential) x y z l = (refl, refl, refl)
-placeless (other parallel) x y z l = (refl, refl, refl)
-placeless (other badKind) x y z l = absurd l
+-- what holds of both loops holds of a kind that is a loop
+by-loop : (P : Kind → Type 0) → P (other sequential) → P (other parallel) → (k : Kind) → T (isLoop k) → P k
+by-loop P p q (acting insert) l = absurd l
+by-loop P p q (acting insertTable) l = absurd l
+by-loop P p q (acting delete) l = absurd l
+by-loop P p q (acting update) l = absurd l
+by-loop P p q (acting create) l = absurd l
+by-loop P p q (acting drop) l = absurd l
+by-loop P p q (other select) l = absurd l
+by-loop P p q (other selectRelation) l = absurd l
+by-loop P p q (other aggregate) l = absurd l
+by-loop P p q (other sequential) l = p
+by-loop P p q (other parallel) l = q
+by-loop P p q (other badKind) l = absurd l
 
 module _ (c : Scene) (loop : T (isLoop (c .node .kind))) where
+  -- a loop has no L and no table, so that checks 13, 14 and 15 pass
   passes : (check13 c ≡ true) × (check14 c ≡ true) × (check15 c ≡ true)
   unfolding check13 check14 check15
-  passes = placeless (c .node .kind) (isSome (siteOfL c)) (isSome (table c)) (not (isSome (table c))) loop
+  passes =
+      by-loop (λ k. ((not (hasPlace k) || isSome (siteOfL c)) ≡ true) × ((not (needsTable k) || isSome (table c)) ≡ true) × ((not (isCreate k) || not (isSome (table c))) ≡ true))
+      (refl, refl, refl) (refl, refl, refl) (c .node .kind) loop
+
+  turn-said : laterSaid c ≡ turnedSaid (turnAt c)
+  unfolding judge checks check16 check17 check18 check19 check20 opens addedBy takenBy
+  turn-said =
+      let t = turned (long c) (anyReady c) (pickReady c) (roomForRound c) in
+      by-loop (λ k. c .node .kind ≡ k → laterSaid c ≡ turnedSaid (turnAt c)) (λ e. simp (e, and-true) t) (λ e. simp (e, and-true) t) (c .node .kind) loop refl
 
   pub turn-answer : check12 c ≡ true → answerOf (outcomeAt c) ≡ turnedSaid (turnAt c)
-  turn-answer twelve = later-said c twelve (passes .0) (passes .1) (passes .2) ∙ turn-said (c .node .kind) c refl loop
+  turn-answer twelve = later-said c twelve (passes .0) (passes .1) (passes .2) ∙ turn-said
 
   -- ── the threads ──
 
@@ -103,27 +96,16 @@ module _ (c : Scene) (loop : T (isLoop (c .node .kind))) where
   unfolding opens
   open-if = rw (is-true (isLoop (c .node .kind)) loop)
 
-  own-bindings : (k : Kind) → T (isLoop k) → bindingsBy k c ≡ c .thread .bindings
-  unfolding bindingsBy
-  own-bindings (acting insert) l = absurd l
-  own-bindings (acting insertTable) l = absurd l
-  own-bindings (acting delete) l = absurd l
-  own-bindings (acting update) l = absurd l
-  own-bindings (acting create) l = absurd l
-  own-bindings (acting drop) l = absurd l
-  own-bindings (other select) l = absurd l
-  own-bindings (other selectRelation) l = absurd l
-  own-bindings (other aggregate) l = absurd l
-  own-bindings (other sequential) l = refl
-  own-bindings (other parallel) l = refl
-  own-bindings (other badKind) l = absurd l
+  own-bindings : bindingsBy (c .node .kind) c ≡ c .thread .bindings
+  unfolding bindingsBy varsBy
+  own-bindings = by-loop (λ k. bindingsBy k c ≡ c .thread .bindings) refl refl (c .node .kind) loop
 
   -- over: the thread goes on as it was
   pub over-threads : turnAt c ≡ over → threadsAfter c ≡ settle (c .at) (goOn (c .node .next) (c .thread) (below (c .thread .stack))) (c .net .threads)
   unfolding threadsAfter
   over-threads e =
       rw (open-if, none-ready (long c) (anyReady c) (pickReady c) (roomForRound c) e)
-      (ap (λ (b : Bindings). settle (c .at) (goOn (c .node .next) (withBindings (c .thread) b) (below (c .thread .stack))) (c .net .threads)) (own-bindings (c .node .kind) loop))
+      (ap (λ (b : Bindings). settle (c .at) (goOn (c .node .next) (withBindings (c .thread) b) (below (c .thread .stack))) (c .net .threads)) own-bindings)
 
   opened-threads : turnAt c ≡ opened → threadsAfter c ≡ cond (isParallel (c .node .kind)) (parallelRound c) (sequentialRound c)
   unfolding threadsAfter

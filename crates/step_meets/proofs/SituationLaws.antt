@@ -32,7 +32,8 @@ use Rattle.step_effect.specs.Contracts.{isStep, ActReady, JudgeReady}
 use Rattle.step_thread.specs.Contracts.{visitOf}
 use Rattle.step_meets.specs.Contracts.{Meets, relationRead, Fine, Known, SourceIs, Sourced}
 use Rattle.step_meets.proofs.EffectTies.{read-source, own-source}
-use Rattle.nets.proofs.RoundLaws.{given, loop-reads}
+use Rattle.nets.proofs.StepLaws.{given}
+use Rattle.nets.proofs.RoundLaws.{loop-reads}
 use Rattle.step_meets.proofs.CompleteLaws.{select-complete}
 use Rattle.step_meets.proofs.MeetTies.{met-kind, met-relation}
 

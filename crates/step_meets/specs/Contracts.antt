@@ -5,9 +5,9 @@ use mathlib.Core.Bool.{Bool, false, cond}
 use mathlib.Core.List.{List, [], _∷_, _++_, map}
 use mathlib.Core.Option.{Option, none, some}
 use lib.Dec.{T, ltb}
-use lib.ListN.{getD, set, length}
+use lib.ListN.{getD, set, length, drop}
 use Rattle.values.specs.declared.Site.{Site}
-use Rattle.values.specs.Lists.{all, any, isSome}
+use Rattle.values.specs.Lists.{all, isSome}
 use Rattle.rows.specs.declared.Relation as Code
 use Rattle.rows.specs.Relations.{Relation}
 use Rattle.rows.specs.View.{relationOf, Shaped}
@@ -20,16 +20,15 @@ use Rattle.nets.specs.declared.Thread.{Thread}
 use Rattle.step_meets.specs.declared.Decided.{Decided}
 use Rattle.step_meets.specs.Situations.{Situation, Rest, Change, overOf, moved}
 use Rattle.nets.specs.Nets as M
-use Rattle.nets.specs.Nets.{isLoop, readsRelation, bindsRelation, toRun, Outcome}
+use Rattle.nets.specs.Nets.{isLoop, readsRelation, bindsRelation, toRun, Outcome, refused}
 use Rattle.nets.specs.Tables.{tableAt, contentOf, rowsOf, columnsOf}
 use Rattle.nets.specs.Sound.{nodeOkAs, bindingsOk}
-use Rattle.nets.specs.Scenes.{Scene, site, siteOfL, table}
-use Rattle.nets.specs.Steps.{isBound, isBoundTable, readsOk, holds, settle, tablesBy, threadsAfter, performed, Check, check, check12, check13, check14, check15, check16, check17, check18, check19, check20, judge}
+use Rattle.nets.specs.Scenes.{Scene, Parts, site, siteOfL, table}
+use Rattle.nets.specs.Steps.{isBound, isBoundTable, readsOk, held, rowsBy, tablesBy, boundBy, settle, threadsAfter, performed, Check, judge, checks}
 use Rattle.nets.specs.View.{kindAt, nodeOf, entryOf, variableOf, bindingsOf, threadOf}
-use Rattle.nets.specs.Answers.{answerOf, saidOf}
+use Rattle.nets.specs.Answers.{isDoing, answerOf, saidOf}
 use Rattle.step_reads.specs.Contracts.{flagAt}
-use Rattle.step_effect.specs.Effects.{Parts, contentBy, boundBy}
-use Rattle.step_effect.specs.Contracts.{isDoing, isStep, putsRows, partsOf, Doing}
+use Rattle.step_effect.specs.Contracts.{isStep, putsRows, partsOf, Doing}
 use Rattle.step_thread.specs.Contracts.{visitOf, Stacked, standing, forksOf}
 
 -- ── places ──
@@ -40,22 +39,12 @@ locatedOf (At s) = some s
 
 -- ── the step from small parts ──
 
--- the checks after 10 and 11
+-- the outcome by the checks after 10 and 11
 abbrev pub laterChecks : Scene → List Check
-laterChecks c =
-    check 12 (check12 c)
-    ∷ check 13 (check13 c)
-    ∷ check 14 (check14 c)
-    ∷ check 15 (check15 c)
-    ∷ check 16 (check16 c)
-    ∷ check 17 (check17 c)
-    ∷ check 18 (check18 c)
-    ∷ check 19 (check19 c)
-    ∷ check 20 (check20 c)
-    ∷ []
+laterChecks c = drop 2 (checks c)
 
 abbrev pub outcomeAt : Scene → Outcome
-outcomeAt c = judge (laterChecks c) (performed c)
+outcomeAt c = judge refused (laterChecks c) (performed c)
 
 -- the parts that a pick meets are those of a scene
 pub record Meets (s : Situation) (c : Scene) : Type 0 where
@@ -65,7 +54,7 @@ pub record Meets (s : Situation) (c : Scene) : Type 0 where
   pub located : siteOfL c ≡ locatedOf (s .located)
   pub found : s .found ≡ isSome (table c)
   pub content : relationOf (s .content) ≡ contentOf (table c)
-  pub held : T (bindsRelation (c .node .kind)) → s .held ≡ any (holds (c .net .nodes) (c .node .bound)) (c .thread .stack)
+  pub held : T (bindsRelation (c .node .kind)) → s .held ≡ held c
   pub tables : s .tables ≡ length (c .net .tables)
   pub threads : s .threads ≡ length (c .net .threads)
   pub row : s .row ≡ c .row
@@ -115,14 +104,14 @@ pub record ChangeIs (c : Scene) (r : Change) : Type 0 where
 
 -- ── what is decided ──
 
--- the parts that contents and bindings are made of; whether the table variable is held and how many tables there are does not matter to them
+-- the parts that the step reads, with the source of rows `q`
 abbrev pub partsIn : Situation → Code.Relation → Parts
-partsIn s q = partsOf (s .node) (s .content) q (s .thread .vars) false 0
+partsIn s q = partsOf (s .node) (s .content) q (s .thread .vars)
 
 -- what is made for a done step: the table's content, the table variables, a frame for the body, and the new thread
 pub record Made (s : Situation) (q : Code.Relation) (r : Decided) : Type 0 where
   pub content : Code.Relation
-  pub put : T (putsRows (kindAt (s .node .kind))) → Holds content (contentBy (kindAt (s .node .kind)) (partsIn s q) .columns) (contentBy (kindAt (s .node .kind)) (partsIn s q) .rows)
+  pub put : T (putsRows (kindAt (s .node .kind))) → Holds content (relationOf (s .content) .columns) (rowsBy (kindAt (s .node .kind)) (partsIn s q) (relationOf (s .content) .rows))
   pub relations : List TableVariable
   pub bound :
       map variableOf relations

@@ -9,14 +9,15 @@ use lib.ListN.{getD, set}
 use Rattle.values.specs.declared.Site.{Site}
 use Rattle.values.specs.Lists.{isSome, removeAt}
 use Rattle.rows.specs.Relations.{Row}
-use Rattle.nets.specs.Nets.{Table, Kind, acting, other, insert, insertTable, delete, update, create, drop, select, selectRelation, aggregate, sequential, parallel, badKind, Net, done}
+use Rattle.nets.specs.Nets.{Table, Kind, acting, drop, Net, refused, done}
 use Rattle.nets.specs.Tables.{tableAt, rowsOf, columnsOf, withRows, change}
-use Rattle.nets.specs.Scenes.{Scene, site, table}
-use Rattle.nets.specs.Steps.{tablesBy, addedBy, takenBy, threadsAfter, netAfter, performed, Check, verdict, judge}
+use Rattle.nets.specs.Scenes.{Scene, parts, site, table}
+use Rattle.nets.specs.Steps.{rowsBy, tablesBy, addedBy, takenBy, threadsAfter, netAfter, performed, Check, verdict, judge}
 use Rattle.nets.specs.Accounts.{netLeft}
-use Rattle.nets.specs.Answers.{answerOf}
-use Rattle.step_effect.specs.Contracts.{isDoing, putsRows}
+use Rattle.nets.specs.Answers.{isDoing, answerOf}
+use Rattle.step_effect.specs.Contracts.{putsRows}
 use Rattle.step_meets.specs.Contracts.{laterChecks, outcomeAt}
+use Rattle.step_meets.proofs.EffectTies.{puts-tables}
 use Rattle.nets.proofs.TableLaws.{change-same}
 use Rattle.nets.proofs.TablePlaces.{placeAt, place-below, table-at, change-place, remove-place}
 
@@ -49,22 +50,11 @@ abbrev pub tablePlace : Scene → ℕ
 tablePlace c = placeAt (site c) (c .node .name) (c .net .tables)
 
 -- the rows of the step's table give way, all else stays
-pub puts-tables :
+pub tables-put :
     (k : Kind) (c : Scene) (d : Table) → T (putsRows k) → T (isSome (table c)) →
     tablesBy k c ≡ set (c .net .tables) (tablePlace c) (rowsPut (site c) (c .node .name) (c .net .tables) (tablesBy k c) (getD (c .net .tables) (tablePlace c) d))
-unfolding tablesBy table
-puts-tables (acting insert) c d s h = change-put (site c) (c .node .name) _ (c .net .tables) d h
-puts-tables (acting insertTable) c d s h = change-put (site c) (c .node .name) _ (c .net .tables) d h
-puts-tables (acting delete) c d s h = change-put (site c) (c .node .name) _ (c .net .tables) d h
-puts-tables (acting update) c d s h = change-put (site c) (c .node .name) _ (c .net .tables) d h
-puts-tables (acting create) c d s h = absurd s
-puts-tables (acting drop) c d s h = absurd s
-puts-tables (other select) c d s h = absurd s
-puts-tables (other selectRelation) c d s h = absurd s
-puts-tables (other aggregate) c d s h = absurd s
-puts-tables (other sequential) c d s h = absurd s
-puts-tables (other parallel) c d s h = absurd s
-puts-tables (other badKind) c d s h = absurd s
+unfolding table
+tables-put k c d s h = rw (puts-tables k c s) (change-put (site c) (c .node .name) (rowsBy k (parts c)) (c .net .tables) d h)
 
 pub drop-tables : (c : Scene) → tablesBy (acting drop) c ≡ removeAt (tablePlace c) (c .net .tables)
 unfolding tablesBy
@@ -78,15 +68,15 @@ net-after c = refl
 
 -- a judged outcome that is done is the one judged
 module _ (net : Net) where
-  judge-done : (ks : List Check) (a t : ℕ) (m : Net) → T (isDoing (answerOf (judge ks (done a t m)))) → netLeft net (judge ks (done a t m)) ≡ m
+  judge-done : (ks : List Check) (a t : ℕ) (m : Net) → T (isDoing (answerOf (judge refused ks (done a t m)))) → netLeft net (judge refused ks (done a t m)) ≡ m
   unfolding judge
   judge-done [] a t m h = refl
   judge-done (k ∷ ks) a t m h = go (k .passes) h (judge-done ks a t m)
     where
-      go : (b : Bool) → T (isDoing (answerOf (verdict b (k .number) (k .values) (judge ks (done a t m))))) → (T (isDoing (answerOf (judge ks (done a t m)))) → netLeft net (judge ks (done a t m)) ≡ m) → netLeft net (verdict b (k .number) (k .values) (judge ks (done a t m))) ≡ m
+      go : (b : Bool) → T (isDoing (answerOf (verdict refused b (k .number) (k .values) (judge refused ks (done a t m))))) → (T (isDoing (answerOf (judge refused ks (done a t m)))) → netLeft net (judge refused ks (done a t m)) ≡ m) → netLeft net (verdict refused b (k .number) (k .values) (judge refused ks (done a t m))) ≡ m
       go true h ih = ih h
       go false h ih = absurd h
 
   pub done-left : (c : Scene) → T (isDoing (answerOf (outcomeAt c))) → netLeft net (outcomeAt c) ≡ netAfter c
   unfolding performed
-  done-left c h = judge-done (laterChecks c) (addedBy (c .node .kind) c) (takenBy (c .node .kind) c) (netAfter c) h
+  done-left c h = judge-done (laterChecks c) (addedBy (c .node .kind) (parts c)) (takenBy (c .node .kind) (parts c)) (netAfter c) h

@@ -29,7 +29,7 @@ use Rattle.step_effect.specs.Contracts.{isStep, putsRows}
 use Rattle.step_thread.specs.Contracts.{standing, forksOf}
 use Rattle.step_thread.proofs.ThreadLaws.{standing-gone, standing-there, settle-none, settle-one}
 use Rattle.step_effect.specs.TableContracts.{withContent, putContent, tablesWith}
-use Rattle.step_effect.proofs.KindTies.{with-create, with-drop}
+use Rattle.step_effect.proofs.KindTies.{puts-needs, with-create, with-drop}
 use Rattle.nets.proofs.KindLaws.{at-one}
 use Rattle.values.proofs.RemoveLaws.{Closing, closing-ends}
 
@@ -62,20 +62,6 @@ binds-step (other aggregate) h = absurd h
 binds-step (other sequential) h = absurd h
 binds-step (other parallel) h = absurd h
 binds-step (other badKind) h = absurd h
-
-puts-needs : (k : Kind) → T (putsRows k) → T (needsTable k)
-puts-needs (acting insert) h = tt
-puts-needs (acting insertTable) h = tt
-puts-needs (acting delete) h = tt
-puts-needs (acting update) h = tt
-puts-needs (acting create) h = absurd h
-puts-needs (acting drop) h = absurd h
-puts-needs (other select) h = absurd h
-puts-needs (other selectRelation) h = absurd h
-puts-needs (other aggregate) h = absurd h
-puts-needs (other sequential) h = absurd h
-puts-needs (other parallel) h = absurd h
-puts-needs (other badKind) h = absurd h
 
 abbrev isDrop : Kind → Bool
 isDrop k = eqb (code k) 24

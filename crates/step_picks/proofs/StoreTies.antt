@@ -1,8 +1,8 @@
 -- What a step stores is the net after it, and what it answers is the rule's answer. Assumes nothing.
 use Prim.Native.Nat.{ℕ, _<_, _≤_}
 use mathlib.Core.Path.{_≡_, refl, ap, ap₂, sym, subst, _∙_}
-use mathlib.Core.Bool.{Bool, true, false}
-use mathlib.Core.List.{List, [], _∷_, _++_}
+use mathlib.Core.Bool.{Bool}
+use mathlib.Core.List.{List, [], _++_}
 use lib.Dec.{T, ltb→lt}
 use lib.ListN.{length}
 use Rattle.values.specs.declared.Site.{Site}
@@ -26,23 +26,22 @@ use Rattle.nets.specs.declared.Table.{Table}
 use Rattle.nets.specs.declared.Thread.{Thread}
 use Rattle.nets.specs.declared.Net.{Net}
 use Rattle.nets.specs.Nets as M
-use Rattle.nets.specs.Nets.{Kind, acting, other, insert, insertTable, delete, update, create, drop, select, selectRelation, aggregate, sequential, parallel, badKind, needsTable, isCreate, Outcome}
+use Rattle.nets.specs.Nets.{Kind, acting, other, insert, insertTable, delete, update, create, drop, select, selectRelation, aggregate, sequential, parallel, badKind, needsTable, isCreate}
 use Rattle.nets.specs.Tables.{tableAt, rowsOf, columnsOf}
 use Rattle.nets.specs.Sound.{sound}
-use Rattle.nets.specs.Scenes.{Scene, sceneOf, site, table}
-use Rattle.nets.specs.Steps.{check14, roomBy, check20, settle, tablesBy, threadsAfter, performed, Check, verdict, judge, step}
+use Rattle.nets.specs.Scenes.{Scene, sceneOf, Parts, parts, site, table}
+use Rattle.nets.specs.Steps.{check14, roomBy, check20, settle, tablesBy, threadsAfter, performed, checks, step}
 use Rattle.nets.specs.Accounts.{netLeft}
 use Rattle.nets.specs.View.{noTable, noThread, kindAt, tableOf, nodeOf, threadOf, tablesOf, threadsOf, view}
-use Rattle.nets.specs.Answers.{Said, refusing, numberOf, answerOf, saidOf, isRefused, StepIs}
-use Rattle.step_effect.specs.Contracts.{isDoing, putsRows}
+use Rattle.nets.specs.Answers.{Said, refusing, isDoing, numberOf, answerOf, saidOf, isRefused, StepIs}
+use Rattle.step_effect.specs.Contracts.{putsRows}
 use Rattle.step_thread.specs.Contracts.{standing, forksOf}
 use Rattle.step_meets.specs.Contracts.{laterChecks, outcomeAt, ChangeIs}
 use Rattle.step_effect.specs.TableContracts.{putContent, tablesWith}
-use Rattle.nets.proofs.StepLaws.{Passed}
-use Rattle.nets.proofs.AnswerLaws.{refuses-11}
-use Rattle.nets.proofs.RoundLaws.{given}
+use Rattle.nets.proofs.StepLaws.{Passed, given}
+use Rattle.nets.proofs.AnswerLaws.{judge-said, said-passed, refuses-11}
 use Rattle.nets.proofs.TablePlaces.{placeAt, place-below}
-use Rattle.step_picks.proofs.ListTies.{tablePlace, puts-tables, drop-tables, net-after, done-left}
+use Rattle.step_picks.proofs.ListTies.{tablePlace, tables-put, drop-tables, net-after, done-left}
 use Rattle.step_picks.proofs.SceneTies.{few-tables, few-threads, step-is}
 use Rattle.step_picks.proofs.ReadTies.{nodeRead, Read, node-read, site-read}
 
@@ -62,29 +61,20 @@ change-refused net p ok there is says = ap answerOf (step-is net p ok there) ∙
 
 -- ── a done step passed the checks ──
 
-done-passed : (ks : List Check) (o : Outcome) → T (isDoing (answerOf (judge ks o))) → Passed ks
-unfolding judge
-done-passed [] o h = tt
-done-passed (k ∷ ks) o h = go (k .passes) h (done-passed ks o)
-  where
-    go : (b : Bool) → T (isDoing (answerOf (verdict b (k .number) (k .values) (judge ks o)))) → (T (isDoing (answerOf (judge ks o))) → Passed ks) → T b × Passed ks
-    go true h ih = (tt, ih h)
-    go false h ih = absurd h
-
 -- a create has room
-room-create : (k : Kind) (c : Scene) → T (roomBy k c) → T (isCreate k) → length (c .net .tables) < 8
-room-create (acting create) c h k = ltb→lt (length (c .net .tables)) 8 h
-room-create (acting insert) c h k = absurd k
-room-create (acting insertTable) c h k = absurd k
-room-create (acting delete) c h k = absurd k
-room-create (acting update) c h k = absurd k
-room-create (acting drop) c h k = absurd k
-room-create (other select) c h k = absurd k
-room-create (other selectRelation) c h k = absurd k
-room-create (other aggregate) c h k = absurd k
-room-create (other sequential) c h k = absurd k
-room-create (other parallel) c h k = absurd k
-room-create (other badKind) c h k = absurd k
+room-create : (k : Kind) (p : Parts) (n : ℕ) → T (roomBy k p n) → T (isCreate k) → n < 8
+room-create (acting create) p n h k = ltb→lt n 8 h
+room-create (acting insert) p n h k = absurd k
+room-create (acting insertTable) p n h k = absurd k
+room-create (acting delete) p n h k = absurd k
+room-create (acting update) p n h k = absurd k
+room-create (acting drop) p n h k = absurd k
+room-create (other select) p n h k = absurd k
+room-create (other selectRelation) p n h k = absurd k
+room-create (other aggregate) p n h k = absurd k
+room-create (other sequential) p n h k = absurd k
+room-create (other parallel) p n h k = absurd k
+room-create (other badKind) p n h k = absurd k
 
 -- ── its tables ──
 
@@ -94,7 +84,7 @@ module _ (k : Kind) (c : Scene) (q : Relation) (e : q ≡ record { columns = col
   unfolding table
   put-as h t =
       ap (λ (r : Relation). putContent (tablePlace c) r (c .net .tables)) e
-      ∙ sym (puts-tables k c (tableOf noTable) h t)
+      ∙ sym (tables-put k c (tableOf noTable) h t)
 
 tables-as :
     (k : Kind) (c : Scene) (q : Relation) →
@@ -128,10 +118,12 @@ module _
     done-at = subst (λ (x : Said). T (isDoing x)) (is .answer) is-doing
 
     passed : Passed (laterChecks (sceneOf (view net) p))
-    passed = done-passed (laterChecks (sceneOf (view net) p)) (performed (sceneOf (view net) p)) done-at
+    passed =
+        said-passed (laterChecks (sceneOf (view net) p)) (answerOf (performed (sceneOf (view net) p)))
+        (subst (λ (x : Said). T (isDoing x)) (judge-said (laterChecks (sceneOf (view net) p)) (performed (sceneOf (view net) p))) done-at)
 
     table-needed : T (needsTable (sceneOf (view net) p .node .kind)) → T (isSome (table (sceneOf (view net) p)))
-    unfolding check14
+    unfolding check14 checks
     table-needed n = given (needsTable (sceneOf (view net) p .node .kind)) (isSome (table (sceneOf (view net) p))) n (passed .1 .1 .0)
 
     place-as : tablePlace (sceneOf (view net) p) ≡ at
@@ -142,7 +134,7 @@ module _
 
     -- the table that the step needs is there, and a new one has room
     pub tables-ready : (net .tablecount ≤ 8) × (T (needsTable (kindAt (nodeRead net k .kind))) → at < net .tablecount) × (T (isCreate (kindAt (nodeRead net k .kind))) → net .tablecount < 8)
-    unfolding table check20 sceneOf view
+    unfolding table check20 checks sceneOf view
     tables-ready = (few-tables net ok, below, room)
       where
         below : T (needsTable (kindAt (nodeRead net k .kind))) → at < net .tablecount
@@ -154,7 +146,7 @@ module _
         room : T (isCreate (kindAt (nodeRead net k .kind))) → net .tablecount < 8
         room n =
             subst (λ (i : ℕ). i < 8) (length-firsts tableOf noTable (net .tablecount) (net .tables))
-            (room-create (sceneOf (view net) p .node .kind) (sceneOf (view net) p) (and-l (roomBy (sceneOf (view net) p .node .kind) (sceneOf (view net) p)) _ (passed .1 .1 .1 .1 .1 .1 .1 .1 .0))
+            (room-create (sceneOf (view net) p .node .kind) (parts (sceneOf (view net) p)) (length (view net .tables)) (and-l (roomBy (sceneOf (view net) p .node .kind) (parts (sceneOf (view net) p)) (length (view net .tables))) _ (passed .1 .1 .1 .1 .1 .1 .1 .1 .0))
             (subst (λ (m : M.Node). T (isCreate (m .kind))) (sym (node-read net p ok there r)) n))
 
     -- a fork has room, and the thread that forks goes on

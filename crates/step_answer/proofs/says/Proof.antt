@@ -1,33 +1,26 @@
 -- `step_answer::says` meets its contract: arm by arm. Assumes nothing.
-use mathlib.Core.Path.{_≡_, refl, sym, ap}
+use mathlib.Core.Path.{refl, sym, ap, _∙_}
 use native.Mathlib.Omega.{arith}
-use Rattle.rows.specs.View.{relationOf}
-use Rattle.nets.specs.Answers.{doing}
 use Rattle.nets.specs.View.{kindAt}
 use Rattle.step_effect.specs.Contracts.{partsOf}
-use Rattle.step_effect.proofs.ByteLaws.{said-at, select-said-at, reads-none, select-byte, step-byte}
-use Rattle.step_effect.proofs.JudgeLaws.{rows-count, delete-said, update-said, aggregate-said, select-said}
+use Rattle.step_effect.proofs.AnswerForms.{create-form}
+use Rattle.step_effect.proofs.ByteLaws.{reads-none, select-byte, step-byte}
+use Rattle.step_effect.proofs.JudgeLaws.{delete-said, update-said, aggregate-said, select-said, drop-said}
 use borrow.Author.Needs.{needs}
 use Rattle.step_answer.proofs.says.Statement.{statement}
 use Rattle.step_answer.proofs.says.Tie as tie
 
 returns : tie.Need-returns
-unfolding kindAt
 returns c =
     let m = c .before in
-    let s = m .before .before .before .before .before .before in
-    let a = s .args in
-    said-at 16 (m .match .keys1) (partsOf (a .node) (a .content) (a .source) (a .vars) (a .held) (a .tables))
-    (c .said-insert .ensures)
+    let a = m .before .before .before .before .before .before .args in
+    c .said-insert .ensures (m .match .keys1) (a .source) (a .held) (a .tables)
 
 returns-2 : tie.Need-returns-2
-unfolding kindAt
 returns-2 c =
     let m = c .before in
-    let s = m .before .before .before .before .before .before in
-    let a = s .args in
-    said-at 17 (m .match .keys2) (partsOf (a .node) (a .content) (a .source) (a .vars) (a .held) (a .tables))
-    (c .said-append .ensures)
+    let a = m .before .before .before .before .before .before .args in
+    c .said-append .ensures (m .match .keys2) (a .held) (a .tables)
 
 returns-3 : tie.Need-returns-3
 unfolding kindAt
@@ -35,8 +28,9 @@ returns-3 c =
     let m = c .before .before .before in
     let s = m .before .before .before .before .before .before in
     let a = s .args in
-    said-at 18 (m .match .keys3) (partsOf (a .node) (a .content) (a .source) (a .vars) (a .held) (a .tables))
-    (delete-said (a .node) (a .source) (a .vars) (s .pre .2) (s .pre .0 .own (reads-none 18 (m .match .keys3) refl)) (a .held) (a .tables) (m .match .keys3) (c .before .before .number-of .ensures) (c .before .checked .result) (c .checked2 .result) (c .before .checked .ensures) (c .checked2 .ensures))
+    let k = m .match .keys3 in
+    delete-said (a .node) (a .source) (a .vars) (s .pre .2) (a .content) (a .held) (a .tables) (s .pre .0 .own (reads-none 18 k refl)) k
+    (c .before .before .number-of .ensures) (c .before .checked .result) (c .checked2 .result) (c .before .checked .ensures) (c .checked2 .ensures)
 
 returns-4 : tie.Need-returns-4
 unfolding kindAt
@@ -44,26 +38,24 @@ returns-4 c =
     let m = c .before .before in
     let s = m .before .before .before .before .before .before in
     let a = s .args in
-    said-at 21 (m .match .keys4) (partsOf (a .node) (a .content) (a .source) (a .vars) (a .held) (a .tables))
-    (update-said (a .node) (a .source) (a .vars) (s .pre .2) (s .pre .0 .own (reads-none 21 (m .match .keys4) refl)) (a .held) (a .tables) (m .match .keys4) (c .before .number-of2 .ensures) (c .checked3 .result) (c .checked3 .ensures))
+    let k = m .match .keys4 in
+    update-said (a .node) (a .source) (a .vars) (s .pre .2) (a .content) (a .held) (a .tables) (s .pre .0 .own (reads-none 21 k refl)) k
+    (c .before .number-of2 .ensures) (c .checked3 .result) (c .checked3 .ensures)
 
 returns-5 : tie.Need-returns-5
-unfolding kindAt
 returns-5 c =
     let m = c .before .before .before .before in
     let s = m .before .before .before .before .before .before in
     let a = s .args in
-    said-at 22 (m .match .keys5) (partsOf (a .node) (a .content) (a .source) (a .vars) (a .held) (a .tables))
-    (aggregate-said (a .node) (a .source) (a .vars) (s .pre .2) (s .pre .0 .own (reads-none 22 (m .match .keys5) refl)) (a .held) (a .tables) (m .match .keys5) (c .before .before .before .column-fits .ensures) (c .before .before .takes .ensures) (c .before .checked4 .result) (c .checked5 .result) (c .before .checked4 .ensures) (c .checked5 .ensures))
+    aggregate-said (a .node) (a .source) (a .vars) (s .pre .2) (a .content) (a .held) (a .tables) (m .match .keys5)
+    (c .before .before .before .column-fits .ensures) (c .before .before .takes .ensures) (c .before .checked4 .result) (c .checked5 .result) (c .before .checked4 .ensures) (c .checked5 .ensures)
 
 returns-6 : tie.Need-returns-6
 unfolding kindAt
 returns-6 c =
     let m = c .before in
-    let s = m .before .before .before .before .before .before in
-    let a = s .args in
-    said-at 23 (m .match .keys6) (partsOf (a .node) (a .content) (a .source) (a .vars) (a .held) (a .tables))
-    (c .checked6 .ensures)
+    let a = m .before .before .before .before .before .before .args in
+    c .checked6 .ensures ∙ sym (create-form (partsOf (a .node) (a .content) (a .source) (a .vars)) (a .held) (a .tables) (ap kindAt (m .match .keys6)))
 
 returns-7 : tie.Need-returns-7
 returns-7 c =
@@ -71,31 +63,26 @@ returns-7 c =
     let s = m .before .before .before .before .before .before in
     let a = s .args in
     let x = m .match .rest .0 .0 .0 in
-    select-said-at (partsOf (a .node) (a .content) (a .source) (a .vars) (a .held) (a .tables))
+    select-said (a .node) (a .source) (a .vars) (s .pre .2) (a .content) (a .held) (a .tables)
     (select-byte (a .node .kind) (x .0 .0 .1) (x .0 .1) (x .1) (c .before .before .before .if1 .left) (c .before .before .if2 .taken))
-    (select-said (a .node) (a .source) (a .vars) (s .pre .2) (relationOf (a .content)) (a .held) (a .tables) (c .before .checked7 .result) (c .checked8 .result) (c .before .checked7 .ensures) (c .checked8 .ensures))
+    (c .before .checked7 .result) (c .checked8 .result) (c .before .checked7 .ensures) (c .checked8 .ensures)
 
 returns-8 : tie.Need-returns-8
-unfolding kindAt
 returns-8 c =
     let m = c .before in
     let s = m .before .before .before .before .before .before in
     let a = s .args in
-    let x = m .match .rest in
     let b = step-byte (a .node .kind) (s .pre .1) in
-    let last : a .node .kind ≡ 24 = omega (arith, b .0, b .1, c .if1 .taken) in
-    said-at 24 last (partsOf (a .node) (a .content) (a .source) (a .vars) (a .held) (a .tables)) (ap (doing 0) (sym (rows-count (a .content))))
+    drop-said (a .node) (a .content) (a .source) (a .vars) (a .held) (a .tables) (omega (arith, b .0, b .1, c .if1 .taken))
 
 returns-9 : tie.Need-returns-9
-unfolding kindAt
 returns-9 c =
     let m = c .before .before in
     let s = m .before .before .before .before .before .before in
     let a = s .args in
     let x = m .match .rest in
     let b = step-byte (a .node .kind) (s .pre .1) in
-    let last : a .node .kind ≡ 24 = omega (arith, b .0, b .1, c .if2 .left, x .1, x .0 .1, x .0 .0 .1) in
-    said-at 24 last (partsOf (a .node) (a .content) (a .source) (a .vars) (a .held) (a .tables)) (ap (doing 0) (sym (rows-count (a .content))))
+    drop-said (a .node) (a .content) (a .source) (a .vars) (a .held) (a .tables) (omega (arith, b .0, b .1, c .if2 .left, x .1, x .0 .1, x .0 .0 .1))
 
 pub says-spec : {M : Type 1} → statement M
 says-spec =

@@ -3,10 +3,8 @@ use mathlib.Core.Path.{_≡_, ap, sym, subst, _∙_}
 use lib.Dec.{T}
 use borrow.Author.Needs.{needs}
 use Rattle.values.specs.Operands.{varsOf}
-use Rattle.nets.specs.Answers.{Said, saidOf}
-use Rattle.nets.specs.View.{kindAt}
-use Rattle.step_effect.specs.Effects.{saidBy}
-use Rattle.step_effect.specs.Contracts.{isDoing, partsOf, Doing, ActReady}
+use Rattle.nets.specs.Answers.{Said, isDoing, stepSaid, saidOf}
+use Rattle.step_effect.specs.Contracts.{partsOf, Doing, ActReady}
 use Rattle.step_meets.specs.Situations.{Situation, situation, Rest, whole}
 use Rattle.step_meets.proofs.SituationLaws.{source-met, known-12, act-ready}
 use Rattle.step_meets.proofs.DecideLaws.{never-done, refused-at, done-parts, act-answers, act-change}
@@ -61,7 +59,7 @@ returns-2 c =
     let s = e .before in
     let a = v .before .before .answer2 .given in
     let o = c .onward in
-    let said : saidOf (o .result .answer) ≡ saidBy (kindAt (s .args .node .kind)) (partsOf (s .args .node) (s .args .content) (s .args .source) (s .args .vars) (s .args .s .held) (s .args .s .tables)) =
+    let said : saidOf (o .result .answer) ≡ stepSaid (partsOf (s .args .node) (s .args .content) (s .args .source) (s .args .vars)) (s .args .s .held) (s .args .s .tables) =
     ap saidOf (o .ensures .0 ∙ sym (a .1)) ∙ e .says .ensures in (
       λ w fine known source n m thirteen fourteen fifteen.
           record {

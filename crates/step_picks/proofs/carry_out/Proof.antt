@@ -28,9 +28,9 @@ use Rattle.nets.specs.Nets as M
 use Rattle.nets.specs.Nets.{Entry, bindsRelation, needsTable, isCreate, toRun}
 use Rattle.nets.specs.Sound.{sound}
 use Rattle.nets.specs.Scenes.{sceneOf, top}
-use Rattle.nets.specs.Steps.{holds, settle}
+use Rattle.nets.specs.Steps.{holds, rowsBy, boundBy, settle}
 use Rattle.nets.specs.Accounts.{answers}
-use Rattle.nets.specs.Answers.{saidOf}
+use Rattle.nets.specs.Answers.{isDoing, saidOf}
 use Rattle.nets.specs.View.{noContent, noFrame, entryOf, noTable, noThread, noPick, kindAt, nodesOf, stackOf, variableOf, nodeOf, bindingsOf, threadOf, tablesOf, threadsOf, view}
 use Rattle.step_bytes.specs.PickBytes.{picksIn}
 use Rattle.step_bytes.proofs.PickLaws.{picks-length}
@@ -38,8 +38,7 @@ use Rattle.step_bytes.specs.AnswerBytes.{answerBytes}
 use Rattle.step_bytes.proofs.AnswerLaws.{putSoFar, put-none, put-more, put-length, put-over}
 use Rattle.step_meets.specs.Situations.{Situation, Rest, moved}
 use Rattle.row_change.specs.Contracts.{Holds}
-use Rattle.step_effect.specs.Effects.{contentBy, boundBy}
-use Rattle.step_effect.specs.Contracts.{isDoing, putsRows, ActReady}
+use Rattle.step_effect.specs.Contracts.{putsRows, ActReady}
 use Rattle.step_thread.specs.Contracts.{Stacked, standing, forksOf}
 use Rattle.step_meets.specs.Contracts.{Fine, Sourced, Meets, DecidedIs, partsIn, Made, changed, ChangeIs}
 use Rattle.step_meets.proofs.SituationLaws.{fine-read, fine-bound, sourced, judge-ready, act-ready}
@@ -627,7 +626,7 @@ bound-is j =
 
 -- what a kind that puts rows leaves of its table
 abbrev Puts : Moved → Relation → Type 0
-Puts j q = T (putsRows (kindAt (situationBy j .node .kind))) → Holds q (contentBy (kindAt (situationBy j .node .kind)) (partsIn (situationBy j) (sourceOf (decidesBy j))) .columns) (contentBy (kindAt (situationBy j .node .kind)) (partsIn (situationBy j) (sourceOf (decidesBy j))) .rows)
+Puts j q = T (putsRows (kindAt (situationBy j .node .kind))) → Holds q (relationOf (situationBy j .content) .columns) (rowsBy (kindAt (situationBy j .node .kind)) (partsIn (situationBy j) (sourceOf (decidesBy j))) (relationOf (situationBy j .content) .rows))
 
 -- all that is made, with this content, and this thread as the fork if there is one
 abbrev made :

@@ -1,25 +1,19 @@
 -- `step_effect::effects::vars_after` meets its contract: only an aggregate binds a variable. Assumes nothing.
-use mathlib.Core.Path.{refl}
-use mathlib.Core.Bool.{false}
-use Rattle.nets.specs.View.{kindAt}
 use Rattle.step_effect.specs.Contracts.{partsOf}
-use Rattle.step_effect.proofs.ByteLaws.{vars-at, doing-at, reads-none, other-vars}
+use Rattle.step_effect.proofs.ByteLaws.{other-vars}
 use Rattle.step_effect.proofs.JudgeLaws.{aggregate-vars}
 use borrow.Author.Needs.{needs}
 use Rattle.step_effect.proofs.effects.vars_after.Statement.{statement}
 use Rattle.step_effect.proofs.effects.vars_after.Tie as tie
 
 returns : tie.Need-returns
-unfolding kindAt
 returns c =
-    let k = c .before .if1 .taken in
     let s = c .before .before in
     let a = s .args in
-    vars-at 22 k (partsOf (a .node) (a .content) (a .source) (a .vars) false 0)
-    (aggregate-vars (a .node) (a .source) (a .vars) (s .pre .2) (s .pre .0 .own (reads-none 22 k refl)) (s .pre .0 .source) k (doing-at 22 k (partsOf (a .node) (a .content) (a .source) (a .vars) false 0) (s .pre .3)) (c .bind-to .result) (c .bind-to .ensures))
+    aggregate-vars (a .node) (a .source) (a .vars) (s .pre .2) (a .content) (s .pre .3) (c .before .if1 .taken) (c .bind-to .result) (c .bind-to .ensures)
 
 returns-2 : tie.Need-returns-2
-returns-2 c = let a = c .before .args in other-vars (a .node .kind) (c .if1 .left) (partsOf (a .node) (a .content) (a .source) (a .vars) false 0)
+returns-2 c = let a = c .before .args in other-vars (a .node .kind) (c .if1 .left) (partsOf (a .node) (a .content) (a .source) (a .vars))
 
 pub vars-after-spec : {M : Type 1} → statement M
 vars-after-spec = tie.close (tie.spec (λ c κs. search needs) returns returns-2)

@@ -1,7 +1,7 @@
 -- `step_effect::saying::checked` meets its contract: as the check says. Assumes nothing.
 use mathlib.Core.Path.{sym, ap}
 use Rattle.nets.specs.Answers.{numberOf, saidOf}
-use Rattle.step_effect.specs.Effects.{passing}
+use Rattle.step_effect.proofs.AnswerForms.{passing}
 use borrow.Author.Needs.{needs}
 use Rattle.step_effect.proofs.saying.checked.Statement.{statement}
 use Rattle.step_effect.proofs.saying.checked.Tie as tie

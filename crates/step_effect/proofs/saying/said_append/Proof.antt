@@ -5,10 +5,10 @@ use Rattle.step_effect.proofs.saying.said_append.Statement.{statement}
 use Rattle.step_effect.proofs.saying.said_append.Tie as tie
 
 returns : tie.Need-returns
-returns c =
+returns c k held tables =
     let s = c .before .before .before .before .before .before in
-    append-said (s .args .node) (s .args .content) (s .args .source) (s .args .vars) (c .before .before .before .same-columns .ensures)
-    (c .before .checked .result) (c .checked2 .result) (c .before .checked .ensures) (c .checked2 .ensures)
+    append-said (s .args .node) (s .args .content) (s .args .source) (s .args .vars) k (c .before .before .before .same-columns .ensures)
+    (c .before .checked .result) (c .checked2 .result) (c .before .checked .ensures) (c .checked2 .ensures) held tables
 
 pub said-append-spec : {M : Type 1} → statement M
 said-append-spec =

@@ -5,11 +5,11 @@ use Rattle.step_effect.proofs.saying.said_insert.Statement.{statement}
 use Rattle.step_effect.proofs.saying.said_insert.Tie as tie
 
 returns : tie.Need-returns
-returns c =
+returns c k q held tables =
     let s = c .before .before .before .before .before .before .before in
     let f = c .before .before .before in
-    insert-said (s .args .node) (s .args .content) (s .args .vars) (f .before .draft-of .result) (f .before .draft-of .ensures .0) (f .fits-columns .ensures)
-    (c .before .checked .result) (c .checked2 .result) (c .before .checked .ensures) (c .checked2 .ensures)
+    insert-said (s .args .node) (s .args .content) q (s .args .vars) (f .before .draft-of .result) (f .before .draft-of .ensures .0) k (f .fits-columns .ensures)
+    (c .before .checked .result) (c .checked2 .result) (c .before .checked .ensures) (c .checked2 .ensures) held tables
 
 pub said-insert-spec : {M : Type 1} → statement M
 said-insert-spec =
