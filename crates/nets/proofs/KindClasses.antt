@@ -55,6 +55,10 @@ alike false false h = refl
 pub class-same : (p q : Kind → Bool) → T (all (λ k. Bool·beq (p k) (q k)) everyKind) → (k : Kind) → p k ≡ q k
 class-same p q h k = alike (p k) (q k) (every-passes (λ j. Bool·beq (p j) (q j)) h k)
 
+-- a test that answers the same for each kind of a class
+pub in-class : (p : Kind → Bool) (k : Kind) → T (p k) → (q : Kind → Bool) (r : Bool) → T (all (λ j. not (p j) || Bool·beq (q j) r) everyKind) → q k ≡ r
+in-class p k h q r t = alike (q k) r (class-in p (λ j. Bool·beq (q j) r) t k h)
+
 -- `P` of a kind in a class, from `P` of those that are in it
 pub of-class : (P : Kind → Type 0) (p : Kind → Bool) → Each P (filter p everyKind) → (k : Kind) → T (p k) → P k
 of-class P p h = every (λ k. T (p k) → P k) (spread everyKind h)
