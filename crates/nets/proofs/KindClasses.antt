@@ -13,6 +13,11 @@ abbrev pub Each : (Kind → Type 0) → List Kind → Type 0
 Each P [] = Unit
 Each P (k ∷ ks) = P k × Each P ks
 
+-- for one kind after another, with `tt` at the end
+infixr 20 _▸_
+abbrev pub _▸_ : {A B : Type 0} → A → B → A × B
+a ▸ b = (a, b)
+
 -- the list has every kind
 pub every : (P : Kind → Type 0) → Each P everyKind → (k : Kind) → P k
 every P h (other badKind) = h .0

@@ -1,6 +1,6 @@
 // Classes of node kinds, by the kind byte.
 ghost use mathlib.Core.Path.{_≡_};
-ghost use Rattle.nets.specs.Nets.{hasPlace, needsTable, hasTest, hasTuple, isSelect, readsRelation, bindsRelation, isLoop, isCreate, isAggregate, isParallel};
+ghost use Rattle.nets.specs.Nets.{hasPlace, needsTable, hasTest, hasTuple, isSelect, readsRelation, bindsRelation, isLoop, isUpdate, isAggregate, isCreate, isParallel};
 ghost use Rattle.nets.specs.View.{kindAt};
 
 // The step has an L and a name.
@@ -77,6 +77,15 @@ pub fn is_loop(kind: u8) -> bool
 {
     match kind {
         25 | 26 => true,
+        _ => false,
+    }
+}
+
+pub fn is_update(kind: u8) -> bool
+    ensures { λ r. ⌜ r ≡ isUpdate (kindAt kind) ⌝ }
+{
+    match kind {
+        21 => true,
         _ => false,
     }
 }

@@ -57,7 +57,7 @@ returns-4 c =
     let s = m .before .before in
     let a = s .args in
     let x = m .match .rest in
-    let k = puts-byte (a .node .kind) (s .pre .1) (s .pre .3) (x .0 .0 .1) (x .0 .1) (x .1) in
+    let k = puts-byte (a .node .kind) (s .pre .3) (x .0 .0 .1) (x .0 .1) (x .1) in
     content-at 18 k (partsOf (a .node) (a .content) (a .source) (a .vars) false 0)
     (delete-content (a .node) (a .source) (a .vars) (s .pre .2) (s .pre .0 .own (reads-none 18 k refl)) (s .pre .0 .source) k (doing-at 18 k (partsOf (a .node) (a .content) (a .source) (a .vars) false 0) (s .pre .4)) (c .sifted .ensures))
 

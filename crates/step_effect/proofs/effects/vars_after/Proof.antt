@@ -1,9 +1,9 @@
 -- `step_effect::effects::vars_after` meets its contract: only an aggregate binds a variable. Assumes nothing.
-use mathlib.Core.Path.{refl}
+use mathlib.Core.Path.{refl, sym, _∙_}
 use mathlib.Core.Bool.{false}
 use Rattle.nets.specs.View.{kindAt}
 use Rattle.step_effect.specs.Contracts.{partsOf}
-use Rattle.step_effect.proofs.ByteLaws.{vars-at, doing-at, reads-none, other-vars}
+use Rattle.step_effect.proofs.ByteLaws.{vars-at, doing-at, reads-none, aggregate-byte, other-vars}
 use Rattle.step_effect.proofs.JudgeLaws.{aggregate-vars}
 use borrow.Author.Needs.{needs}
 use Rattle.step_effect.proofs.effects.vars_after.Statement.{statement}
@@ -12,14 +12,16 @@ use Rattle.step_effect.proofs.effects.vars_after.Tie as tie
 returns : tie.Need-returns
 unfolding kindAt
 returns c =
-    let k = c .before .if1 .taken in
-    let s = c .before .before in
+    let s = c .before .before .before in
     let a = s .args in
+    let k = aggregate-byte (a .node .kind) (sym (c .before .before .is-aggregate .ensures) ∙ c .before .if1 .taken) in
     vars-at 22 k (partsOf (a .node) (a .content) (a .source) (a .vars) false 0)
     (aggregate-vars (a .node) (a .source) (a .vars) (s .pre .2) (s .pre .0 .own (reads-none 22 k refl)) (s .pre .0 .source) k (doing-at 22 k (partsOf (a .node) (a .content) (a .source) (a .vars) false 0) (s .pre .3)) (c .bind-to .result) (c .bind-to .ensures))
 
 returns-2 : tie.Need-returns-2
-returns-2 c = let a = c .before .args in other-vars (a .node .kind) (c .if1 .left) (partsOf (a .node) (a .content) (a .source) (a .vars) false 0)
+returns-2 c =
+    let a = c .before .before .args in
+    other-vars (kindAt (a .node .kind)) (sym (c .before .is-aggregate .ensures) ∙ c .if1 .left) (partsOf (a .node) (a .content) (a .source) (a .vars) false 0)
 
 pub vars-after-spec : {M : Type 1} → statement M
-vars-after-spec = tie.close (tie.spec (λ c κs. search needs) returns returns-2)
+vars-after-spec = tie.close (tie.spec (λ c κs. search needs) (λ c κs. search needs) returns returns-2)
