@@ -4,7 +4,7 @@ use mathlib.Core.Path.{_≡_, refl, ap, ap₂, sym, subst, _∙_}
 use mathlib.Core.Bool.{Bool, true, false, not, cond, _&&_, _||_}
 use mathlib.Core.List.{List, [], _∷_, _++_, map, append-nil}
 use mathlib.Core.Option.{some}
-use lib.Dec.{T, eqb, ltb}
+use lib.Dec.{T, T-not, eqb, ltb}
 use lib.ListN.{length, getD}
 use borrow.Author.Tests.{ltb-true}
 use Rattle.values.specs.declared.Operand.{Operand}
@@ -24,7 +24,7 @@ use Rattle.step_thread.specs.declared.Turn.the-variants.{Over, Opened, Stopped}
 use Rattle.step_meets.specs.declared.Decided.{Decided}
 use Rattle.step_meets.specs.Situations.{Situation}
 use Rattle.nets.specs.Nets as M
-use Rattle.nets.specs.Nets.{Kind, acting, other, insert, insertTable, delete, update, create, drop, select, selectRelation, aggregate, sequential, parallel, badKind, isLoop, isParallel, bindsRelation, toRun, visiting}
+use Rattle.nets.specs.Nets.{Kind, isLoop, isParallel, bindsRelation, toRun, visiting}
 use Rattle.nets.specs.Sound.{entryNode}
 use Rattle.nets.specs.Scenes.{Scene, below, stillToVisit, vars, template, rowAt}
 use Rattle.nets.specs.Steps.{roomForRound, check12, loopEntry, roundBindings, withBindings, withStack, withVars, goOn, settle}
@@ -33,39 +33,18 @@ use Rattle.nets.specs.View.{kindAt, marked, entryOf, variableOf, bindingsOf, th
 use Rattle.step_effect.specs.Contracts.{putsRows}
 use Rattle.step_thread.specs.Contracts.{turnOf, turnBy, opened, readyAt, visitOf, RoundIs, standing}
 use Rattle.step_meets.specs.Contracts.{outcomeAt, Meets, relationRead, Made, ChangeIs}
+use Rattle.nets.proofs.KindClasses.{class-in, in-class}
 use Rattle.nets.proofs.KindLaws.{at-one}
 use Rattle.step_meets.proofs.MeetTies.{met-kind, met-vars, met-template, met-relation, met-turn, met-room}
 use Rattle.step_meets.proofs.RoundTies.{turnedSaid, turnAt, turnIn, turn-answer, over-threads, sequential-threads, parallel-threads, loop-visit, loop-row}
 
 -- a loop changes no rows
 puts-none : (k : Kind) → T (isLoop k) → T (putsRows k) → ⊥
-puts-none (acting insert) l h = l
-puts-none (acting insertTable) l h = l
-puts-none (acting delete) l h = l
-puts-none (acting update) l h = l
-puts-none (acting create) l h = l
-puts-none (acting drop) l h = l
-puts-none (other select) l h = l
-puts-none (other selectRelation) l h = l
-puts-none (other aggregate) l h = l
-puts-none (other sequential) l h = h
-puts-none (other parallel) l h = h
-puts-none (other badKind) l h = l
+puts-none k l = T-not (putsRows k) (class-in isLoop (λ j. not (putsRows j)) tt k l)
 
 -- and binds no table variable
 binds-none : (k : Kind) → T (isLoop k) → bindsRelation k ≡ false
-binds-none (acting insert) l = absurd l
-binds-none (acting insertTable) l = absurd l
-binds-none (acting delete) l = absurd l
-binds-none (acting update) l = absurd l
-binds-none (acting create) l = absurd l
-binds-none (acting drop) l = absurd l
-binds-none (other select) l = absurd l
-binds-none (other selectRelation) l = absurd l
-binds-none (other aggregate) l = absurd l
-binds-none (other sequential) l = refl
-binds-none (other parallel) l = refl
-binds-none (other badKind) l = absurd l
+binds-none k l = in-class isLoop k l bindsRelation false tt
 
 pub loop-relations : (s : Situation) (q : Code.Relation) (r : Decided) (x : Made s q r) → T (isLoop (kindAt (s .node .kind))) → map variableOf (x .relations) ≡ map variableOf (s .thread .relations)
 loop-relations s q r x l = x .bound ∙ rw (binds-none (kindAt (s .node .kind)) l)

@@ -9,7 +9,7 @@ use lib.ListN.{getD, set}
 use Rattle.values.specs.declared.Site.{Site}
 use Rattle.values.specs.Lists.{isSome, removeAt}
 use Rattle.rows.specs.Relations.{Row}
-use Rattle.nets.specs.Nets.{Table, Kind, acting, other, insert, insertTable, delete, update, create, drop, select, selectRelation, aggregate, sequential, parallel, badKind, Net, done}
+use Rattle.nets.specs.Nets.{Table, Kind, acting, drop, Net, done}
 use Rattle.nets.specs.Tables.{tableAt, rowsOf, columnsOf, withRows, change}
 use Rattle.nets.specs.Scenes.{Scene, site, table}
 use Rattle.nets.specs.Steps.{tablesBy, addedBy, takenBy, threadsAfter, netAfter, performed, Check, verdict, judge}
@@ -17,6 +17,7 @@ use Rattle.nets.specs.Accounts.{netLeft}
 use Rattle.nets.specs.Answers.{answerOf}
 use Rattle.step_effect.specs.Contracts.{isDoing, putsRows}
 use Rattle.step_meets.specs.Contracts.{laterChecks, outcomeAt}
+use Rattle.nets.proofs.KindClasses.{_▸_, of-class}
 use Rattle.nets.proofs.TableLaws.{change-same}
 use Rattle.nets.proofs.TablePlaces.{placeAt, place-below, table-at, change-place, remove-place}
 
@@ -53,18 +54,13 @@ pub puts-tables :
     (k : Kind) (c : Scene) (d : Table) → T (putsRows k) → T (isSome (table c)) →
     tablesBy k c ≡ set (c .net .tables) (tablePlace c) (rowsPut (site c) (c .node .name) (c .net .tables) (tablesBy k c) (getD (c .net .tables) (tablePlace c) d))
 unfolding tablesBy table
-puts-tables (acting insert) c d s h = change-put (site c) (c .node .name) _ (c .net .tables) d h
-puts-tables (acting insertTable) c d s h = change-put (site c) (c .node .name) _ (c .net .tables) d h
-puts-tables (acting delete) c d s h = change-put (site c) (c .node .name) _ (c .net .tables) d h
-puts-tables (acting update) c d s h = change-put (site c) (c .node .name) _ (c .net .tables) d h
-puts-tables (acting create) c d s h = absurd s
-puts-tables (acting drop) c d s h = absurd s
-puts-tables (other select) c d s h = absurd s
-puts-tables (other selectRelation) c d s h = absurd s
-puts-tables (other aggregate) c d s h = absurd s
-puts-tables (other sequential) c d s h = absurd s
-puts-tables (other parallel) c d s h = absurd s
-puts-tables (other badKind) c d s h = absurd s
+puts-tables k c d s h =
+    of-class (λ j. tablesBy j c ≡ set (c .net .tables) (tablePlace c) (rowsPut (site c) (c .node .name) (c .net .tables) (tablesBy j c) (getD (c .net .tables) (tablePlace c) d))) putsRows
+    (change-put (site c) (c .node .name) _ (c .net .tables) d h
+    ▸ change-put (site c) (c .node .name) _ (c .net .tables) d h
+    ▸ change-put (site c) (c .node .name) _ (c .net .tables) d h
+    ▸ change-put (site c) (c .node .name) _ (c .net .tables) d h
+    ▸ tt) k s
 
 pub drop-tables : (c : Scene) → tablesBy (acting drop) c ≡ removeAt (tablePlace c) (c .net .tables)
 unfolding tablesBy

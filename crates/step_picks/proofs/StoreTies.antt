@@ -26,7 +26,7 @@ use Rattle.nets.specs.declared.Table.{Table}
 use Rattle.nets.specs.declared.Thread.{Thread}
 use Rattle.nets.specs.declared.Net.{Net}
 use Rattle.nets.specs.Nets as M
-use Rattle.nets.specs.Nets.{Kind, acting, other, insert, insertTable, delete, update, create, drop, select, selectRelation, aggregate, sequential, parallel, badKind, needsTable, isCreate, Outcome}
+use Rattle.nets.specs.Nets.{Kind, acting, other, insert, insertTable, delete, update, create, drop, needsTable, isCreate, Outcome}
 use Rattle.nets.specs.Tables.{tableAt, rowsOf, columnsOf}
 use Rattle.nets.specs.Sound.{sound}
 use Rattle.nets.specs.Scenes.{Scene, sceneOf, site, table}
@@ -38,6 +38,7 @@ use Rattle.step_effect.specs.Contracts.{isDoing, putsRows}
 use Rattle.step_thread.specs.Contracts.{standing, forksOf}
 use Rattle.step_meets.specs.Contracts.{laterChecks, outcomeAt, ChangeIs}
 use Rattle.step_effect.specs.TableContracts.{putContent, tablesWith}
+use Rattle.nets.proofs.KindClasses.{_▸_, of-class}
 use Rattle.nets.proofs.StepLaws.{Passed}
 use Rattle.nets.proofs.AnswerLaws.{refuses-11}
 use Rattle.nets.proofs.RoundLaws.{given}
@@ -73,18 +74,7 @@ done-passed (k ∷ ks) o h = go (k .passes) h (done-passed ks o)
 
 -- a create has room
 room-create : (k : Kind) (c : Scene) → T (roomBy k c) → T (isCreate k) → length (c .net .tables) < 8
-room-create (acting create) c h k = ltb→lt (length (c .net .tables)) 8 h
-room-create (acting insert) c h k = absurd k
-room-create (acting insertTable) c h k = absurd k
-room-create (acting delete) c h k = absurd k
-room-create (acting update) c h k = absurd k
-room-create (acting drop) c h k = absurd k
-room-create (other select) c h k = absurd k
-room-create (other selectRelation) c h k = absurd k
-room-create (other aggregate) c h k = absurd k
-room-create (other sequential) c h k = absurd k
-room-create (other parallel) c h k = absurd k
-room-create (other badKind) c h k = absurd k
+room-create k c h e = of-class (λ j. T (roomBy j c) → length (c .net .tables) < 8) isCreate ((λ g. ltb→lt (length (c .net .tables)) 8 g) ▸ tt) k e h
 
 -- ── its tables ──
 
