@@ -1,7 +1,7 @@
 -- The change that the code decides on at a loop is the step's: over, a round in the thread, or a round in a new one. Assumes nothing.
 use Prim.Native.Nat.{ℕ, _≤_}
 use mathlib.Core.Path.{_≡_, refl, ap, ap₂, sym, subst, _∙_}
-use mathlib.Core.Bool.{Bool, true, false, not, cond, _&&_, _||_}
+use mathlib.Core.Bool.{Bool, true, false, not, cond, _&&_}
 use mathlib.Core.List.{List, [], _∷_, _++_, map, append-nil}
 use mathlib.Core.Option.{some}
 use lib.Dec.{T, T-not, eqb, ltb}
@@ -34,7 +34,6 @@ use Rattle.step_effect.specs.Contracts.{putsRows}
 use Rattle.step_thread.specs.Contracts.{turnOf, turnBy, opened, readyAt, visitOf, RoundIs, standing}
 use Rattle.step_meets.specs.Contracts.{outcomeAt, Meets, relationRead, Made, ChangeIs}
 use Rattle.nets.proofs.KindClasses.{class-in, in-class}
-use Rattle.nets.proofs.KindLaws.{at-one}
 use Rattle.step_meets.proofs.MeetTies.{met-kind, met-vars, met-template, met-relation, met-turn, met-room}
 use Rattle.step_meets.proofs.RoundTies.{turnedSaid, turnAt, turnIn, turn-answer, over-threads, sequential-threads, parallel-threads, loop-visit, loop-row}
 
@@ -77,25 +76,10 @@ round-room {e} {t} {r} {f} {row} {room} got h =
 
 -- ── room, by the code's tests ──
 
-abbrev pub roomBy : Bool → Bool → Bool → Bool
-roomBy p a b = (p && a) || (not p && b)
-
-pub room-runs : (p a b : Bool) → p ≡ false → roomBy p a b ≡ true → b ≡ true
-room-runs p a b e h = rw e at h
-
-choice : (p a b : Bool) → roomBy p a b ≡ cond p a b
-choice true true b = refl
-choice true false b = refl
-choice false a b = refl
-
-parallel-byte : (b : ℕ) → eqb b 26 ≡ isParallel (kindAt b)
-unfolding kindAt
-parallel-byte b = at-one isParallel 26 tt tt b
-
-pub room-met : (s : Situation) (c : Scene) → Meets s c → roomBy (eqb (s .node .kind) 26) (ltb (s .threads) 8) (ltb (s .thread .depth) 8) ≡ roomForRound c
-room-met s c m =
-    choice (eqb (s .node .kind) 26) (ltb (s .threads) 8) (ltb (s .thread .depth) 8)
-    ∙ ap (λ (b : Bool). cond b (ltb (s .threads) 8) (ltb (s .thread .depth) 8)) (parallel-byte (s .node .kind)) ∙ sym (met-room s c m)
+pub room-met :
+    (s : Situation) (c : Scene) → Meets s c → {p room : Bool} → p ≡ isParallel (kindAt (s .node .kind)) → room ≡ cond p (ltb (s .threads) 8) (ltb (s .thread .depth) 8) →
+    room ≡ roomForRound c
+room-met s c m e f = f ∙ ap (λ (b : Bool). cond b (ltb (s .threads) 8) (ltb (s .thread .depth) 8)) e ∙ sym (met-room s c m)
 
 -- ── the turn ──
 
@@ -132,8 +116,8 @@ module _ (s : Situation) (c : Scene) (o : Round) (r : RoundAt s c o) where
   pub turn-stops : (why : Refusal) → o .turn ≡ Stopped why → refusing (numberOf why) [] ≡ answerOf (outcomeAt c)
   turn-stops why e = turn-says e
 
-  kind-is : isParallel (c .node .kind) ≡ eqb (s .node .kind) 26
-  kind-is = ap isParallel (met-kind s c m) ∙ sym (parallel-byte (s .node .kind))
+  kind-is : isParallel (c .node .kind) ≡ isParallel (kindAt (s .node .kind))
+  kind-is = ap isParallel (met-kind s c m)
 
   puts-no-rows : T (putsRows (c .node .kind)) → ⊥
   puts-no-rows = puts-none (c .node .kind) loops
@@ -181,7 +165,7 @@ module _ (s : Situation) (c : Scene) (o : Round) (r : RoundAt s c o) where
 
     -- in the thread: the formals are bound and the body goes on the stack
     pub turn-runs :
-        eqb (s .node .kind) 26 ≡ false → (content : Code.Relation) (after fork : Thread) →
+        isParallel (kindAt (s .node .kind)) ≡ false → (content : Code.Relation) (after fork : Thread) →
         threadOf after ≡ roundIn (threadOf (s .thread)) (varsOf (o .vars)) (toRun (s .node .body)) entry →
         ChangeIs c (record { answer = Done 0 0; content = content; thread = after; forks = false; fork = fork })
     turn-runs h content after fork p =
@@ -200,7 +184,7 @@ module _ (s : Situation) (c : Scene) (o : Round) (r : RoundAt s c o) where
 
     -- in a new thread: the loop's own keeps its variables
     pub turn-forks :
-        eqb (s .node .kind) 26 ≡ true → (content : Code.Relation) (after fork : Thread) → 1 ≤ after .depth →
+        isParallel (kindAt (s .node .kind)) ≡ true → (content : Code.Relation) (after fork : Thread) → 1 ≤ after .depth →
         threadOf after ≡ withStack (threadOf (s .thread)) (entry ∷ below (threadOf (s .thread) .stack)) →
         threadOf fork ≡ record { site = s .thread .site; bindings = bindingsOf (o .vars) (s .thread .relations); stack = toRun (s .node .body) ∷ [] } →
         ChangeIs c (record { answer = Done 0 0; content = content; thread = after; forks = true; fork = fork })
@@ -221,5 +205,5 @@ module _ (s : Situation) (c : Scene) (o : Round) (r : RoundAt s c o) where
 
         space-is : ltb (s .threads) 8 ≡ true
         space-is =
-            sym (ap (λ (b : Bool). cond b (ltb (s .threads) 8) (ltb (s .thread .depth) 8)) (sym (parallel-byte (s .node .kind)) ∙ h))
+            sym (ap (λ (b : Bool). cond b (ltb (s .threads) 8) (ltb (s .thread .depth) 8)) h)
             ∙ sym (met-room s c m) ∙ sym (r .space) ∙ round-room (r .got) e
