@@ -24,9 +24,8 @@ returns c =
     let c₁ = c .before .before .before .before .before in
     let c₂ = c₁ .before .before .before .before .before in
     let c₃ = c₂ .before .before .before .before .before in
-    let k = c₃ .before .before in
-    let r = k .before .before .before .args .r .now in
-    whole r _ _ _ _ _ _ _ _ _ (k .before .is-create .ensures) (k .is-aggregate .ensures) (c₂ .before .middle-form .ensures)
+    let r = c₃ .before .before .before .before .args .r .now in
+    whole r _ _ _ _ _ _ _ _ _ (c₃ .before .is-create .ensures) (c₃ .is-aggregate .ensures) (c₂ .before .middle-form .ensures)
     (c₁ .before .before .before .before .text-in .ensures) (c₁ .before .before .operand-form .ensures) (c₁ .operands-form .ensures)
     (c .before .before .before .before .tuple-form .ensures) (c .before .before .operand-form2 .ensures) (c .operand-form3 .ensures)
 
@@ -35,7 +34,8 @@ node-bytes-spec =
     tie.close
     (tie.spec
     (λ c. search needs)
-    (λ c. search needs)
+    (λ c κs. search needs)
+    (λ c κs. search needs)
     (λ c. search needs)
     (λ c. search needs)
     (λ c. search needs)

@@ -56,7 +56,7 @@ returns c =
     let c₄ = c₃ .before .before .before .before .before in
     let c₅ = c₄ .before .before .before .before .before in
     let r = c₅ .before .before .args .r .now in
-    node-is r _ _ (c₅ .before .is-create .ensures) (c₅ .is-aggregate .ensures) _ _ _ _ _ _ _ _ _ _
+    node-is r _ _ (c₄ .before .before .before .before .is-create .ensures) (c₄ .before .before .before .is-aggregate .ensures) _ _ _ _ _ _ _ _ _ _
     (c₃ .before .before .before .before .text-in .ensures) (c₃ .before .before .byte-in .ensures) (c₃ .byte-in2 .ensures)
     (c₂ .before .before .before .function-in .ensures) (c₂ .before .byte-in3 .ensures)
     (ap (columnsOf (c₁ .before .before .before .before .column-count .result)) (c₁ .before .before .kinds-in .ensures) ∙ c₁ .before .before .before .before .column-count .ensures)
@@ -68,6 +68,8 @@ node-in-spec =
     tie.close
     (tie.spec
     (λ c. search needs)
+    (λ c κs. search needs)
+    (λ c κs. search needs)
     (λ c. search needs)
     (λ c. search needs)
     (λ c. search needs)
