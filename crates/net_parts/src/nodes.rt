@@ -15,6 +15,8 @@ use nets::kinds::binds_relation;
 use nets::kinds::has_place;
 use nets::kinds::has_test;
 use nets::kinds::has_tuple;
+use nets::kinds::is_aggregate;
+use nets::kinds::is_create;
 use nets::kinds::is_loop;
 use nets::kinds::is_select;
 use nets::kinds::reads_relation;
@@ -112,7 +114,7 @@ fn plain_ok(d: Node) -> bool
         & (d.bound == 0)
         & either(reads_relation(kind), d.read < 2, d.read == 0)
         & function_ok(false, function, d.column)
-        & columns_used(kind == 23, d.columns, kinds)
+        & columns_used(is_create(kind), d.columns, kinds)
         & place_ok(place)
         & (template.count == 0)
         & no_test(selector)
@@ -132,7 +134,7 @@ fn choosing_ok(d: Node) -> bool
     let result = d.result;
     let tuple = d.tuple;
     let function = d.function;
-    let aggregate = kind == 22;
+    let aggregate = is_aggregate(kind);
     let placed = has_place(kind);
     (d.body == 0)
         & name_used(placed, d.name)

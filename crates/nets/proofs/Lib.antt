@@ -5,7 +5,7 @@ pub mod KeepSound
 pub mod KeepTables
 pub mod KeyLaws
 pub mod Keys
-pub mod KindCodes
+pub mod KindClasses
 pub mod KindLaws
 pub mod MoveLaws
 pub mod RefusalLaws

@@ -60,6 +60,9 @@ needsTable k = among (code k) (16 ∷ 17 ∷ 18 ∷ 19 ∷ 21 ∷ 22 ∷ 24 ∷ 
 abbrev pub isCreate : Kind → Bool
 isCreate k = eqb (code k) 23
 
+abbrev pub isUpdate : Kind → Bool
+isUpdate k = eqb (code k) 21
+
 -- the step has a T; a predicate
 abbrev pub hasTemplate : Kind → Bool
 hasTemplate k = among (code k) (18 ∷ 19 ∷ 20 ∷ 21 ∷ 22 ∷ 25 ∷ 26 ∷ [])

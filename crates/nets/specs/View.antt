@@ -96,6 +96,10 @@ kinds =
     ∷ other parallel
     ∷ []
 
+-- all of them, and what stands for a byte that is the number of none
+abbrev pub everyKind : List Kind
+everyKind = other badKind ∷ kinds
+
 -- the kind that a byte stands for
 unfoldable pub kindAt : ℕ → Kind
 kindAt b = orElse (other badKind) (find (λ k. eqb (code k) b) kinds)

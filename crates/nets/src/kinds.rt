@@ -1,6 +1,6 @@
 // Classes of node kinds, by the kind byte.
 ghost use mathlib.Core.Path.{_≡_};
-ghost use Rattle.nets.specs.Nets.{hasPlace, needsTable, hasTest, hasTuple, isSelect, readsRelation, bindsRelation, isLoop};
+ghost use Rattle.nets.specs.Nets.{hasPlace, needsTable, hasTest, hasTuple, isSelect, readsRelation, bindsRelation, isLoop, isUpdate, isAggregate, isCreate, isParallel};
 ghost use Rattle.nets.specs.View.{kindAt};
 
 // The step has an L and a name.
@@ -77,6 +77,42 @@ pub fn is_loop(kind: u8) -> bool
 {
     match kind {
         25 | 26 => true,
+        _ => false,
+    }
+}
+
+pub fn is_update(kind: u8) -> bool
+    ensures { λ r. ⌜ r ≡ isUpdate (kindAt kind) ⌝ }
+{
+    match kind {
+        21 => true,
+        _ => false,
+    }
+}
+
+pub fn is_create(kind: u8) -> bool
+    ensures { λ r. ⌜ r ≡ isCreate (kindAt kind) ⌝ }
+{
+    match kind {
+        23 => true,
+        _ => false,
+    }
+}
+
+pub fn is_aggregate(kind: u8) -> bool
+    ensures { λ r. ⌜ r ≡ isAggregate (kindAt kind) ⌝ }
+{
+    match kind {
+        22 => true,
+        _ => false,
+    }
+}
+
+pub fn is_parallel(kind: u8) -> bool
+    ensures { λ r. ⌜ r ≡ isParallel (kindAt kind) ⌝ }
+{
+    match kind {
+        26 => true,
         _ => false,
     }
 }

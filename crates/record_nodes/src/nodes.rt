@@ -5,6 +5,8 @@ use crate::operands::operands_form;
 use crate::operands::operands_in;
 use net_parts::nodes::fields_ok;
 use nets::Node;
+use nets::kinds::is_aggregate;
+use nets::kinds::is_create;
 use record_bytes::text_in;
 use record_bytes::zeros;
 use record_forms::columns_form;
@@ -123,8 +125,8 @@ pub fn node_in(r: &[u8]) -> Node
     ensures { λ o. ⌜ nodeOf o ≡ nodeIn (now (r .entry)) ⌝ }
 {
     let kind = r[0];
-    let create = kind == 23;
-    let aggregate = kind == 22;
+    let create = is_create(kind);
+    let aggregate = is_aggregate(kind);
     Node {
         kind,
         next: r[1],
@@ -170,8 +172,9 @@ fn node_bytes(r: &[u8]) -> bool
     requires { ⌜ length (now r) ≡ 104 ⌝ }
     ensures { λ o. ⌜ o ≡ nodeBytes (kindAt (at (now (r .entry)) 0)) (now (r .entry)) ⌝ }
 {
-    let create = r[0] == 23;
-    let aggregate = r[0] == 22;
+    let kind = r[0];
+    let create = is_create(kind);
+    let aggregate = is_aggregate(kind);
     (r[3] <= 4)
         & middle_form(create, r[10], &r[8..12])
         & (text_in(&r[12..16]) == 0)

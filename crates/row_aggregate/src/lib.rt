@@ -2,6 +2,7 @@
 use rows::Function;
 use rows::Relation;
 use rows::Row;
+use value_eval::int_within;
 use values::Got;
 use values::Value;
 ghost use mathlib.Core.Path.{_≡_};
@@ -13,8 +14,6 @@ ghost use mir.Val.{SFits};
 ghost use mathlib.Core.Bool.{cond};
 ghost use Rattle.values.specs.declared.Value.the-variants.{Int};
 ghost use Rattle.values.specs.declared.Got.the-variants.{One};
-ghost use Rattle.values.specs.Operands.{fitting};
-ghost use Rattle.values.specs.Values.{in32};
 ghost use Rattle.rows.specs.View.{valuesOf, relationOf, Shaped};
 ghost use Rattle.row_change.specs.Aggregates.{intOf, intAt, column, total, smaller, larger, best, aggregated, columnFits};
 
@@ -61,19 +60,6 @@ fn total_of(r: Relation, at: usize) -> i64
         a = add_wide(a, k);
     }
     a
-}
-
-// An Int, if it is within 32 bits.
-fn within(s: i64) -> Got
-    ensures { λ r. ⌜ r ≡ fitting (in32 s) s ⌝ }
-{
-    if s < -2147483648 {
-        return Got::Nothing;
-    }
-    if 2147483647 < s {
-        return Got::Nothing;
-    }
-    Got::One(Value::Int(s as i32))
 }
 
 fn better(largest: bool, j: i32, k: i32) -> i32
@@ -129,7 +115,7 @@ pub fn aggregate(f: Function, at: u8, r: Relation) -> Got
     match f {
         Function::Unused => Got::Nothing,
         Function::Count => count_of(r),
-        Function::Sum => within(total_of(r, i)),
+        Function::Sum => int_within(total_of(r, i)),
         Function::Least => best_of(false, r, i),
         Function::Largest => best_of(true, r, i),
     }

@@ -20,6 +20,7 @@ use Rattle.rows.specs.View.{noRow, valuesOf, columnsOf, relationOf, Shaped}
 use Rattle.rows.specs.Plans.{termGot, termsIn, planHits}
 use Rattle.row_change.specs.declared.Made.{Made}
 use Rattle.row_change.specs.declared.Renewed.{Renewed}
+use Rattle.row_change.specs.declared.Marked.{Marked}
 use Rattle.row_change.specs.declared.Swept.{Swept}
 use Rattle.row_change.specs.Changes.{draftFor}
 
@@ -50,9 +51,9 @@ abbrev pub sweeps : Plan → Bool → Bool → Terms → ℕ → List ℕ → Ro
 sweeps p d any t n ks r = planHits p r && (not d || (any || fits (columnsOf n ks) (givenBy t r)))
 
 -- one row: whether it is marked, and with drafts what stands at its place if it is
-pub record JudgedRow (p : Plan) (d any : Bool) (t : Terms) (n : ℕ) (ks : List ℕ) (r : Row) (o : Renewed) : Type 0 where
-  pub fits : o .fits ≡ sweeps p d any t n ks r
-  pub row : T d → T (all isGot (givenBy t r)) → T (o .fits) → valuesOf (t .count) (o .row) ≡ valuesIn (givenBy t r)
+pub record JudgedRow (p : Plan) (d any : Bool) (t : Terms) (n : ℕ) (ks : List ℕ) (r : Row) (o : Marked) : Type 0 where
+  pub marked : o .marked ≡ sweeps p d any t n ks r
+  pub row : T d → T (all isGot (givenBy t r)) → T (o .marked) → valuesOf (t .count) (o .row) ≡ valuesIn (givenBy t r)
 
 -- of the first `m` rows those that `sweeps` says are marked; with drafts a marked row gives way to the new one at its place; rows that are not marked stay
 pub record SweptIs (p : Plan) (d any : Bool) (t : Terms) (n : ℕ) (ks : List ℕ) (m : ℕ) (rs : List Row) (o : Swept) : Type 0 where

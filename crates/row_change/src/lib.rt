@@ -11,9 +11,15 @@ pub struct Made {
     pub cell: Cell,
 }
 
-// Whether a row is marked in a pass, and what stands at its place if it is.
+// What t gives for a row, and whether that fits.
 pub struct Renewed {
     pub fits: bool,
+    pub row: Row,
+}
+
+// Whether a row is marked in a pass, and what stands at its place if it is.
+pub struct Marked {
+    pub marked: bool,
     pub row: Row,
 }
 

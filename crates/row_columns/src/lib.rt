@@ -4,6 +4,9 @@ use rows::Operands;
 use rows::Source;
 use values::Operand;
 use values::Slot;
+use values::kinds::INT;
+use values::kinds::LOC;
+use values::kinds::TEXT;
 use values::kinds::kind_in;
 ghost use mathlib.Core.Path.{_≡_};
 ghost use Prim.Native.Nat.{_<_};
@@ -28,19 +31,18 @@ fn source_kind(s: Source, kinds: [u8; 4]) -> u8
     }
 }
 
-// The kind of a component of t.
+// The kind of a component of t; 0, which is no kind, of one that gives nothing.
 fn column_kind(op: Operand, template: Operands, kinds: [u8; 4], vars: [Slot; 16]) -> u8
     requires { ⌜ Short template ⌝ }
     ensures { λ r. ⌜ r ≡ columnFor (bind (operandsOf template) (columnsOf (template .count) kinds) (kindsOf (varsOf vars))) op ⌝ }
 {
     match op {
-        Operand::Absent => 0,
-        Operand::ConstInt(_) => 1,
-        Operand::ConstText(_) => 2,
-        Operand::ConstLoc(_) => 3,
+        Operand::ConstInt(_) => INT,
+        Operand::ConstText(_) => TEXT,
+        Operand::ConstLoc(_) => LOC,
         Operand::Var(i) => source_kind(source_of(i, template, vars), kinds),
-        Operand::Plus(_, _) => 1,
-        Operand::Formal(_) => 0,
+        Operand::Plus(_, _) => INT,
+        _ => 0,
     }
 }
 

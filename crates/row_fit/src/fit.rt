@@ -1,13 +1,13 @@
-// What tuples give, and fit. Fit is judged in one loop, over columns and a draft.
+// What tuples give, and whether they fit columns.
 use rows::Cell;
 use rows::Draft;
 use rows::Operands;
 use rows::Row;
+use rows::fits_column;
 use value_eval::eval_in;
 use values::Got;
 use values::Slot;
 use values::Value;
-use values::kinds::kind_of;
 ghost use mathlib.Core.Path.{_≡_};
 ghost use Prim.Native.Nat.{_<_, _≤_};
 ghost use lib.ListN.{getD};
@@ -77,7 +77,7 @@ fn of_kind(kind: u8, g: Got) -> bool
 {
     match g {
         Got::Nothing => false,
-        Got::One(v) => kind == kind_of(v),
+        Got::One(v) => fits_column(kind, v),
     }
 }
 

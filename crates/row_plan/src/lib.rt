@@ -30,13 +30,8 @@ pub fn want_of(op: Operand, vars: [Slot; 16]) -> Want
     ensures { λ r. ⌜ r ≡ wantOf (varsOf vars) op ⌝ }
 {
     match op {
-        Operand::Absent => Want::Like(Got::Nothing),
-        Operand::ConstInt(i) => Want::Like(Got::One(Value::Int(i))),
-        Operand::ConstText(t) => Want::Like(Got::One(Value::Text(t))),
-        Operand::ConstLoc(l) => Want::Like(Got::One(Value::Loc(l))),
-        Operand::Var(i) => Want::Like(eval_in(op, vars)),
-        Operand::Plus(i, k) => Want::Like(eval_in(op, vars)),
         Operand::Formal(_) => Want::Anything,
+        _ => Want::Like(eval_in(op, vars)),
     }
 }
 

@@ -10,7 +10,6 @@ use lib.ListN.{getD}
 use Rattle.values.specs.declared.Value.the-variants.{Int}
 use Rattle.values.specs.declared.Got.{Got}
 use Rattle.values.specs.declared.Got.the-variants.{Nothing, One}
-use Rattle.values.specs.Values.{kindOf}
 use Rattle.values.specs.Operands.{valueIn}
 use Rattle.values.proofs.Firsts.{map-firsts}
 use Rattle.rows.specs.declared.Cell.{Cell}
@@ -35,8 +34,8 @@ module _ (k : ℕ) where
   pub made-nothing : {g : Got} → g ≡ Nothing → MadeIs k g (record { fits = false; cell = record { value = Int (pos 0) } })
   made-nothing e = record { fits = sym (ap (ofKind k) e); value = sym (ap valueIn e) }
 
-  pub made-one : {g : Got} (c : Cell) {j : ℕ} → g ≡ One (c .value) → j ≡ kindOf (c .value) → MadeIs k g (record { fits = eqb k j; cell = c })
-  made-one c e q = record { fits = ap (eqb k) q ∙ sym (ap (ofKind k) e); value = sym (ap valueIn e) }
+  pub made-one : {g : Got} (c : Cell) {b : Bool} → g ≡ One (c .value) → b ≡ ofKind k (One (c .value)) → MadeIs k g (record { fits = b; cell = c })
+  made-one c e q = record { fits = q ∙ sym (ap (ofKind k) e); value = sym (ap valueIn e) }
 
   pub made-same : {g h : Got} {m : Made} → g ≡ h → MadeIs k h m → MadeIs k g m
   made-same e is = record { fits = is .fits ∙ sym (ap (ofKind k) e); value = is .value ∙ sym (ap valueIn e) }
@@ -79,16 +78,16 @@ module _ (p : Plan) (d any : Bool) (t : Terms) (n : ℕ) (ks : List ℕ) (r : Ro
   abbrev kept : Bool → Bool
   kept b = not b || (any || fits (columnsOf n ks) (givenBy t r))
 
-  pub judged-not : h ≡ false → JudgedRow p d any t n ks r (record { fits = false; row = r })
-  judged-not e = record { fits = sym (ap (_&& kept d) (sym hit ∙ e)); row = λ u g f. absurd f }
+  pub judged-not : h ≡ false → JudgedRow p d any t n ks r (record { marked = false; row = r })
+  judged-not e = record { marked = sym (ap (_&& kept d) (sym hit ∙ e)); row = λ u g f. absurd f }
 
   module _ (yes-hit : h ≡ true) where
-    pub judged-marked : d ≡ false → JudgedRow p d any t n ks r (record { fits = true; row = r })
-    judged-marked e = record { fits = sym (ap₂ _&&_ (sym hit ∙ yes-hit) (ap kept e)); row = λ u g f. absurd (subst T e u) }
+    pub judged-marked : d ≡ false → JudgedRow p d any t n ks r (record { marked = true; row = r })
+    judged-marked e = record { marked = sym (ap₂ _&&_ (sym hit ∙ yes-hit) (ap kept e)); row = λ u g f. absurd (subst T e u) }
 
-    pub judged-new : d ≡ true → (o : Renewed) → RenewedIs t n ks r o → JudgedRow p d any t n ks r (record { fits = any || o .fits; row = o .row })
+    pub judged-new : d ≡ true → (o : Renewed) → RenewedIs t n ks r o → JudgedRow p d any t n ks r (record { marked = any || o .fits; row = o .row })
     judged-new e o is =
         record {
-          fits = ap (any ||_) (is .fits) ∙ sym (ap₂ _&&_ (sym hit ∙ yes-hit) (ap kept e));
+          marked = ap (any ||_) (is .fits) ∙ sym (ap₂ _&&_ (sym hit ∙ yes-hit) (ap kept e));
           row = λ u g f. is .row g;
         }

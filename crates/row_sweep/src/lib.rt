@@ -1,5 +1,6 @@
 // One pass over the rows of a relation, which marks rows and puts new ones at their places. Every row is judged as it stood before.
 use row_change::Made;
+use row_change::Marked;
 use row_change::Renewed;
 use row_change::Swept;
 use row_plan::row_hits;
@@ -11,10 +12,10 @@ use rows::Row;
 use rows::Source;
 use rows::Term;
 use rows::Terms;
+use rows::fits_column;
 use value_eval::plus;
 use values::Got;
 use values::Value;
-use values::kinds::kind_of;
 ghost use Prim.Native.Nat.{_≤_};
 ghost use Rattle.rows.specs.Plans.{gotAt, termGot};
 ghost use Rattle.row_change.specs.Contracts.{MadeIs, RenewedIs, JudgedRow, SweptIs};
@@ -34,7 +35,7 @@ fn made_of(g: Got, kind: u8) -> Made
         Got::One(v) => {
             let cell = Cell { value: v };
             Made {
-                fits: kind == kind_of(v),
+                fits: fits_column(kind, v),
                 cell,
             }
         }
@@ -52,7 +53,7 @@ fn made_from(row: Row, at: u8, kind: u8) -> Made
     let cell = row.cells[i];
     let v = cell.value;
     Made {
-        fits: kind == kind_of(v),
+        fits: fits_column(kind, v),
         cell,
     }
 }
@@ -74,38 +75,38 @@ fn renewed(terms: Terms, columns: usize, kinds: [u8; 4], row: Row) -> Renewed
     requires { ⌜ (columns ≤ 4) × (terms .count ≤ 4) ⌝ }
     ensures { λ o. ⌜ RenewedIs terms columns kinds row o ⌝ }
 {
-    let p = terms.places[0];
-    let q = terms.places[1];
-    let r = terms.places[2];
-    let s = terms.places[3];
-    let t = p.term;
-    let u = q.term;
-    let v = r.term;
-    let w = s.term;
-    let a = made(t, row, kinds[0]);
-    let b = made(u, row, kinds[1]);
-    let c = made(v, row, kinds[2]);
-    let d = made(w, row, kinds[3]);
+    let place0 = terms.places[0];
+    let place1 = terms.places[1];
+    let place2 = terms.places[2];
+    let place3 = terms.places[3];
+    let term0 = place0.term;
+    let term1 = place1.term;
+    let term2 = place2.term;
+    let term3 = place3.term;
+    let made0 = made(term0, row, kinds[0]);
+    let made1 = made(term1, row, kinds[1]);
+    let made2 = made(term2, row, kinds[2]);
+    let made3 = made(term3, row, kinds[3]);
     let fits = (columns == terms.count)
-        & ((columns <= 0) | a.fits)
-        & ((columns <= 1) | b.fits)
-        & ((columns <= 2) | c.fits)
-        & ((columns <= 3) | d.fits);
-    let e = a.cell;
-    let f = b.cell;
-    let g = c.cell;
-    let h = d.cell;
+        & ((columns <= 0) | made0.fits)
+        & ((columns <= 1) | made1.fits)
+        & ((columns <= 2) | made2.fits)
+        & ((columns <= 3) | made3.fits);
+    let cell0 = made0.cell;
+    let cell1 = made1.cell;
+    let cell2 = made2.cell;
+    let cell3 = made3.cell;
     Renewed {
         fits,
         row: Row {
-            cells: [e, f, g, h],
+            cells: [cell0, cell1, cell2, cell3],
         },
     }
 }
 
 // ---- the pass
 
-// A row that the plan selects is marked. With drafts it also has to fit, unless any will do, and is what t gives for it.
+// A row that the plan selects is marked. With drafts it gives way to what t gives for it, and is marked only if that fits, unless `any` says that it need not.
 fn judge(
     plan: Plan,
     drafts: bool,
@@ -114,20 +115,20 @@ fn judge(
     columns: usize,
     kinds: [u8; 4],
     row: Row,
-) -> Renewed
+) -> Marked
     requires { ⌜ (columns ≤ 4) × (terms .count ≤ 4) ⌝ }
     ensures { λ o. ⌜ JudgedRow plan drafts any terms columns kinds row o ⌝ }
 {
     if !row_hits(plan, row) {
-        return Renewed { fits: false, row };
+        return Marked { marked: false, row };
     }
     if !drafts {
-        return Renewed { fits: true, row };
+        return Marked { marked: true, row };
     }
     let d = renewed(terms, columns, kinds, row);
     let new = d.row;
-    Renewed {
-        fits: any | d.fits, // selected, but what t gives may not fit
+    Marked {
+        marked: any | d.fits, // selected, but what t gives may not fit
         row: new,
     }
 }
@@ -153,9 +154,9 @@ pub fn swept(
         let row = rows[i];
         let d = judge(plan, drafts, any, terms, columns, kinds, row);
         let at = i;
-        flags[i] = d.fits;
+        flags[i] = d.marked;
         i += 1;
-        if d.fits {
+        if d.marked {
             let new = d.row;
             rows[at] = new;
         }

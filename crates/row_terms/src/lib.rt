@@ -25,13 +25,8 @@ pub fn is_formal_of(i: u8, op: Operand) -> bool
     ensures { λ r. ⌜ r ≡ isFormalOf i (formalOf op) ⌝ }
 {
     match op {
-        Operand::Absent => false,
-        Operand::ConstInt(_) => false,
-        Operand::ConstText(_) => false,
-        Operand::ConstLoc(_) => false,
-        Operand::Var(_) => false,
-        Operand::Plus(_, _) => false,
         Operand::Formal(j) => i == j,
+        _ => false,
     }
 }
 
@@ -84,13 +79,12 @@ pub fn term_of(op: Operand, template: Operands, vars: [Slot; 16]) -> Term
     ensures { λ r. ⌜ r ≡ termOf (varsOf vars) (operandsOf template) op ⌝ }
 {
     match op {
-        Operand::Absent => Term::Plain(Source::Fixed(Got::Nothing)),
         Operand::ConstInt(i) => Term::Plain(Source::Fixed(Got::One(Value::Int(i)))),
         Operand::ConstText(t) => Term::Plain(Source::Fixed(Got::One(Value::Text(t)))),
         Operand::ConstLoc(l) => Term::Plain(Source::Fixed(Got::One(Value::Loc(l)))),
         Operand::Var(i) => Term::Plain(source_of(i, template, vars)),
         Operand::Plus(i, k) => Term::Shifted(source_of(i, template, vars), k),
-        Operand::Formal(_) => Term::Plain(Source::Fixed(Got::Nothing)),
+        _ => Term::Plain(Source::Fixed(Got::Nothing)),
     }
 }
 

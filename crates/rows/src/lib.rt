@@ -3,6 +3,10 @@ use values::Got;
 use values::Operand;
 use values::Slot;
 use values::Value;
+use values::kinds::kind_of;
+ghost use mathlib.Core.Path.{_≡_};
+ghost use Rattle.values.specs.declared.Got.the-variants.{One};
+ghost use Rattle.rows.specs.Fit.{ofKind};
 
 pub struct Cell {
     pub value: Value,
@@ -102,4 +106,11 @@ pub struct Plan {
 pub struct Draft {
     pub slots: [Slot; 4],
     pub count: usize,
+}
+
+// A value fits a column of its own kind. All that judge fit ask this.
+pub fn fits_column(kind: u8, v: Value) -> bool
+    ensures { λ r. ⌜ r ≡ ofKind kind (One v) ⌝ }
+{
+    kind == kind_of(v)
 }

@@ -5,7 +5,9 @@ use nets::Frame;
 use nets::Node;
 use nets::Refusal;
 use nets::kinds::has_place;
+use nets::kinds::is_create;
 use nets::kinds::is_loop;
+use nets::kinds::is_parallel;
 use nets::kinds::needs_table;
 use rows::Relation;
 use step_answer::says;
@@ -22,8 +24,8 @@ use step_thread::Turn;
 use step_thread::node_of;
 use values::Slot;
 ghost use mathlib.Core.Path.{_≡_};
-ghost use mathlib.Core.Bool.{true};
-ghost use lib.Dec.{T};
+ghost use mathlib.Core.Bool.{true, cond};
+ghost use lib.Dec.{T, ltb};
 ghost use Rattle.nets.specs.Nets.{isLoop};
 ghost use Rattle.nets.specs.Scenes.{Scene};
 ghost use Rattle.nets.specs.Steps.{check13, check14, check15};
@@ -32,6 +34,16 @@ ghost use Rattle.nets.specs.Answers.{isDoing, saidOf};
 ghost use Rattle.step_effect.specs.Contracts.{isStep, JudgedIs, Doing};
 ghost use Rattle.step_meets.specs.Situations.{situation, Rest, whole, Handed};
 ghost use Rattle.step_meets.specs.Contracts.{Meets, Fine, Known, Flagged, SourceIs, Sourced, DecidedAt, DecidedIs};
+
+// A round of a parallel loop needs a place for its thread, and one of a sequential loop a place on the stack.
+fn room_for_round(parallel: bool, threads: usize, depth: usize) -> bool
+    ensures { λ r. ⌜ r ≡ cond parallel (ltb threads 8) (ltb depth 8) ⌝ }
+{
+    if parallel {
+        return threads < 8;
+    }
+    depth < 8
+}
 
 // A loop: a round, or over and on to next.
 fn decide_loop(
@@ -48,8 +60,8 @@ fn decide_loop(
 {
     let selector = node.selector;
     let template = selector.template;
-    let parallel = node.kind == 26;
-    let room = (parallel & (s.threads < 8)) | (!parallel & (depth < 8));
+    let parallel = is_parallel(node.kind);
+    let room = room_for_round(parallel, s.threads, depth);
     let r = round(template, source, frame, vars, s.row, room);
     let turn = r.turn;
     match turn {
@@ -132,7 +144,7 @@ pub fn decide(
     if needs_table(kind) & !found {
         return refuses(Refusal::NoTable, vars, depth, frame);
     }
-    if (kind == 23) & found {
+    if is_create(kind) & found {
         return refuses(Refusal::TableThere, vars, depth, frame);
     }
     if is_loop(kind) {

@@ -1,22 +1,24 @@
 -- The kinds of steps that are no loops, by their bytes. Assumes nothing.
 use Prim.Native.Nat.{ℕ, _<_, _≤_}
 use mathlib.Core.Path.{_≡_, refl, sym, ap, subst, _∙_}
-use mathlib.Core.Bool.{Bool, true, false}
+use mathlib.Core.Bool.{Bool, true, false, not, _&&_}
 use mathlib.Core.Logic.{_⊎_, inl, inr}
 use native.Mathlib.Omega.{arith}
-use borrow.Author.Tests.{eqb-true, eqb-false, ne-eqb, ltb-true, ltb-false}
-use lib.Dec.{T, eqb, ltb}
-use Rattle.nets.specs.Nets.{isAggregate, isSelect, readsRelation, bindsRelation}
+use borrow.Author.Tests.{eqb-true, eqb-false}
+use lib.Dec.{T, eqb, leb, ltb, leb→le, ltb→lt}
+use Rattle.values.proofs.Bools.{T-of, T-not-of, and-l, and-r, and-in}
+use Rattle.nets.specs.Nets.{Kind, isAggregate, isSelect, readsRelation, bindsRelation}
 use Rattle.nets.specs.Scenes.{Parts}
 use Rattle.nets.specs.Steps.{varsBy}
 use Rattle.nets.specs.View.{kindAt}
 use Rattle.step_effect.specs.Contracts.{isStep, putsRows}
-use Rattle.nets.proofs.KindLaws.{in-range, at-one}
+use Rattle.nets.proofs.KindClasses.{_▸_}
+use Rattle.nets.proofs.KindLaws.{class-byte}
 
 -- only an aggregate binds a variable
-pub other-vars : (b : ℕ) → (b ≡ 22 → ⊥) → (p : Parts) → p .vars ≡ varsBy (kindAt b) p
-unfolding kindAt varsBy
-other-vars b no-aggregate p = rw (← at-one isAggregate 22 tt tt b, ne-eqb b 22 no-aggregate)
+pub other-vars : (k : Kind) → isAggregate k ≡ false → (p : Parts) → p .vars ≡ varsBy k p
+unfolding varsBy
+other-vars k no-aggregate p = rw no-aggregate
 
 -- ── which byte it is ──
 
@@ -29,58 +31,31 @@ select-byte b x y z low high = go (eqb b 19) refl
 
 -- a byte of a step that is no loop
 pub step-byte : (b : ℕ) → T (isStep (kindAt b)) → (16 ≤ b) × (b < 25)
-unfolding kindAt
-step-byte b h = (low (ltb b 16) refl, high (ltb b 25) refl)
+step-byte b h = (leb→le 16 b (and-l (leb 16 b) (ltb b 25) inside), ltb→lt b 25 (and-r (leb 16 b) (ltb b 25) inside))
   where
-    low : (t : Bool) → ltb b 16 ≡ t → 16 ≤ b
-    low true e = let l : b < 16 = ltb-true b 16 e in absurd (subst T (sym (in-range isStep false 0 16 tt b (omega arith) (omega arith))) h)
-    low false e = ltb-false b 16 e
-
-    high : (t : Bool) → ltb b 25 ≡ t → b < 25
-    high true e = ltb-true b 25 e
-    high false e = let l : 25 ≤ b = ltb-false b 25 e in absurd (subst T (sym (in-range isStep false 25 3 tt b (omega arith) (omega arith))) h)
+    inside : T (leb 16 b && ltb b 25)
+    inside = class-byte (λ n. T (leb 16 n && ltb n 25)) isStep tt (tt ▸ tt ▸ tt ▸ tt ▸ tt ▸ tt ▸ tt ▸ tt ▸ tt ▸ tt) b h
 
 -- no table variable is read at byte `n`
 pub reads-none : (n : ℕ) {b : ℕ} → b ≡ n → readsRelation (kindAt n) ≡ false → readsRelation (kindAt b) ≡ false
 reads-none n e h = ap (λ (i : ℕ). readsRelation (kindAt i)) e ∙ h
 
-never : {A : Type 0} {b : Bool} → false ≡ b → T b → A
-never e h = absurd (subst T (sym e) h)
-
 -- a step that changes the rows of a table and is no update or insert is a delete
-pub puts-byte : (b : ℕ) → T (isStep (kindAt b)) → T (putsRows (kindAt b)) → (b ≡ 21 → ⊥) → (b ≡ 16 → ⊥) → (b ≡ 17 → ⊥) → b ≡ 18
-unfolding kindAt
-puts-byte b step h x y z = go (ltb b 19) refl (ltb b 21) refl
-  where
-    go : (t : Bool) → ltb b 19 ≡ t → (u : Bool) → ltb b 21 ≡ u → b ≡ 18
-    go true e u f = omega (arith, ltb-true b 19 e, step-byte b step .0, y, z)
-    go false e true f = let l = ltb-false b 19 e in let m = ltb-true b 21 f in never (in-range putsRows false 19 2 tt b (omega arith) (omega arith)) h
-    go false e false f =
-        let l = ltb-false b 21 f in let m = step-byte b step .1 in let k : 22 ≤ b = omega (arith, x) in never (in-range putsRows false 22 3 tt b (omega arith) (omega arith)) h
+pub puts-byte : (b : ℕ) → T (putsRows (kindAt b)) → (b ≡ 21 → ⊥) → (b ≡ 16 → ⊥) → (b ≡ 17 → ⊥) → b ≡ 18
+puts-byte b =
+    class-byte (λ n. (n ≡ 21 → ⊥) → (n ≡ 16 → ⊥) → (n ≡ 17 → ⊥) → n ≡ 18) putsRows tt
+    ((λ x y z. absurd (y refl)) ▸ (λ x y z. absurd (z refl)) ▸ (λ x y z. refl) ▸ (λ x y z. absurd (x refl)) ▸ tt) b
 
 -- the bytes of a select
 pub select-bytes : (b : ℕ) → isSelect (kindAt b) ≡ true → (b ≡ 19) ⊎ (b ≡ 20)
-unfolding kindAt
-select-bytes b h = go (ltb b 19) refl (ltb b 21) refl
-  where
-    go : (t : Bool) → ltb b 19 ≡ t → (u : Bool) → ltb b 21 ≡ u → (b ≡ 19) ⊎ (b ≡ 20)
-    go true e u f = let l = ltb-true b 19 e in never (in-range isSelect false 0 19 tt b (omega arith) (omega arith)) (subst T (sym h) tt)
-    go false e false f = let l = ltb-false b 21 f in never (in-range isSelect false 21 7 tt b (omega arith) (omega arith)) (subst T (sym h) tt)
-    go false e true f = here (eqb b 19) refl
-      where
-        here : (v : Bool) → eqb b 19 ≡ v → (b ≡ 19) ⊎ (b ≡ 20)
-        here true w = inl (eqb-true b 19 w)
-        here false w = inr (omega (arith, eqb-false b 19 w, ltb-false b 19 e, ltb-true b 21 f))
+select-bytes b h = class-byte (λ n. (n ≡ 19) ⊎ (n ≡ 20)) isSelect tt (inl refl ▸ inr refl ▸ tt) b (T-of (isSelect (kindAt b)) h)
 
 -- a step that binds a table variable and is no select is a delete
 pub binds-byte : (b : ℕ) → T (bindsRelation (kindAt b)) → isSelect (kindAt b) ≡ false → b ≡ 18
-unfolding kindAt
-binds-byte b h no-select = go (ltb b 18) refl (ltb b 19) refl (ltb b 21) refl
-  where
-    go : (t : Bool) → ltb b 18 ≡ t → (u : Bool) → ltb b 19 ≡ u → (v : Bool) → ltb b 21 ≡ v → b ≡ 18
-    go true e u f v g = let l = ltb-true b 18 e in never (in-range bindsRelation false 0 18 tt b (omega arith) (omega arith)) h
-    go false e true f v g = omega (arith, ltb-false b 18 e, ltb-true b 19 f)
-    go false e false f true g =
-        let l = ltb-false b 19 f in let m = ltb-true b 21 g in
-        absurd (subst T (in-range isSelect true 19 2 tt b (omega arith) (omega arith) ∙ no-select) tt)
-    go false e false f false g = let l = ltb-false b 21 g in never (in-range bindsRelation false 21 7 tt b (omega arith) (omega arith)) h
+binds-byte b h no-select =
+    class-byte (λ n. n ≡ 18) (λ k. bindsRelation k && not (isSelect k)) tt (refl ▸ tt) b
+    (and-in (bindsRelation (kindAt b)) (not (isSelect (kindAt b))) h (T-not-of (isSelect (kindAt b)) no-select))
+
+-- the byte of an aggregate
+pub aggregate-byte : (b : ℕ) → isAggregate (kindAt b) ≡ true → b ≡ 22
+aggregate-byte b h = class-byte (λ n. n ≡ 22) isAggregate tt (refl ▸ tt) b (T-of (isAggregate (kindAt b)) h)

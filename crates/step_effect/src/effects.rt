@@ -1,6 +1,7 @@
 // What a step that is no loop leaves: the table's content, the relation that it binds, and the variables.
 use crate::Judged;
 use nets::Node;
+use nets::kinds::is_aggregate;
 use nets::kinds::is_select;
 use row_change::appending::append;
 use row_change::appending::push;
@@ -89,7 +90,7 @@ pub fn vars_after(
     ensures { λ r. ⌜ varsOf r ≡ varsBy (kindAt (node .kind)) (partsOf node content source vars) ⌝ }
 {
     let kind = node.kind;
-    if kind == 22 {
+    if is_aggregate(kind) {
         let result = node.result;
         let g = j.result;
         return bind_to(result, g, vars);

@@ -19,7 +19,8 @@ use Rattle.rows.specs.Matching.{rowVars}
 use Rattle.rows.specs.Fit.{draft}
 use Rattle.row_change.specs.Changes.{draftFor}
 use Rattle.row_change.specs.Contracts.{Complete}
-use Rattle.nets.specs.Nets.{Kind, acting, other, insert, insertTable, delete, update, create, drop, select, selectRelation, aggregate, sequential, parallel, badKind, isSelect, Node, Bindings}
+use Rattle.nets.proofs.KindClasses.{_▸_, of-class}
+use Rattle.nets.specs.Nets.{Kind, isSelect, Node, Bindings}
 use Rattle.nets.specs.Sound.{tagged, operandsOk, bindingsOk, fieldsOkAs, nodeOkAs}
 use Rattle.nets.specs.Steps.{isBound, isBoundTable, known, readsOk}
 
@@ -59,18 +60,8 @@ module _ (e : Vars) (t : List Operand) (sixteen : length e ≡ 16) where
 
 select-tags : (k : Kind) (n i : ℕ) (d : Node) → T (nodeOkAs k n i d) → T (isSelect k) → T (operandsOk 4 (d .tuple))
 unfolding fieldsOkAs
-select-tags (acting insert) n i d h s = absurd s
-select-tags (acting insertTable) n i d h s = absurd s
-select-tags (acting delete) n i d h s = absurd s
-select-tags (acting update) n i d h s = absurd s
-select-tags (acting create) n i d h s = absurd s
-select-tags (acting drop) n i d h s = absurd s
-select-tags (other select) n i d h s = search (and-l, and-r) depth 14
-select-tags (other selectRelation) n i d h s = search (and-l, and-r) depth 14
-select-tags (other aggregate) n i d h s = absurd s
-select-tags (other sequential) n i d h s = absurd s
-select-tags (other parallel) n i d h s = absurd s
-select-tags (other badKind) n i d h s = absurd s
+select-tags k n i d h s =
+    of-class (λ j. T (nodeOkAs j n i d) → T (operandsOk 4 (d .tuple))) isSelect ((λ g. search (and-l, and-r) depth 14) ▸ (λ g. search (and-l, and-r) depth 14) ▸ tt) k s h
 
 -- with bindings `b`, where what the node reads is bound
 pub select-complete :

@@ -3,17 +3,17 @@ use Prim.Native.Nat.{ℕ, _+_, _<_, _≤_}
 use mathlib.Core.Path.{_≡_, ap, subst, sym, _∙_}
 use mathlib.Core.Bool.{true, false}
 use mathlib.Core.List.{[], _∷_}
-use lib.Dec.{T, eqb}
+use lib.Dec.{T}
 use lib.ListN.{length}
 use Rattle.values.specs.Operands.{varsOf}
 use Rattle.rows.specs.declared.Relation as Code
 use Rattle.nets.specs.declared.Answer.the-variants.{Done}
 use Rattle.nets.specs.Nets as M
-use Rattle.nets.specs.Nets.{toRun, visiting}
+use Rattle.nets.specs.Nets.{isParallel, toRun, visiting}
 use Rattle.nets.specs.Sound.{entryNode}
 use Rattle.nets.specs.Scenes.{Scene, below}
 use Rattle.nets.specs.Answers.{saidOf}
-use Rattle.nets.specs.View.{marked, entryOf, threadOf}
+use Rattle.nets.specs.View.{kindAt, marked, entryOf, threadOf}
 use Rattle.step_thread.specs.declared.Round.{Round}
 use Rattle.step_thread.specs.declared.Turn.the-variants.{Over, Opened}
 use Rattle.step_thread.specs.Contracts.{Stacked}
@@ -41,7 +41,7 @@ module _ (s : Situation) (q : Code.Relation) (c : Scene) (o : Round) (at : Round
     waiting = waits ∙ ap (λ (j : ℕ). visiting j (marked 0 (o .visit))) number
 
     -- a round in the thread
-    pub runs-at : eqb (s .node .kind) 26 ≡ false → s .thread .depth < 8 → r .forks ≡ false → r .vars ≡ o .vars → r .depth ≡ s .thread .depth + 1 → DecidedAt s q c r
+    pub runs-at : isParallel (kindAt (s .node .kind)) ≡ false → s .thread .depth < 8 → r .forks ≡ false → r .vars ≡ o .vars → r .depth ≡ s .thread .depth + 1 → DecidedAt s q c r
     runs-at k deep f v d =
         record {
           answer = ap saidOf done ∙ turn-says s c o at e;
@@ -58,7 +58,7 @@ module _ (s : Situation) (q : Code.Relation) (c : Scene) (o : Round) (at : Round
         }
 
     -- a round in a new thread
-    pub forks-at : eqb (s .node .kind) 26 ≡ true → r .forks ≡ true → r .vars ≡ s .thread .vars → r .inner ≡ o .vars → r .depth ≡ s .thread .depth → DecidedAt s q c r
+    pub forks-at : isParallel (kindAt (s .node .kind)) ≡ true → r .forks ≡ true → r .vars ≡ s .thread .vars → r .inner ≡ o .vars → r .depth ≡ s .thread .depth → DecidedAt s q c r
     forks-at k f v n d =
         record {
           answer = ap saidOf done ∙ turn-says s c o at e;

@@ -1,10 +1,10 @@
 -- The change that the code decides on at a loop is the step's: over, a round in the thread, or a round in a new one. Assumes nothing.
 use Prim.Native.Nat.{ℕ, _≤_}
 use mathlib.Core.Path.{_≡_, refl, ap, ap₂, sym, subst, _∙_}
-use mathlib.Core.Bool.{Bool, true, false, not, cond, _&&_, _||_}
+use mathlib.Core.Bool.{Bool, true, false, not, cond, _&&_}
 use mathlib.Core.List.{List, [], _∷_, _++_, map, append-nil}
 use mathlib.Core.Option.{some}
-use lib.Dec.{T, eqb, ltb}
+use lib.Dec.{T, T-not, eqb, ltb}
 use lib.ListN.{length, getD}
 use borrow.Author.Tests.{ltb-true}
 use Rattle.values.specs.declared.Operand.{Operand}
@@ -24,7 +24,7 @@ use Rattle.step_thread.specs.declared.Turn.the-variants.{Over, Opened, Stopped}
 use Rattle.step_meets.specs.declared.Decided.{Decided}
 use Rattle.step_meets.specs.Situations.{Situation}
 use Rattle.nets.specs.Nets as M
-use Rattle.nets.specs.Nets.{Kind, acting, other, insert, insertTable, delete, update, create, drop, select, selectRelation, aggregate, sequential, parallel, badKind, isLoop, isParallel, bindsRelation, toRun, visiting}
+use Rattle.nets.specs.Nets.{Kind, isLoop, isParallel, bindsRelation, toRun, visiting}
 use Rattle.nets.specs.Sound.{entryNode}
 use Rattle.nets.specs.Scenes.{Scene, below, stillToVisit, vars, template, rowAt}
 use Rattle.nets.specs.Steps.{roomForRound, check12, loopEntry, roundBindings, withBindings, withStack, withVars, goOn, settle}
@@ -33,39 +33,17 @@ use Rattle.nets.specs.View.{kindAt, marked, entryOf, variableOf, bindingsOf, th
 use Rattle.step_effect.specs.Contracts.{putsRows}
 use Rattle.step_thread.specs.Contracts.{turnOf, turnBy, opened, readyAt, visitOf, RoundIs, standing}
 use Rattle.step_meets.specs.Contracts.{outcomeAt, Meets, relationRead, Made, ChangeIs}
-use Rattle.nets.proofs.KindLaws.{at-one}
+use Rattle.nets.proofs.KindClasses.{class-in, in-class}
 use Rattle.step_meets.proofs.MeetTies.{met-kind, met-vars, met-template, met-relation, met-turn, met-room}
 use Rattle.step_meets.proofs.RoundTies.{turnedSaid, turnAt, turnIn, turn-answer, over-threads, sequential-threads, parallel-threads, loop-visit, loop-row}
 
 -- a loop changes no rows
 puts-none : (k : Kind) → T (isLoop k) → T (putsRows k) → ⊥
-puts-none (acting insert) l h = l
-puts-none (acting insertTable) l h = l
-puts-none (acting delete) l h = l
-puts-none (acting update) l h = l
-puts-none (acting create) l h = l
-puts-none (acting drop) l h = l
-puts-none (other select) l h = l
-puts-none (other selectRelation) l h = l
-puts-none (other aggregate) l h = l
-puts-none (other sequential) l h = h
-puts-none (other parallel) l h = h
-puts-none (other badKind) l h = l
+puts-none k l = T-not (putsRows k) (class-in isLoop (λ j. not (putsRows j)) tt k l)
 
 -- and binds no table variable
 binds-none : (k : Kind) → T (isLoop k) → bindsRelation k ≡ false
-binds-none (acting insert) l = absurd l
-binds-none (acting insertTable) l = absurd l
-binds-none (acting delete) l = absurd l
-binds-none (acting update) l = absurd l
-binds-none (acting create) l = absurd l
-binds-none (acting drop) l = absurd l
-binds-none (other select) l = absurd l
-binds-none (other selectRelation) l = absurd l
-binds-none (other aggregate) l = absurd l
-binds-none (other sequential) l = refl
-binds-none (other parallel) l = refl
-binds-none (other badKind) l = absurd l
+binds-none k l = in-class isLoop k l bindsRelation false tt
 
 pub loop-relations : (s : Situation) (q : Code.Relation) (r : Decided) (x : Made s q r) → T (isLoop (kindAt (s .node .kind))) → map variableOf (x .relations) ≡ map variableOf (s .thread .relations)
 loop-relations s q r x l = x .bound ∙ rw (binds-none (kindAt (s .node .kind)) l)
@@ -98,25 +76,10 @@ round-room {e} {t} {r} {f} {row} {room} got h =
 
 -- ── room, by the code's tests ──
 
-abbrev pub roomBy : Bool → Bool → Bool → Bool
-roomBy p a b = (p && a) || (not p && b)
-
-pub room-runs : (p a b : Bool) → p ≡ false → roomBy p a b ≡ true → b ≡ true
-room-runs p a b e h = rw e at h
-
-choice : (p a b : Bool) → roomBy p a b ≡ cond p a b
-choice true true b = refl
-choice true false b = refl
-choice false a b = refl
-
-parallel-byte : (b : ℕ) → eqb b 26 ≡ isParallel (kindAt b)
-unfolding kindAt
-parallel-byte b = at-one isParallel 26 tt tt b
-
-pub room-met : (s : Situation) (c : Scene) → Meets s c → roomBy (eqb (s .node .kind) 26) (ltb (s .threads) 8) (ltb (s .thread .depth) 8) ≡ roomForRound c
-room-met s c m =
-    choice (eqb (s .node .kind) 26) (ltb (s .threads) 8) (ltb (s .thread .depth) 8)
-    ∙ ap (λ (b : Bool). cond b (ltb (s .threads) 8) (ltb (s .thread .depth) 8)) (parallel-byte (s .node .kind)) ∙ sym (met-room s c m)
+pub room-met :
+    (s : Situation) (c : Scene) → Meets s c → {p room : Bool} → p ≡ isParallel (kindAt (s .node .kind)) → room ≡ cond p (ltb (s .threads) 8) (ltb (s .thread .depth) 8) →
+    room ≡ roomForRound c
+room-met s c m e f = f ∙ ap (λ (b : Bool). cond b (ltb (s .threads) 8) (ltb (s .thread .depth) 8)) e ∙ sym (met-room s c m)
 
 -- ── the turn ──
 
@@ -153,8 +116,8 @@ module _ (s : Situation) (c : Scene) (o : Round) (r : RoundAt s c o) where
   pub turn-stops : (why : Refusal) → o .turn ≡ Stopped why → refusing (numberOf why) [] ≡ answerOf (outcomeAt c)
   turn-stops why e = turn-says e
 
-  kind-is : isParallel (c .node .kind) ≡ eqb (s .node .kind) 26
-  kind-is = ap isParallel (met-kind s c m) ∙ sym (parallel-byte (s .node .kind))
+  kind-is : isParallel (c .node .kind) ≡ isParallel (kindAt (s .node .kind))
+  kind-is = ap isParallel (met-kind s c m)
 
   puts-no-rows : T (putsRows (c .node .kind)) → ⊥
   puts-no-rows = puts-none (c .node .kind) loops
@@ -202,7 +165,7 @@ module _ (s : Situation) (c : Scene) (o : Round) (r : RoundAt s c o) where
 
     -- in the thread: the formals are bound and the body goes on the stack
     pub turn-runs :
-        eqb (s .node .kind) 26 ≡ false → (content : Code.Relation) (after fork : Thread) →
+        isParallel (kindAt (s .node .kind)) ≡ false → (content : Code.Relation) (after fork : Thread) →
         threadOf after ≡ roundIn (threadOf (s .thread)) (varsOf (o .vars)) (toRun (s .node .body)) entry →
         ChangeIs c (record { answer = Done 0 0; content = content; thread = after; forks = false; fork = fork })
     turn-runs h content after fork p =
@@ -221,7 +184,7 @@ module _ (s : Situation) (c : Scene) (o : Round) (r : RoundAt s c o) where
 
     -- in a new thread: the loop's own keeps its variables
     pub turn-forks :
-        eqb (s .node .kind) 26 ≡ true → (content : Code.Relation) (after fork : Thread) → 1 ≤ after .depth →
+        isParallel (kindAt (s .node .kind)) ≡ true → (content : Code.Relation) (after fork : Thread) → 1 ≤ after .depth →
         threadOf after ≡ withStack (threadOf (s .thread)) (entry ∷ below (threadOf (s .thread) .stack)) →
         threadOf fork ≡ record { site = s .thread .site; bindings = bindingsOf (o .vars) (s .thread .relations); stack = toRun (s .node .body) ∷ [] } →
         ChangeIs c (record { answer = Done 0 0; content = content; thread = after; forks = true; fork = fork })
@@ -242,5 +205,5 @@ module _ (s : Situation) (c : Scene) (o : Round) (r : RoundAt s c o) where
 
         space-is : ltb (s .threads) 8 ≡ true
         space-is =
-            sym (ap (λ (b : Bool). cond b (ltb (s .threads) 8) (ltb (s .thread .depth) 8)) (sym (parallel-byte (s .node .kind)) ∙ h))
+            sym (ap (λ (b : Bool). cond b (ltb (s .threads) 8) (ltb (s .thread .depth) 8)) h)
             ∙ sym (met-room s c m) ∙ sym (r .space) ∙ round-room (r .got) e

@@ -1,7 +1,7 @@
 -- Tables and threads stored at their places: one gives way to another, a new one goes last, a removed one closes up. Assumes nothing.
 use Prim.Native.Nat.{ℕ, _+_, _-_, _<_, _≤_}
 use mathlib.Core.Path.{_≡_, refl, ap, sym, subst, _∙_}
-use mathlib.Core.Bool.{Bool, true, false, cond}
+use mathlib.Core.Bool.{Bool, true, false, not, cond, _&&_}
 use mathlib.Core.List.{List, [], _∷_, _++_, map, append-nil}
 use mathlib.Core.Option.{Option, some}
 use native.Mathlib.Omega.{arith}
@@ -22,7 +22,7 @@ use Rattle.nets.specs.declared.Frame.{Frame}
 use Rattle.nets.specs.declared.TableVariable.{TableVariable}
 use Rattle.nets.specs.declared.Thread.{Thread}
 use Rattle.nets.specs.Nets as M
-use Rattle.nets.specs.Nets.{Kind, acting, other, insert, insertTable, delete, update, create, drop, select, selectRelation, aggregate, sequential, parallel, badKind, code, needsTable, bindsRelation, isCreate}
+use Rattle.nets.specs.Nets.{Kind, code, needsTable, bindsRelation, isCreate}
 use Rattle.nets.specs.Steps.{settle}
 use Rattle.nets.specs.View.{noTable, noThread, kindAt, tableOf, variableOf, threadOf, tablesOf, threadsOf}
 use Rattle.step_effect.specs.Contracts.{isStep, putsRows}
@@ -30,38 +30,17 @@ use Rattle.step_thread.specs.Contracts.{standing, forksOf}
 use Rattle.step_thread.proofs.ThreadLaws.{standing-gone, standing-there, settle-none, settle-one}
 use Rattle.step_effect.specs.TableContracts.{withContent, putContent, tablesWith}
 use Rattle.step_effect.proofs.KindTies.{puts-needs, with-create, with-drop}
+use Rattle.nets.proofs.KindClasses.{_▸_, class-in, of-class}
 use Rattle.nets.proofs.KindLaws.{at-one}
 use Rattle.values.proofs.RemoveLaws.{Closing, closing-ends}
 
 -- ── kinds ──
 
 pub puts-step : (k : Kind) → T (putsRows k) → T (isStep k)
-puts-step (acting insert) h = tt
-puts-step (acting insertTable) h = tt
-puts-step (acting delete) h = tt
-puts-step (acting update) h = tt
-puts-step (acting create) h = absurd h
-puts-step (acting drop) h = absurd h
-puts-step (other select) h = absurd h
-puts-step (other selectRelation) h = absurd h
-puts-step (other aggregate) h = absurd h
-puts-step (other sequential) h = absurd h
-puts-step (other parallel) h = absurd h
-puts-step (other badKind) h = absurd h
+puts-step = class-in putsRows isStep tt
 
 pub binds-step : (k : Kind) → T (bindsRelation k) → T (isStep k)
-binds-step (acting insert) h = absurd h
-binds-step (acting insertTable) h = absurd h
-binds-step (acting delete) h = tt
-binds-step (acting update) h = absurd h
-binds-step (acting create) h = absurd h
-binds-step (acting drop) h = absurd h
-binds-step (other select) h = tt
-binds-step (other selectRelation) h = tt
-binds-step (other aggregate) h = absurd h
-binds-step (other sequential) h = absurd h
-binds-step (other parallel) h = absurd h
-binds-step (other badKind) h = absurd h
+binds-step = class-in bindsRelation isStep tt
 
 abbrev isDrop : Kind → Bool
 isDrop k = eqb (code k) 24
@@ -69,28 +48,12 @@ isDrop k = eqb (code k) 24
 module _ (at : ℕ) (ts : List M.Table) (s : Site) (d : M.Node) (q : Relation) where
   with-puts : (k : Kind) → T (putsRows k) → tablesWith k at ts s d q ≡ putContent at q ts
   unfolding tablesWith
-  with-puts (acting insert) h = refl
-  with-puts (acting insertTable) h = refl
-  with-puts (acting delete) h = refl
-  with-puts (acting update) h = refl
-  with-puts (acting create) h = absurd h
-  with-puts (acting drop) h = absurd h
-  with-puts (other select) h = absurd h
-  with-puts (other selectRelation) h = absurd h
-  with-puts (other aggregate) h = absurd h
-  with-puts (other sequential) h = absurd h
-  with-puts (other parallel) h = absurd h
-  with-puts (other badKind) h = absurd h
+  with-puts = of-class (λ k. tablesWith k at ts s d q ≡ putContent at q ts) putsRows (refl ▸ refl ▸ refl ▸ refl ▸ tt)
 
   with-same : (k : Kind) → putsRows k ≡ false → isCreate k ≡ false → isDrop k ≡ false → tablesWith k at ts s d q ≡ ts
   unfolding tablesWith
-  with-same (acting insert) a b c = absurd (subst T a tt)
-  with-same (acting insertTable) a b c = absurd (subst T a tt)
-  with-same (acting delete) a b c = absurd (subst T a tt)
-  with-same (acting update) a b c = absurd (subst T a tt)
-  with-same (acting create) a b c = absurd (subst T b tt)
-  with-same (acting drop) a b c = absurd (subst T c tt)
-  with-same (other o) a b c = refl
+  with-same k a b c =
+      of-class (λ j. tablesWith j at ts s d q ≡ ts) (λ j. not (putsRows j) && not (isCreate j) && not (isDrop j)) (refl ▸ refl ▸ refl ▸ refl ▸ refl ▸ refl ▸ tt) k (rw (a, b, c) tt)
 
 -- ── tables ──
 

@@ -26,7 +26,7 @@ use Rattle.nets.specs.declared.Table.{Table}
 use Rattle.nets.specs.declared.Thread.{Thread}
 use Rattle.nets.specs.declared.Net.{Net}
 use Rattle.nets.specs.Nets as M
-use Rattle.nets.specs.Nets.{Kind, acting, other, insert, insertTable, delete, update, create, drop, select, selectRelation, aggregate, sequential, parallel, badKind, needsTable, isCreate}
+use Rattle.nets.specs.Nets.{Kind, acting, other, insert, insertTable, delete, update, create, drop, needsTable, isCreate}
 use Rattle.nets.specs.Tables.{tableAt, rowsOf, columnsOf}
 use Rattle.nets.specs.Sound.{sound}
 use Rattle.nets.specs.Scenes.{Scene, sceneOf, Parts, parts, site, table}
@@ -38,6 +38,7 @@ use Rattle.step_effect.specs.Contracts.{putsRows}
 use Rattle.step_thread.specs.Contracts.{standing, forksOf}
 use Rattle.step_meets.specs.Contracts.{laterChecks, outcomeAt, ChangeIs}
 use Rattle.step_effect.specs.TableContracts.{putContent, tablesWith}
+use Rattle.nets.proofs.KindClasses.{_▸_, of-class}
 use Rattle.nets.proofs.StepLaws.{Passed, given}
 use Rattle.nets.proofs.AnswerLaws.{judge-said, said-passed, refuses-11}
 use Rattle.nets.proofs.TablePlaces.{placeAt, place-below}
@@ -63,18 +64,7 @@ change-refused net p ok there is says = ap answerOf (step-is net p ok there) ∙
 
 -- a create has room
 room-create : (k : Kind) (p : Parts) (n : ℕ) → T (roomBy k p n) → T (isCreate k) → n < 8
-room-create (acting create) p n h k = ltb→lt n 8 h
-room-create (acting insert) p n h k = absurd k
-room-create (acting insertTable) p n h k = absurd k
-room-create (acting delete) p n h k = absurd k
-room-create (acting update) p n h k = absurd k
-room-create (acting drop) p n h k = absurd k
-room-create (other select) p n h k = absurd k
-room-create (other selectRelation) p n h k = absurd k
-room-create (other aggregate) p n h k = absurd k
-room-create (other sequential) p n h k = absurd k
-room-create (other parallel) p n h k = absurd k
-room-create (other badKind) p n h k = absurd k
+room-create k p n h e = of-class (λ j. T (roomBy j p n) → n < 8) isCreate ((λ g. ltb→lt n 8 g) ▸ tt) k e h
 
 -- ── its tables ──
 

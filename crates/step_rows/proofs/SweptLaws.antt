@@ -4,8 +4,7 @@ use mathlib.Core.Path.{_≡_, ap, ap₂, sym, _∙_, subst}
 use mathlib.Core.Bool.{Bool, true, false, not, _||_}
 use mathlib.Core.List.{List, map}
 use mathlib.Core.Logic.{_⊎_, inl, inr}
-use borrow.Author.Tests.{eq-eqb}
-use lib.Dec.{T, eqb}
+use lib.Dec.{T}
 use lib.ListN.{length}
 use mir.Val.{Val}
 use denote.Laws.{Is}
@@ -28,7 +27,7 @@ use Rattle.row_change.specs.Contracts.{marks, sift, SweptIs}
 use Rattle.row_change.proofs.Prepared.{Planned, Termed, planned, termed, columns-same, marks-are, number-is, hits-marked, picked, changes-marked, replaced}
 use Rattle.row_change.proofs.SweepLaws.{sift-marked}
 use Rattle.nets.specs.declared.Node.{Node}
-use Rattle.nets.specs.Nets.{isSelect}
+use Rattle.nets.specs.Nets.{isSelect, isUpdate}
 use Rattle.nets.specs.View.{kindAt}
 use Rattle.step_effect.specs.Contracts.{Long, hitIn, changedIn, JudgeReady, JudgedIs}
 
@@ -56,14 +55,18 @@ module _ (d : Node) (q : Code.Relation) (vars : List Slot) {x : Bool} (sel : x �
 -- ── which kinds are judged how ──
 
 -- a delete or an aggregate has no new rows
-plain : {b : ℕ} → (b ≡ 18) ⊎ (b ≡ 22) → not (isSelect (kindAt b) || eqb b 21) ≡ true
+plain : {b : ℕ} → (b ≡ 18) ⊎ (b ≡ 22) → not (isSelect (kindAt b) || isUpdate (kindAt b)) ≡ true
 unfolding kindAt
-plain (inl e) = ap (λ (i : ℕ). not (isSelect (kindAt i) || eqb i 21)) e
-plain (inr e) = ap (λ (i : ℕ). not (isSelect (kindAt i) || eqb i 21)) e
+plain (inl e) = ap (λ (i : ℕ). not (isSelect (kindAt i) || isUpdate (kindAt i))) e
+plain (inr e) = ap (λ (i : ℕ). not (isSelect (kindAt i) || isUpdate (kindAt i))) e
 
 update-kind : {b : ℕ} → b ≡ 21 → isSelect (kindAt b) ≡ false
 unfolding kindAt
 update-kind e = ap (λ (i : ℕ). isSelect (kindAt i)) e
+
+update-byte : {b : ℕ} → b ≡ 21 → isUpdate (kindAt b) ≡ true
+unfolding kindAt
+update-byte e = ap (λ (i : ℕ). isUpdate (kindAt i)) e
 
 -- ── the rows judged ──
 
@@ -76,8 +79,8 @@ module _ (d : Node) (q : Code.Relation) (vars : List Slot) (sixteen : length var
     {columns : ℕ} {kinds : List ℕ} (shape : ShapeIs d q vars columns kinds) (plan : Plan)
     (plans : (row : Row) → length (row .cells) ≡ 4 → planHits plan row ≡ hits (varsOf vars) (selectorOf (d .selector)) (valuesOf (d .selector .template .count) row))
     (terms : Terms) (made : termsIn terms ≡ map (termOf (varsOf vars) (operandsOf (d .selector .template))) (operandsOf (d .tuple))) (as-many : terms .count ≡ d .tuple .count)
-    {n : ℕ} (all-rows : Long d q → n ≡ q .count) {x : Bool} (sel : x ≡ isSelect (kindAt (d .kind))) (o : Swept)
-    (swept : SweptIs plan (x || eqb (d .kind) 21) x terms columns kinds n (q .rows) o) (g : Got)
+    {n : ℕ} (all-rows : Long d q → n ≡ q .count) {x u : Bool} (sel : x ≡ isSelect (kindAt (d .kind))) (upd : u ≡ isUpdate (kindAt (d .kind))) (o : Swept)
+    (swept : SweptIs plan (x || u) x terms columns kinds n (q .rows) o) (g : Got)
     (res : ResultIs d q (o .flags) g) where
   fine : Long d q → Ready q (d .selector)
   fine l = record { columns = ready .source .columns; count = ready .source .count; long = l }
@@ -88,14 +91,14 @@ module _ (d : Node) (q : Code.Relation) (vars : List Slot) (sixteen : length var
   t : Long d q → Termed q (d .selector) (varsOf vars) (operandsOf (d .tuple)) terms
   t l = termed (fine l) vars sixteen (d .tuple) terms made
 
-  all-swept : Long d q → SweptIs plan (x || eqb (d .kind) 21) x terms columns kinds (q .count) (q .rows) o
-  all-swept l = subst (λ (m : ℕ). SweptIs plan (x || eqb (d .kind) 21) x terms columns kinds m (q .rows) o) (all-rows l) swept
+  all-swept : Long d q → SweptIs plan (x || u) x terms columns kinds (q .count) (q .rows) o
+  all-swept l = subst (λ (m : ℕ). SweptIs plan (x || u) x terms columns kinds m (q .rows) o) (all-rows l) swept
 
   hit-is : (d .kind ≡ 18) ⊎ (d .kind ≡ 22) → Long d q →
       (marks (q .count) (o .flags) ≡ map (hitIn d vars) (relationOf q .rows)) × (count (λ (b : Bool). b) (o .flags) ≡ count (hitIn d vars) (relationOf q .rows))
   hit-is k l =
       let a = all-swept l in
-      let free : not (x || eqb (d .kind) 21) ≡ true = ap (λ (b : Bool). not (b || eqb (d .kind) 21)) sel ∙ plain k in
+      let free : not (x || u) ≡ true = ap₂ (λ (a b : Bool). not (a || b)) sel upd ∙ plain k in
       (marks-are (p l) (t l) a (hitIn d vars) (hits-marked (p l) (t l) a free), number-is (p l) (t l) a (hitIn d vars) (hits-marked (p l) (t l) a free))
 
   pub judged-is : JudgedIs d q vars (record { columns = columns; kinds = kinds; rows = o .rows; flags = o .flags; result = g })
@@ -108,13 +111,13 @@ module _ (d : Node) (q : Code.Relation) (vars : List Slot) (sixteen : length var
             let a = all-swept l in
             let own = shape .own (update-kind k) in
             let strict = sel ∙ update-kind k in
-            let drafts : (x || eqb (d .kind) 21) ≡ true = ap₂ _||_ strict (eq-eqb (d .kind) 21 k) in
+            let drafts : (x || u) ≡ true = ap₂ _||_ strict (upd ∙ update-byte k) in
             (replaced (p l) (t l) a drafts strict (own .0) (own .1), number-is (p l) (t l) a (changedIn d q vars) (changes-marked (p l) (t l) a drafts strict (own .0) (own .1)));
         select =
             λ k l complete.
             let a = all-swept l in
             let loose = sel ∙ k in
-            let drafts : (x || eqb (d .kind) 21) ≡ true = ap (_|| eqb (d .kind) 21) loose in (
+            let drafts : (x || u) ≡ true = ap (_|| u) loose in (
               columns-same (fine l) (varsOf vars) (operandsOf (d .tuple)) (shape .select k .1),
               ap (λ (m : ℕ). sift true (marks (q .count) (o .flags)) (firsts (valuesOf m) noRow (q .count) (o .rows))) (shape .select k .0 ∙ sym as-many)
                   ∙ picked (p l) (t l) a drafts loose complete,

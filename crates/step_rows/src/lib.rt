@@ -1,7 +1,9 @@
 // The rows that a step speaks of are judged once, as they stood before.
 use nets::Node;
 use nets::kinds::has_test;
+use nets::kinds::is_aggregate;
 use nets::kinds::is_select;
+use nets::kinds::is_update;
 use row_aggregate::aggregate;
 use row_change::sifting::sifted;
 use row_columns::selected_kinds;
@@ -59,12 +61,12 @@ fn judged_rows(node: Node, source: Relation, vars: [Slot; 16]) -> Judged
     if template.count == source.columns {
         n = source.count;
     }
-    let drafts = select | (kind == 21);
+    let drafts = select | is_update(kind);
     let s = swept(source, n, plan, drafts, select, terms, columns, kinds);
     let rows = s.rows;
     let flags = s.flags;
     let mut result = Got::Nothing;
-    if kind == 22 {
+    if is_aggregate(kind) {
         result = result_of(node, source, flags);
     }
     Judged {

@@ -7,7 +7,8 @@ ghost use mathlib.Core.Path.{_≡_};
 ghost use lib.ListN.{getD, set};
 ghost use Rattle.values.specs.declared.Value.the-variants.{Int};
 ghost use Rattle.values.specs.declared.Got.the-variants.{Nothing, One};
-ghost use Rattle.values.specs.Operands.{varsOf, add, eval, formalOf, bindTo};
+ghost use Rattle.values.specs.Values.{in32};
+ghost use Rattle.values.specs.Operands.{varsOf, fitting, add, eval, formalOf, bindTo};
 
 // What a variable holds; past the sixteen, nothing.
 pub fn held_in(vars: [Slot; 16], i: u8) -> Got
@@ -21,11 +22,10 @@ pub fn held_in(vars: [Slot; 16], i: u8) -> Got
     s.held
 }
 
-// The sum is taken in 64 bits, so that leaving 32 is seen and nothing wraps.
-fn sum_of(i: i32, k: i32) -> Got
-    ensures { λ r. ⌜ r ≡ add k (One (Int i)) ⌝ }
+// An Int, if the number is within 32 bits.
+pub fn int_within(s: i64) -> Got
+    ensures { λ r. ⌜ r ≡ fitting (in32 s) s ⌝ }
 {
-    let s = (i as i64) + (k as i64);
     if s < -2147483648 {
         return Got::Nothing;
     }
@@ -33,6 +33,13 @@ fn sum_of(i: i32, k: i32) -> Got
         return Got::Nothing;
     }
     Got::One(Value::Int(s as i32))
+}
+
+// The sum is taken in 64 bits, so that leaving 32 is seen and nothing wraps.
+fn sum_of(i: i32, k: i32) -> Got
+    ensures { λ r. ⌜ r ≡ add k (One (Int i)) ⌝ }
+{
+    int_within((i as i64) + (k as i64))
 }
 
 pub fn plus(g: Got, k: i32) -> Got
@@ -52,13 +59,12 @@ pub fn eval_in(op: Operand, vars: [Slot; 16]) -> Got
     ensures { λ r. ⌜ r ≡ eval (varsOf vars) op ⌝ }
 {
     match op {
-        Operand::Absent => Got::Nothing,
         Operand::ConstInt(i) => Got::One(Value::Int(i)),
         Operand::ConstText(t) => Got::One(Value::Text(t)),
         Operand::ConstLoc(l) => Got::One(Value::Loc(l)),
         Operand::Var(i) => held_in(vars, i),
         Operand::Plus(i, k) => plus(held_in(vars, i), k),
-        Operand::Formal(_) => Got::Nothing,
+        _ => Got::Nothing,
     }
 }
 
@@ -81,12 +87,7 @@ pub fn bind_to(op: Operand, g: Got, vars: [Slot; 16]) -> [Slot; 16]
     ensures { λ r. ⌜ varsOf r ≡ bindTo (formalOf op) g (varsOf vars) ⌝ }
 {
     match op {
-        Operand::Absent => vars,
-        Operand::ConstInt(_) => vars,
-        Operand::ConstText(_) => vars,
-        Operand::ConstLoc(_) => vars,
-        Operand::Var(_) => vars,
-        Operand::Plus(_, _) => vars,
         Operand::Formal(i) => put_in(vars, i, g),
+        _ => vars,
     }
 }

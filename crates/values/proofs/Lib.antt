@@ -8,6 +8,7 @@ pub mod FlagLaws
 pub mod Ints
 pub mod ListLaws
 pub mod Loops
+pub mod OperandArms
 pub mod PairLaws
 pub mod PlaceLaws
 pub mod RangeLaws

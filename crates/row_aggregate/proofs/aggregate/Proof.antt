@@ -59,7 +59,7 @@ returns-3 : tie.Need-returns-3
 unfolding aggregated
 returns-3 c =
     gives _ (c .before .before .enum-told3 .given .1) _
-    (c .within .ensures ∙ ap (λ (z : ℤ). fitting (in32 z) z) (back w64 (c .before .total-of .result) (search needs) ∙ c .before .total-of .ensures))
+    (c .int-within .ensures ∙ ap (λ (z : ℤ). fitting (in32 z) z) (back w64 (c .before .total-of .result) (search needs) ∙ c .before .total-of .ensures))
 
 returns-4 : tie.Need-returns-4
 unfolding aggregated

@@ -1,7 +1,9 @@
 -- `row_columns::column_kind` meets its contract: a variable's kind is its source's.
-use mathlib.Core.Path.{_≡_, sym, ap, _∙_}
+use mathlib.Core.Path.{_≡_, refl, sym, ap, _∙_}
+use mathlib.Core.List.{[], _∷_}
 use lib.ListN.{length, length-map}
 use Rattle.values.proofs.Arrays.{long}
+use Rattle.values.proofs.OperandArms.{other-arm}
 use Rattle.values.proofs.Firsts.{length-firsts}
 use Rattle.values.specs.declared.Slot.{Slot}
 use Rattle.values.specs.Operands.{varsOf, bind}
@@ -15,8 +17,8 @@ use borrow.Author.Needs.{needs}
 use Rattle.row_columns.proofs.column_kind.Statement.{statement}
 use Rattle.row_columns.proofs.column_kind.Tie as tie
 
-returns-5 : tie.Need-returns-5
-returns-5 c =
+returns-4 : tie.Need-returns-4
+returns-4 c =
     let s = c .before .before .before .before .before in
     let a = s .args in
     let sixteen : length (a .vars) ≡ 16 = search (long, needs) in
@@ -26,6 +28,12 @@ returns-5 c =
     (length-firsts (λ (f : Field). f .operand) noField (a .template .count) (a .template .fields)) (a .kinds) (c .before .before .before .op .given .0 .0)
     ∙ sym (ap (columnFor (bind (operandsOf (a .template)) (columnsOf (a .template .count) (a .kinds)) (kindsOf (varsOf (a .vars))))) (c .before .before .before .op .given .1))
 
+returns-6 : tie.Need-returns-6
+returns-6 c =
+    let a = c .before .args in
+    other-arm (λ o. 0 ≡ columnFor (bind (operandsOf (a .template)) (columnsOf (a .template .count) (a .kinds)) (kindsOf (varsOf (a .vars)))) o) (0 ∷ 6 ∷ []) refl tt tt tt tt tt (λ i. refl) (a .op)
+    (c .match .keys6)
+
 pub column-kind-spec : {M : Type 1} → statement M
 column-kind-spec =
     tie.close
@@ -34,15 +42,12 @@ column-kind-spec =
     (λ c. search needs)
     (λ c. search needs)
     (λ c. search needs)
-    (λ c. search needs)
     (λ c κs. search needs)
     (λ c κs. search needs)
     (λ c. search needs)
     (λ c. search needs)
     (λ c. search needs)
     (λ c. search needs)
+    returns-4
     (λ c. search needs)
-    (λ c. search needs)
-    returns-5
-    (λ c. search needs)
-    (λ c. search needs))
+    returns-6)

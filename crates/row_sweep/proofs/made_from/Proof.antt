@@ -12,7 +12,7 @@ returns c = let a = c .before .before .args in made-same _ (column-past (a .t1 .
 returns-2 : tie.Need-returns-2
 returns-2 c =
     let a = c .before .before .before .args in
-    made-one _ (getD (a .t1 .cells) (a .at) noCell) (column-there (a .t1 .cells) (a .at) (c .before .before .if1 .left)) (c .kind-of .ensures)
+    made-one _ (getD (a .t1 .cells) (a .at) noCell) (column-there (a .t1 .cells) (a .at) (c .before .before .if1 .left)) (c .fits-column .ensures)
 
 pub made-from-spec : {M : Type 1} → statement M
 made-from-spec =

@@ -35,13 +35,13 @@ loop-again c =
     let s = l .before .before in
     let j = c .before .before .judge in (
       search needs,
-      sweep-stores _ _ _ _ _ _ _ (l .loop .inv .1) (search needs) (j .ensures .fits) (c .before .if1 .taken) (j .result .row) (there s (search needs)) (λ u g f. j .ensures .row u g f),
+      sweep-stores _ _ _ _ _ _ _ (l .loop .inv .1) (search needs) (j .ensures .marked) (c .before .if1 .taken) (j .result .row) (there s (search needs)) (λ u g f. j .ensures .row u g f),
     )
 
 loop-again-2 : tie.Need-loop-again-2 Inv-loop μ-loop
 loop-again-2 c =
     let l = c .before .before .before .before in
-    (search needs, sweep-passes _ _ _ _ _ _ _ (l .loop .inv .1) (search needs) (c .before .judge .ensures .fits) (c .if1 .left))
+    (search needs, sweep-passes _ _ _ _ _ _ _ (l .loop .inv .1) (search needs) (c .before .judge .ensures .marked) (c .if1 .left))
 
 returns : tie.Need-returns Inv-loop μ-loop
 returns c =

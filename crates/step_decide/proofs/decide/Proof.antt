@@ -2,14 +2,15 @@
 use borrow.Author.Needs.{needs}
 use borrow.Author.Tests.{not-true, not-false}
 use mathlib.Core.Path.{_≡_, ap, sym, _∙_}
-use mathlib.Core.Bool.{Bool, true, not}
+use mathlib.Core.Bool.{Bool, true, not, _&&_}
 use mathlib.Core.List.{List}
 use Rattle.values.proofs.Bools.{T-of}
 use Rattle.nets.specs.declared.Refusal.the-variants.{Unbound, NoPlace, NoTable, TableThere}
-use Rattle.nets.specs.Nets.{isLoop}
+use Rattle.nets.specs.Nets.{isCreate, isLoop}
 use Rattle.nets.specs.Scenes.{Scene}
 use Rattle.nets.specs.Steps.{check12, check13, check14, check15}
 use Rattle.nets.specs.View.{kindAt}
+use Rattle.nets.proofs.KindLaws.{kind-is}
 use Rattle.step_meets.specs.Situations.{Situation, situation, Rest, whole}
 use Rattle.step_meets.specs.Contracts.{Meets, Known, Flagged}
 use Rattle.step_meets.proofs.SituationLaws.{fine-template, fine-tuple, fine-step, flagged-known, flagged-12, known-12}
@@ -58,8 +59,12 @@ thirteen c w n m = tested-13 (met (c .before .before .before) w) n m (c .before 
 fourteen : (c : tie.Else3) (w : Rest) (n : Scene) → Meets (met (c .before .before .before .before .before) w) n → check14 n ≡ true
 fourteen c w n m = tested-14 (met (c .before .before .before .before .before) w) n m (c .before .needs-table .ensures) ∙ ap not (c .if3 .left)
 
-fifteen : (c : tie.Else4) (w : Rest) (n : Scene) → Meets (met (c .before .before .before .before .before .before) w) n → check15 n ≡ true
-fifteen c w n m = tested-15 (met (c .before .before .before .before .before .before) w) n m ∙ ap not (c .if4 .left)
+-- check 15, by the code's test
+create-there : (s : Situation) (n : Scene) → Meets s n → {p : Bool} → p ≡ isCreate (kindAt (s .node .kind)) → check15 n ≡ not (p && s .found)
+create-there s n m e = tested-15 s n m ∙ ap (λ (b : Bool). not (b && s .found)) (kind-is (s .node .kind) 23 tt ∙ sym e)
+
+fifteen : (c : tie.Else4) (w : Rest) (n : Scene) → Meets (met (c .before .before .before .before .before .before .before) w) n → check15 n ≡ true
+fifteen c w n m = create-there (met (c .before .before .before .before .before .before .before) w) n m (c .before .is-create .ensures) ∙ ap not (c .if4 .left)
 
 -- ── the refusals after 12 ──
 
@@ -78,16 +83,16 @@ returns-3 c w fine flagged source =
 
 returns-4 : tie.Need-returns-4
 returns-4 c w fine flagged source =
-    let r = c .before .before in
+    let r = c .before .before .before in
     let q = r .before .before in
     let p = q .before .before .before in
     refused-is (met p w) (start (p .before) .args .source) (c .refuses4 .result) TableThere (c .refuses4 .ensures .0)
-    (λ n m. refuses-15 n (twelve p w flagged n m) (thirteen q w n m) (fourteen r w n m) (tested-15 (met p w) n m ∙ ap not (c .before .if4 .taken)))
+    (λ n m. refuses-15 n (twelve p w flagged n m) (thirteen q w n m) (fourteen r w n m) (create-there (met p w) n m (c .before .before .is-create .ensures) ∙ ap not (c .before .if4 .taken)))
 
 -- ── the rest ──
 
 abbrev passed : tie.After-is-loop → tie.Else1
-passed c = c .before .before .before .before .before .before .before
+passed c = c .before .before .before .before .before .before .before .before
 
 decide-loop-requires : tie.Need-decide-loop-requires
 decide-loop-requires c κs =
@@ -119,10 +124,11 @@ decide-act-requires c κs =
 returns-6 : tie.Need-returns-6
 returns-6 c w fine flagged source =
     let t = c .before .before .before in
-    let q = t .before .before .before in
+    let u = t .before .before in
+    let q = u .before .before in
     let p = q .before .before .before in
     record {
-      at = λ n m. c .decide-act .ensures .0 w fine (known p w flagged) (source .source (known p w flagged)) n m (thirteen q w n m) (fourteen (t .before) w n m) (fifteen t w n m);
+      at = λ n m. c .decide-act .ensures .0 w fine (known p w flagged) (source .source (known p w flagged)) n m (thirteen q w n m) (fourteen u w n m) (fifteen t w n m);
       known = λ h. known p w flagged;
       does = λ h x. c .decide-act .ensures .1 h;
     }
@@ -141,6 +147,7 @@ decide-spec =
     (λ c κs. search needs)
     (λ c κs. search needs)
     returns-3
+    (λ c κs. search needs)
     (λ c κs. search needs)
     returns-4
     (λ c κs. search needs)

@@ -1,7 +1,8 @@
 -- `step_decide::decide_loop` meets its contract: the round's turn is the step's, and a done one changes the threads as the step does. Assumes nothing.
 use Prim.Native.Nat.{_<_}
-use mathlib.Core.Path.{refl}
-use lib.Dec.{eqb, ltb}
+use mathlib.Core.Path.{_≡_, refl, ap, sym, _∙_}
+use mathlib.Core.Bool.{Bool, cond}
+use lib.Dec.{ltb}
 use borrow.Author.Needs.{needs}
 use borrow.Author.Tests.{ltb-true}
 use Rattle.nets.specs.Scenes.{Scene}
@@ -9,7 +10,7 @@ use Rattle.step_meets.specs.Situations.{Situation, situation, Rest, whole}
 use Rattle.step_meets.specs.Contracts.{Meets, Known, SourceIs}
 use Rattle.step_meets.proofs.SituationLaws.{fine-template, known-12, loop-read, visits-there}
 use Rattle.step_meets.proofs.DecideLaws.{refused-at}
-use Rattle.step_meets.proofs.TurnLaws.{round-room, room-runs, room-met, RoundAt, turn-stops}
+use Rattle.step_meets.proofs.TurnLaws.{round-room, room-met, RoundAt, turn-stops}
 use Rattle.step_meets.proofs.LoopLaws.{over-at, runs-at, forks-at}
 use Rattle.step_decide.proofs.decide_loop.Statement.{statement}
 use Rattle.step_decide.proofs.decide_loop.Tie as tie
@@ -33,7 +34,7 @@ round-at r w known source n m =
       source = s .args .source;
       held = loop-read (met r w) (s .args .source) source (s .pre .0);
       room = _;
-      space = room-met (met r w) n m;
+      space = room-met (met r w) n m (r .before .before .is-parallel .ensures) (r .before .room-for-round .ensures);
       got = r .round .ensures;
     }
 
@@ -54,7 +55,7 @@ returns c w fine known source n m =
     let o = k .before .before .before in
     let r = o .before .before in
     let s = start r in
-    forks-at (met r w) (s .args .source) n (r .round .result) (round-at r w known source n m) (fine .stacked) (w .long) _ refl (o .enum-told2 .given .1) (k .node-of .ensures) refl (c .if1 .taken) refl refl refl refl
+    forks-at (met r w) (s .args .source) n (r .round .result) (round-at r w known source n m) (fine .stacked) (w .long) _ refl (o .enum-told2 .given .1) (k .node-of .ensures) refl (sym (r .before .before .is-parallel .ensures) ∙ c .if1 .taken) refl refl refl refl
 
 -- refused
 returns-2 : tie.Need-returns-2
@@ -80,13 +81,16 @@ returns-4 c w fine known source n m =
     let s = start r in
     let e = o .enum-told2 .given .1 in
     let deep : s .args .depth < 8 =
-    ltb-true (s .args .depth) 8 (room-runs (eqb (s .args .node .kind) 26) (ltb (s .args .s .threads) 8) (ltb (s .args .depth) 8) (c .if1 .left) (round-room (r .round .ensures) e)) in
-    runs-at (met r w) (s .args .source) n (r .round .result) (round-at r w known source n m) (fine .stacked) (w .long) _ refl e (k .node-of .ensures) refl (c .if1 .left) deep refl refl refl
+    ltb-true (s .args .depth) 8
+    (sym (ap (λ (b : Bool). cond b (ltb (s .args .s .threads) 8) (ltb (s .args .depth) 8)) (c .if1 .left)) ∙ sym (r .before .room-for-round .ensures) ∙ round-room (r .round .ensures) e) in
+    runs-at (met r w) (s .args .source) n (r .round .result) (round-at r w known source n m) (fine .stacked) (w .long) _ refl e (k .node-of .ensures) refl (sym (r .before .before .is-parallel .ensures) ∙ c .if1 .left) deep refl refl refl
 
 pub decide-loop-spec : {M : Type 1} → statement M
 decide-loop-spec =
     tie.close
     (tie.spec
+    (λ c κs. search needs)
+    (λ c κs. search needs)
     round-requires
     (λ c. search needs)
     (λ c κs. search needs)

@@ -6,30 +6,17 @@ use mathlib.Core.List.{List}
 use mathlib.Core.Logic.{_⊎_, inl, inr}
 use lib.Dec.{T}
 use borrow.Author.Needs.{needs}
+use Rattle.values.proofs.Bools.{T-of}
 use Rattle.values.specs.declared.Slot.{Slot}
 use Rattle.rows.specs.declared.Relation as Code
 use Rattle.nets.specs.declared.Node.{Node}
-use Rattle.nets.specs.Nets.{Kind, acting, other, insert, insertTable, delete, update, create, drop, select, selectRelation, aggregate, sequential, parallel, badKind, hasTest, isSelect}
+use Rattle.nets.specs.Nets.{hasTest, isSelect}
 use Rattle.nets.specs.View.{kindAt}
+use Rattle.nets.proofs.KindClasses.{in-class}
 use Rattle.step_effect.specs.declared.Judged.{Judged}
 use Rattle.step_effect.specs.Contracts.{JudgeReady, JudgedIs}
 use Rattle.step_rows.proofs.judged.Statement.{statement}
 use Rattle.step_rows.proofs.judged.Tie as tie
-
--- a select has a predicate
-select-tests : (k : Kind) → isSelect k ≡ true → hasTest k ≡ true
-select-tests (acting insert) e = cc
-select-tests (acting insertTable) e = cc
-select-tests (acting delete) e = cc
-select-tests (acting update) e = cc
-select-tests (acting create) e = cc
-select-tests (acting drop) e = cc
-select-tests (other select) e = cc
-select-tests (other selectRelation) e = cc
-select-tests (other aggregate) e = cc
-select-tests (other sequential) e = cc
-select-tests (other parallel) e = cc
-select-tests (other badKind) e = cc
 
 module _ (d : Node) (q : Code.Relation) (vs : List Slot) (j : Judged) (ready : JudgeReady d q) (same : j .columns ≡ q .columns) (none : hasTest (kindAt (d .kind)) ≡ false) where
   -- no kind with a predicate
@@ -47,7 +34,7 @@ module _ (d : Node) (q : Code.Relation) (vs : List Slot) (j : Judged) (ready : J
         short = rw same (ready .source .columns);
         hit = λ h. hits h;
         update = not-byte 21 refl;
-        select = λ e. not-tested (select-tests (kindAt (d .kind)) e);
+        select = λ e. not-tested (in-class isSelect (kindAt (d .kind)) (T-of (isSelect (kindAt (d .kind))) e) hasTest true tt);
         result = not-byte 22 refl;
       }
     where

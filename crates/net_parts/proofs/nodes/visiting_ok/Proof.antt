@@ -1,14 +1,15 @@
 -- `net_parts::nodes::visiting_ok` meets its contract: each test is a clause of `fieldsOkAs` for the two loops.
 use mathlib.Core.Path.{_≡_, refl, sym, ap, _∙_}
-use mathlib.Core.Bool.{true, cond, _||_}
+use mathlib.Core.Bool.{true, false, not, cond, _||_}
 use lib.Dec.{eqb}
-use Rattle.values.proofs.Bools.{cond-yes, cond-no}
-use Rattle.nets.specs.Nets.{isLoop}
+use Rattle.values.proofs.Bools.{T-of, cond-yes, cond-no}
+use Rattle.nets.specs.Nets.{code, hasPlace, isCreate, hasTemplate, hasTest, hasTuple, isSelect, readsRelation, bindsRelation, isAggregate, isLoop}
 use Rattle.nets.specs.Sound.{functionOk}
 use Rattle.nets.specs.View.{kindAt, nodeOf}
+use Rattle.nets.proofs.KindClasses.{in-class}
 use borrow.Author.Needs.{needs}
 use Rattle.net_parts.proofs.Counts.{columns-count, operands-count}
-use Rattle.net_parts.proofs.FieldLaws.{visiting-kind, fields-are}
+use Rattle.net_parts.proofs.FieldLaws.{fields-are}
 use Rattle.net_parts.proofs.nodes.visiting_ok.Statement.{statement}
 use Rattle.net_parts.proofs.nodes.visiting_ok.Tie as tie
 
@@ -16,19 +17,19 @@ returns : tie.Need-returns
 returns c =
     let d = c .before .before .before .before .before .before .before .before .before .before .before .before .before .args .d in
     let given : isLoop (kindAt (d .kind)) ≡ true = search needs in
-    let f = visiting-kind (kindAt (d .kind)) given in
-    fields-are (kindAt (d .kind)) (nodeOf d) (f .known)
+    let f = in-class isLoop (kindAt (d .kind)) (T-of (isLoop (kindAt (d .kind))) given) in
+    fields-are (kindAt (d .kind)) (nodeOf d) (sym (f (λ k. not (eqb (code k) 0)) true tt))
     (sym (ap (λ t. t || eqb (d .body) 0) given))
-    (cond-no refl _ (f .places) refl)
-    (cond-no refl _ (f .binds) refl)
-    (cond-yes refl _ (f .reads) refl)
-    (c .before .before .before .before .before .before .function-ok .ensures ∙ ap (λ u. functionOk u (d .function) (d .column)) (sym (f .aggregates)))
-    (cond-no refl _ (f .creates) (ap (λ n. eqb n 0) (sym (columns-count (d .columns) (d .kinds)))))
-    (cond-no refl _ (f .places) (c .before .before .before .before .is-absent .ensures))
-    (cond-yes refl _ (f .templates) (c .before .before .before .template-ok .ensures))
-    (cond-no refl _ (f .tests) (c .before .before .no-test .ensures))
-    (cond-no refl _ (f .tuples) (cond-no refl _ (f .selects) (ap (λ n. eqb n 0) (sym (operands-count (d .tuple))))))
-    (cond-no refl _ (f .aggregates) (c .is-absent2 .ensures))
+    (cond-no refl _ (f hasPlace false tt) refl)
+    (cond-no refl _ (f bindsRelation false tt) refl)
+    (cond-yes refl _ (f readsRelation true tt) refl)
+    (c .before .before .before .before .before .before .function-ok .ensures ∙ ap (λ u. functionOk u (d .function) (d .column)) (sym (f isAggregate false tt)))
+    (cond-no refl _ (f isCreate false tt) (ap (λ n. eqb n 0) (sym (columns-count (d .columns) (d .kinds)))))
+    (cond-no refl _ (f hasPlace false tt) (c .before .before .before .before .is-absent .ensures))
+    (cond-yes refl _ (f hasTemplate true tt) (c .before .before .before .template-ok .ensures))
+    (cond-no refl _ (f hasTest false tt) (c .before .before .no-test .ensures))
+    (cond-no refl _ (f hasTuple false tt) (cond-no refl _ (f isSelect false tt) (ap (λ n. eqb n 0) (sym (operands-count (d .tuple))))))
+    (cond-no refl _ (f isAggregate false tt) (c .is-absent2 .ensures))
 
 pub visiting-ok-spec : {M : Type 1} → statement M
 visiting-ok-spec =

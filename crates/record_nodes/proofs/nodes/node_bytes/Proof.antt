@@ -6,7 +6,6 @@ use mathlib.Core.List.{List}
 use lib.Dec.{eqb, leb}
 use Rattle.nets.specs.Nets.{isCreate, isAggregate}
 use Rattle.nets.specs.View.{kindAt}
-use Rattle.nets.proofs.KindCodes.{kind-is}
 use Rattle.record_bytes.specs.Bytes.{at, part, zeros, textIn, operandForm, operandsForm, columnsForm, isFunction}
 use Rattle.record_bytes.specs.Decoding.{nodeBytes}
 use borrow.Author.Needs.{needs}
@@ -25,8 +24,8 @@ returns c =
     let c₁ = c .before .before .before .before .before in
     let c₂ = c₁ .before .before .before .before .before in
     let c₃ = c₂ .before .before .before .before .before in
-    let r = c₃ .before .before .before .args .r .now in
-    whole r _ _ _ _ _ _ _ _ _ (kind-is (at r 0) 23 (λ z. z)) (kind-is (at r 0) 22 (λ z. z)) (c₂ .before .middle-form .ensures)
+    let r = c₃ .before .before .before .before .args .r .now in
+    whole r _ _ _ _ _ _ _ _ _ (c₃ .before .is-create .ensures) (c₃ .is-aggregate .ensures) (c₂ .before .middle-form .ensures)
     (c₁ .before .before .before .before .text-in .ensures) (c₁ .before .before .operand-form .ensures) (c₁ .operands-form .ensures)
     (c .before .before .before .before .tuple-form .ensures) (c .before .before .operand-form2 .ensures) (c .operand-form3 .ensures)
 
@@ -35,7 +34,8 @@ node-bytes-spec =
     tie.close
     (tie.spec
     (λ c. search needs)
-    (λ c. search needs)
+    (λ c κs. search needs)
+    (λ c κs. search needs)
     (λ c. search needs)
     (λ c. search needs)
     (λ c. search needs)

@@ -12,7 +12,6 @@ use Rattle.rows.specs.Relations.{Columns, Selector}
 use Rattle.rows.specs.View.{columnsOf}
 use Rattle.nets.specs.Nets.{isCreate, isAggregate, Node}
 use Rattle.nets.specs.View.{kindAt}
-use Rattle.nets.proofs.KindCodes.{kind-is}
 use Rattle.record_bytes.specs.Bytes.{at, part, textIn, operandIn, operandsIn, columnsIn, functionAt}
 use Rattle.record_bytes.specs.Decoding.{nodeIn}
 use Rattle.record_bytes.specs.Judging.{selectorIn}
@@ -47,7 +46,7 @@ unfolding nodeIn
 node-is r create aggregate hc ha n b d f k cs p s t o hn hb hd hf hk hcs hp hs ht ho = rw (hn, hb, hd, hf, hk, hcs, hp, hs, ht, ho, hc, ha)
 
 part-result-in-end : tie.Need-part-result-in-end
-part-result-in-end c = omega (arith, c .before .before .before .before .before .before .before .before .before .before .before .before .before .before .before .before .before .before .before .before .before .before .before .pre)
+part-result-in-end c = omega (arith, c .before .before .before .before .before .before .before .before .before .before .before .before .before .before .before .before .before .before .before .before .before .before .before .before .before .pre)
 
 returns : tie.Need-returns
 returns c =
@@ -56,8 +55,8 @@ returns c =
     let c₃ = c₂ .before .before .before .before .before in
     let c₄ = c₃ .before .before .before .before .before in
     let c₅ = c₄ .before .before .before .before .before in
-    let r = c₅ .args .r .now in
-    node-is r _ _ (kind-is (at r 0) 23 (λ z. z)) (kind-is (at r 0) 22 (λ z. z)) _ _ _ _ _ _ _ _ _ _
+    let r = c₅ .before .before .args .r .now in
+    node-is r _ _ (c₄ .before .before .before .before .is-create .ensures) (c₄ .before .before .before .is-aggregate .ensures) _ _ _ _ _ _ _ _ _ _
     (c₃ .before .before .before .before .text-in .ensures) (c₃ .before .before .byte-in .ensures) (c₃ .byte-in2 .ensures)
     (c₂ .before .before .before .function-in .ensures) (c₂ .before .byte-in3 .ensures)
     (ap (columnsOf (c₁ .before .before .before .before .column-count .result)) (c₁ .before .before .kinds-in .ensures) ∙ c₁ .before .before .before .before .column-count .ensures)
@@ -69,6 +68,8 @@ node-in-spec =
     tie.close
     (tie.spec
     (λ c. search needs)
+    (λ c κs. search needs)
+    (λ c κs. search needs)
     (λ c. search needs)
     (λ c. search needs)
     (λ c. search needs)

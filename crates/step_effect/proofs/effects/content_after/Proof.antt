@@ -51,7 +51,7 @@ returns-4 c =
     let s = m .before .before in
     let a = s .args in
     let x = m .match .rest in
-    let k = puts-byte (a .node .kind) (s .pre .1) (s .pre .3) (x .0 .0 .1) (x .0 .1) (x .1) in
+    let k = puts-byte (a .node .kind) (s .pre .3) (x .0 .0 .1) (x .0 .1) (x .1) in
     delete-content (a .node) (a .source) (a .vars) (s .pre .2) (a .content) (s .pre .4) (s .pre .0 .own (reads-none 18 k refl)) k (c .sifted .ensures)
 
 pub content-after-spec : {M : Type 1} → statement M
