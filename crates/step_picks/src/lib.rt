@@ -1,4 +1,4 @@
-// Picks carried out in turn on a net that stays where it is: its elements are read and stored at their places here, since a net handed on is a net copied.
+// Picks carried out one after the other. The net stays where it is: its elements are read and stored at their places here, since a net handed on is a net copied.
 use nets::Answer;
 use nets::Entry;
 use nets::Net;
@@ -42,7 +42,7 @@ ghost use Rattle.step_bytes.specs.PickBytes.{picksIn};
 ghost use Rattle.step_bytes.specs.AnswerBytes.{answersPut};
 ghost use Rattle.step_left.specs.Turns.{GoneIs, stoodBy};
 
-// The net is to be sound if there is a pick; where there is none the answer is 10. The answers go to the start of `out` if there is room for all of them; else `out` stays as it is.
+// Requires a sound net unless the list is empty; an empty list answers 10. All answers go to the start of `out` if it has room for all of them; else `out` stays as it is.
 pub fn carry_out(from: Net, picks: &[u8], out: &mut [u8]) -> Gone
     requires { ⌜ (2 ≤ length (now picks) → T (sound (view from))) ⌝ }
     ensures { λ r. ⌜ GoneIs from (picksIn (now (picks .entry))) (stoodBy from r) × (now (out .exit) ≡ putAll (answersPut (view from) (picksIn (now (picks .entry)))) (now (out .entry))) ⌝ }
@@ -55,46 +55,46 @@ pub fn carry_out(from: Net, picks: &[u8], out: &mut [u8]) -> Gone
     let mut answer = Answer::Refused(Refusal::Unsound);
     let mut i: usize = 0;
     while i < count {
-        let turn = i;
-        let pick = pick_at(picks, turn);
+        let pick_place = i;
+        let pick = pick_at(picks, pick_place);
         i += 1;
 
-        // ---- the thread, and the node of its top entry
-        let p = pick.thread as usize;
-        let running = net.threadcount;
-        if running <= p {
+        // ---- check 11: the thread, and the node of its top entry
+        let thread_place = pick.thread as usize;
+        let threadcount = net.threadcount;
+        if threadcount <= thread_place {
             answer = Answer::Refused(Refusal::NoThread);
-            put_answer_at(out, room, turn, answer);
+            put_answer_at(out, room, pick_place, answer);
             continue;
         }
-        let mut thread = net.threads[p];
+        let mut thread = net.threads[thread_place];
         let depth = thread.depth;
         let top = depth - 1;
         let frame = thread.stack[top];
-        let k = node_of(frame) as usize;
-        let node = net.nodes[k];
+        let node_number = node_of(frame) as usize;
+        let node = net.nodes[node_number];
         let kind = node.kind;
 
-        // ---- whether a loop entry holds the table variable to be bound
+        // ---- for check 17: whether a loop entry of the thread holds the table variable to be bound
         let binds = binds_relation(kind);
         let mut held = false;
         if binds {
-            let mut q: usize = 0;
-            while q < depth {
-                let other = thread.stack[q];
+            let mut level: usize = 0;
+            while level < depth {
+                let other = thread.stack[level];
                 let entry = other.entry;
-                q += 1;
+                level += 1;
                 match entry {
                     Entry::Run(_) => {}
-                    Entry::Loop(number) => {
-                        let n = number as usize;
+                    Entry::Loop(looping) => {
+                        let n = looping as usize;
                         held = held | (node.bound == net.nodes[n].read);
                     }
                 }
             }
         }
 
-        // ---- the site that L means, and the table there
+        // ---- for checks 13 to 15: the site that L means, and the table there
         let vars = thread.vars;
         let home = thread.site;
         let place = node.place;
@@ -102,102 +102,112 @@ pub fn carry_out(from: Net, picks: &[u8], out: &mut [u8]) -> Gone
         let located = site_of(aliases, net.aliascount, home, eval_in(place, vars));
         let site = site_in(located);
         let tables = net.tables;
-        let standing = net.tablecount;
-        let at = find_table(tables, standing, site, node.name);
-        let slot = slot_at(at, standing);
+        let tablecount = net.tablecount;
+        let at = find_table(tables, tablecount, site, node.name);
+        let slot = slot_at(at, tablecount);
         let table = net.tables[slot];
         let inside = table.content;
-        let found = at < standing;
+        let found = at < tablecount;
         let content = shown(found, inside);
 
-        // ---- the rows spoken of, judged before the checks, and what the pick comes to
-        let r = node.read as usize;
-        let v = thread.relations[r];
-        let source = source_of(kind, v, content);
-        let j = judged(node, source, vars);
-        let s = Setting {
+        // ---- checks 12 to 20: what the pick comes to. Its rows are judged before it is known to be allowed: one branch less for every done pick.
+        let read = node.read as usize;
+        let variable = thread.relations[read];
+        let source = source_of(kind, variable, content);
+        let rows_judged = judged(node, source, vars);
+        let setting = Setting {
             located,
             found,
             held,
-            tables: standing,
-            threads: running,
+            tables: tablecount,
+            threads: threadcount,
             row: pick.row,
         };
-        let bound = bound_tables(thread);
-        let o = decide(vars, depth, bound, frame, node, content, source, j, s);
-        answer = o.answer;
-        put_answer_at(out, room, turn, answer);
-        let Answer::Done(a, t) = answer else {
+        let bound_flags = bound_tables(thread);
+        let decided = decide(
+            vars,
+            depth,
+            bound_flags,
+            frame,
+            node,
+            content,
+            source,
+            rows_judged,
+            setting,
+        );
+        answer = decided.answer;
+        put_answer_at(out, room, pick_place, answer);
+        let Answer::Done(rows_added, rows_taken) = answer else {
             continue;
         };
-        added = plus(added, a);
-        taken = plus(taken, t);
+        added = plus(added, rows_added);
+        taken = plus(taken, rows_taken);
 
-        // ---- the thread after it
-        let after = o.vars;
-        let waiting = o.frame;
+        // ---- the thread after it: its variables, its top frame with the body above it, and the table variable bound
+        let vars_after = decided.vars;
+        let waiting = decided.frame;
         let above = over(depth, top);
-        thread.vars = after;
+        thread.vars = vars_after;
         thread.stack[above] = run_frame(node.body);
         thread.stack[top] = waiting;
-        thread.depth = o.depth;
+        thread.depth = decided.depth;
         if binds {
-            let b = node.bound as usize;
-            let rows = bound_after(node, content, source, vars, j);
-            thread.relations[b] = TableVariable {
+            let bound = node.bound as usize;
+            let content_bound = bound_after(node, content, source, vars, rows_judged);
+            thread.relations[bound] = TableVariable {
                 bound: true,
-                content: rows,
+                content: content_bound,
             };
         }
 
         // ---- the tables: the one found gives way, a new one goes last, a removed one closes up
         match kind {
             23 => {
-                net.tables[standing] = created(site, node, content);
-                net.tablecount = standing + 1;
+                net.tables[tablecount] = created(site, node, content);
+                net.tablecount = tablecount + 1;
             }
             24 => {
-                let last = standing - 1;
-                let mut x = at;
-                while x < last {
-                    let y = x + 1;
-                    let moved = net.tables[y];
-                    net.tables[x] = moved;
-                    x = y;
+                let last = tablecount - 1;
+                let mut gap = at;
+                while gap < last {
+                    let next = gap + 1;
+                    let moved = net.tables[next];
+                    net.tables[gap] = moved;
+                    gap = next;
                 }
                 net.tablecount = last;
             }
             _ => {
                 if puts_rows(kind) {
                     let owner = table.site;
-                    let rows = content_after(node, content, source, vars, j);
+                    let content_put = content_after(node, content, source, vars, rows_judged);
                     net.tables[slot] = Table {
                         site: owner,
                         name: table.name,
-                        content: rows,
+                        content: content_put,
                     };
                 }
             }
         }
 
         // ---- the threads: one without entries is removed, and the list closes up; a fork goes last
-        if o.depth == 0 {
-            let last = running - 1;
-            let mut x = p;
-            while x < last {
-                let y = x + 1;
-                let moved = net.threads[y];
-                net.threads[x] = moved;
-                x = y;
+        if decided.depth == 0 {
+            let last = threadcount - 1;
+            let mut gap = thread_place;
+            while gap < last {
+                let next = gap + 1;
+                let moved = net.threads[next];
+                net.threads[gap] = moved;
+                gap = next;
             }
             net.threadcount = last;
             continue;
         }
-        net.threads[p] = thread;
-        if o.forks {
-            let inner = o.inner;
-            net.threads[running] = forked(thread, inner, node.body);
-            net.threadcount = running + 1;
+        net.threads[thread_place] = thread;
+        if decided.forks {
+            let inner = decided.inner;
+            net.threads[threadcount] = forked(thread, inner, node.body);
+            net.threadcount = threadcount + 1;
         }
     }
     let contents = net.tables;

@@ -76,29 +76,29 @@ withTables n ts = record { aliases = n .aliases; aliascount = n .aliascount; tab
 abbrev withThreads : Net → List Thread → Net
 withThreads n hs = record { aliases = n .aliases; aliascount = n .aliascount; tables = n .tables; tablecount = n .tablecount; nodes = n .nodes; nodecount = n .nodecount; threads = hs; threadcount = n .threadcount }
 
--- of the frames below `q` one holds the table variable
+-- of the frames below `level` one holds the table variable
 abbrev Inv-loop2 : tie.InvT-loop2
-Inv-loop2 picks out count room net added taken i turn pick p running thread depth top frame k node kind binds held₀ q₀ held q =
-    (q ≤ depth) × (held ≡ any (holds (nodesOf (net .nodecount) (net .nodes)) (node .bound)) (stackOf q (thread .stack)))
+Inv-loop2 picks out count room net added taken i pick-place pick thread-place threadcount thread depth top frame node-number node kind binds held₀ level₀ held level =
+    (level ≤ depth) × (held ≡ any (holds (nodesOf (net .nodecount) (net .nodes)) (node .bound)) (stackOf level (thread .stack)))
 
 abbrev μ-loop2 : tie.MeasureT-loop2
-μ-loop2 picks out count room net added taken i turn pick p running thread depth top frame k node kind binds held₀ q₀ held q = depth - q
+μ-loop2 picks out count room net added taken i pick-place pick thread-place threadcount thread depth top frame node-number node kind binds held₀ level₀ held level = depth - level
 
--- the tables behind the one removed have moved, up to `x`
+-- the tables behind the one removed have moved, up to `gap`
 abbrev Inv-loop3 : tie.InvT-loop3
-Inv-loop3 picks out count room net₀ added taken answer i turn p running thread depth top k node kind binds held standing at slot found r o a t above last x₀ net x =
-    (x ≤ last) × Closing noTable (net₀ .tables) at x (net .tables) × (net ≡ withTables net₀ (net .tables))
+Inv-loop3 picks out count room net₀ added taken answer i pick-place thread-place threadcount thread depth top node-number node kind binds held tablecount at slot found read decided rows-added rows-taken above last gap₀ net gap =
+    (gap ≤ last) × Closing noTable (net₀ .tables) at gap (net .tables) × (net ≡ withTables net₀ (net .tables))
 
 abbrev μ-loop3 : tie.MeasureT-loop3
-μ-loop3 picks out count room net₀ added taken answer i turn p running thread depth top k node kind binds held standing at slot found r o a t above last x₀ net x = last - x
+μ-loop3 picks out count room net₀ added taken answer i pick-place thread-place threadcount thread depth top node-number node kind binds held tablecount at slot found read decided rows-added rows-taken above last gap₀ net gap = last - gap
 
--- the threads behind the one removed have moved, up to `x`
+-- the threads behind the one removed have moved, up to `gap`
 abbrev Inv-loop4 : tie.InvT-loop4
-Inv-loop4 picks out count room net₀ added taken answer i turn p running depth top k kind binds held standing at slot found r a t above last x₀ net x =
-    (x ≤ last) × Closing noThread (net₀ .threads) p x (net .threads) × (net ≡ withThreads net₀ (net .threads))
+Inv-loop4 picks out count room net₀ added taken answer i pick-place thread-place threadcount depth top node-number kind binds held tablecount at slot found read rows-added rows-taken above last gap₀ net gap =
+    (gap ≤ last) × Closing noThread (net₀ .threads) thread-place gap (net .threads) × (net ≡ withThreads net₀ (net .threads))
 
 abbrev μ-loop4 : tie.MeasureT-loop4
-μ-loop4 picks out count room net₀ added taken answer i turn p running depth top k kind binds held standing at slot found r a t above last x₀ net x = last - x
+μ-loop4 picks out count room net₀ added taken answer i pick-place thread-place threadcount depth top node-number kind binds held tablecount at slot found read rows-added rows-taken above last gap₀ net gap = last - gap
 
 -- `i` picks are behind: what they left, and their answers in the buffer if there is room for all
 record Behind (picks lent : List ℕ) (count : ℕ) (room : Bool) (from : Net) (out : List ℕ) (r : Stood) (i : ℕ) : Type 0 where
@@ -292,7 +292,7 @@ loop2-holds : tie.Need-loop2-holds Inv-loop2 μ-loop2 Inv-loop3 μ-loop3 Inv-loo
 loop2-holds c = (omega arith, refl)
 
 -- a frame in use
-frame-few : (c : tie.In-loop2 Inv-loop2 μ-loop2 Inv-loop3 μ-loop3 Inv-loop4 μ-loop4 Inv-loop μ-loop) → c .before .loop2 .q < 8
+frame-few : (c : tie.In-loop2 Inv-loop2 μ-loop2 Inv-loop3 μ-loop3 Inv-loop4 μ-loop4 Inv-loop μ-loop) → c .before .loop2 .level < 8
 frame-few c = let h = c .loop2-test .taken in let k = stacked-at (thereOf (c .before .before .before)) in omega (arith, h, k .few)
 
 mul-other : tie.Need-mul-other Inv-loop2 μ-loop2 Inv-loop3 μ-loop3 Inv-loop4 μ-loop4 Inv-loop μ-loop
@@ -301,8 +301,8 @@ mul-other c = record { fits = let h = frame-few c in omega (arith, h) }
 element-copy-out-other : tie.Need-element-copy-out-other Inv-loop2 μ-loop2 Inv-loop3 μ-loop3 Inv-loop4 μ-loop4 Inv-loop μ-loop
 element-copy-out-other c = frame-few c
 
-add-q : tie.Need-add-q Inv-loop2 μ-loop2 Inv-loop3 μ-loop3 Inv-loop4 μ-loop4 Inv-loop μ-loop
-add-q c = record { fits = let h = frame-few (c .before) in omega (arith, h) }
+add-level : tie.Need-add-level Inv-loop2 μ-loop2 Inv-loop3 μ-loop3 Inv-loop4 μ-loop4 Inv-loop μ-loop
+add-level c = record { fits = let h = frame-few (c .before) in omega (arith, h) }
 
 loop2-less : tie.Need-loop2-less Inv-loop2 μ-loop2 Inv-loop3 μ-loop3 Inv-loop4 μ-loop4 Inv-loop μ-loop
 loop2-less c = let h = c .before .before .before .loop2-test .taken in omega (arith, h)
@@ -313,7 +313,7 @@ loop2-again c =
     let h = i .loop2-test .taken in
     let b = i .before .before .before in
     let n = netOf (thereOf b) in
-    (omega (arith, h), run-skips (n .nodecount) (nodeRead n (numberAt b) .bound) (n .nodes) (threadAt n (pickAt (thereOf b) .thread) .stack) (i .before .loop2 .q) (i .before .loop2 .inv .1) (c .enum-told .given .1))
+    (omega (arith, h), run-skips (n .nodecount) (nodeRead n (numberAt b) .bound) (n .nodes) (threadAt n (pickAt (thereOf b) .thread) .stack) (i .before .loop2 .level) (i .before .loop2 .inv .1) (c .enum-told .given .1))
 
 -- the node of a loop entry is there
 node-there : (c : tie.After-known-told Inv-loop2 μ-loop2 Inv-loop3 μ-loop3 Inv-loop4 μ-loop4 Inv-loop μ-loop) → c .before .entry .given .0 .0 < netOf (thereOf (c .before .before .before .before .before .before .before)) .nodecount
@@ -337,7 +337,7 @@ loop2-again-2 c =
     let h = i .loop2-test .taken in
     let b = i .before .before .before in
     let n = netOf (thereOf b) in
-    (omega (arith, h), loop-counts (n .nodecount) (nodeRead n (numberAt b) .bound) (n .nodes) (threadAt n (pickAt (thereOf b) .thread) .stack) (i .before .loop2 .q) (i .before .loop2 .inv .1) (k .before .entry .given .1) (node-there k))
+    (omega (arith, h), loop-counts (n .nodecount) (nodeRead n (numberAt b) .bound) (n .nodes) (threadAt n (pickAt (thereOf b) .thread) .stack) (i .before .loop2 .level) (i .before .loop2 .inv .1) (k .before .entry .given .1) (node-there k))
 
 abbrev Held : Type 0
 Held = tie.Joined2 Inv-loop2 μ-loop2 Inv-loop3 μ-loop3 Inv-loop4 μ-loop4 Inv-loop μ-loop
@@ -355,7 +355,7 @@ held-at j h =
     let t = threadAt n (pickAt e .thread) in
     either (j .if2 .came)
     (λ x.
-    let same : x .1 .q ≡ t .depth = omega (arith, x .1 .inv .0, x .2 .left) in
+    let same : x .1 .level ≡ t .depth = omega (arith, x .1 .inv .0, x .2 .left) in
     x .3 ∙ subst (λ (q : ℕ). x .1 .held ≡ any (holds (nodesOf (n .nodecount) (n .nodes)) (nodeRead n (numberAt (j .before)) .bound)) (stackOf q (t .stack))) same (x .1 .inv .1))
     (λ x. absurd (subst T (sym (j .before .binds-relation .ensures) ∙ x .0 .left) h))
 
@@ -428,8 +428,8 @@ meets s = read-meets (netOf (thereIn s)) (pickAt (thereIn s)) (okay (thereIn s))
 fine : (s : Shown) → Fine (situationAt s)
 fine s = read-fine (netOf (thereIn s)) (pickAt (thereIn s)) (okay (thereIn s)) (there (thereIn s)) (read s)
 
-element-copy-out-v : tie.Need-element-copy-out-v Inv-loop2 μ-loop2 Inv-loop3 μ-loop3 Inv-loop4 μ-loop4 Inv-loop μ-loop
-element-copy-out-v c = fine-read (situationAt (c .before)) (fine (c .before))
+element-copy-out-variable : tie.Need-element-copy-out-variable Inv-loop2 μ-loop2 Inv-loop3 μ-loop3 Inv-loop4 μ-loop4 Inv-loop μ-loop
+element-copy-out-variable c = fine-read (situationAt (c .before)) (fine (c .before))
 
 -- ── what the pick comes to ──
 
@@ -705,14 +705,14 @@ loop3-holds : tie.Need-loop3-holds Inv-loop2 μ-loop2 Inv-loop3 μ-loop3 Inv-loo
 loop3-holds c = let h = dropped-there c in (omega (arith, h), closing-starts noTable (netBy (c .before) .tables) _, refl)
 
 -- a table that moves is in use
-moves-table : (c : tie.In-loop3 Inv-loop2 μ-loop2 Inv-loop3 μ-loop3 Inv-loop4 μ-loop4 Inv-loop μ-loop) → c .before .loop3 .x + 1 < 8
+moves-table : (c : tie.In-loop3 Inv-loop2 μ-loop2 Inv-loop3 μ-loop3 Inv-loop4 μ-loop4 Inv-loop μ-loop) → c .before .loop3 .gap + 1 < 8
 moves-table c =
     let j = c .before .before .before in
     let h = c .loop3-test .taken in
     omega (arith, h, few-tables (netBy j) (okay (thereBy j)))
 
-add-y : tie.Need-add-y Inv-loop2 μ-loop2 Inv-loop3 μ-loop3 Inv-loop4 μ-loop4 Inv-loop μ-loop
-add-y c = record { fits = let h = moves-table c in omega (arith, h) }
+add-next : tie.Need-add-next Inv-loop2 μ-loop2 Inv-loop3 μ-loop3 Inv-loop4 μ-loop4 Inv-loop μ-loop
+add-next c = record { fits = let h = moves-table c in omega (arith, h) }
 
 mul-moved : tie.Need-mul-moved Inv-loop2 μ-loop2 Inv-loop3 μ-loop3 Inv-loop4 μ-loop4 Inv-loop μ-loop
 mul-moved c = record { fits = let h = moves-table c in omega (arith, h) }
@@ -737,7 +737,7 @@ loop3-again c =
     let h = i .loop3-test .taken in
     let few = moves-table i in
     let eight = atOf (pickedOf (thereBy j)) .loop .inv .sized .tables in
-    (omega (arith, h), closing-more noTable (netBy j .tables) _ (l .inv .1) (omega (arith, few, eight)), ap (λ (n : Net). withTables n (set (l .net .tables) (l .x) (getD (l .net .tables) (l .x + 1) noTable))) (l .inv .2))
+    (omega (arith, h), closing-more noTable (netBy j .tables) _ (l .inv .1) (omega (arith, few, eight)), ap (λ (n : Net). withTables n (set (l .net .tables) (l .gap) (getD (l .net .tables) (l .gap + 1) noTable))) (l .inv .2))
 
 -- ── the table found gives way ──
 
@@ -937,11 +937,11 @@ loop4-holds : tie.Need-loop4-holds Inv-loop2 μ-loop2 Inv-loop3 μ-loop3 Inv-loo
 loop4-holds c = let h = picked-there (tabledOf c) in (omega (arith, h), closing-starts noThread (tabledOf c .match3 .net .threads) _, refl)
 
 -- a thread that moves is in use
-moves-thread : (c : tie.In-loop4 Inv-loop2 μ-loop2 Inv-loop3 μ-loop3 Inv-loop4 μ-loop4 Inv-loop μ-loop) → c .before .loop4 .x + 1 < 8
+moves-thread : (c : tie.In-loop4 Inv-loop2 μ-loop2 Inv-loop3 μ-loop3 Inv-loop4 μ-loop4 Inv-loop μ-loop) → c .before .loop4 .gap + 1 < 8
 moves-thread c = let h = c .loop4-test .taken in omega (arith, h, few-running (tabledOf (c .before .before)))
 
-add-y-2 : tie.Need-add-y-2 Inv-loop2 μ-loop2 Inv-loop3 μ-loop3 Inv-loop4 μ-loop4 Inv-loop μ-loop
-add-y-2 c = record { fits = let h = moves-thread c in omega (arith, h) }
+add-next-2 : tie.Need-add-next-2 Inv-loop2 μ-loop2 Inv-loop3 μ-loop3 Inv-loop4 μ-loop4 Inv-loop μ-loop
+add-next-2 c = record { fits = let h = moves-thread c in omega (arith, h) }
 
 mul-moved-3 : tie.Need-mul-moved-3 Inv-loop2 μ-loop2 Inv-loop3 μ-loop3 Inv-loop4 μ-loop4 Inv-loop μ-loop
 mul-moved-3 c = record { fits = let h = moves-thread c in omega (arith, h) }
@@ -966,7 +966,7 @@ loop4-again c =
     let h = i .loop4-test .taken in
     let few = moves-thread i in
     let eight = threads-long t in
-    (omega (arith, h), closing-more noThread (t .match3 .net .threads) _ (l .inv .1) (omega (arith, few, eight)), ap (λ (n : Net). withThreads n (set (l .net .threads) (l .x) (getD (l .net .threads) (l .x + 1) noThread))) (l .inv .2))
+    (omega (arith, h), closing-more noThread (t .match3 .net .threads) _ (l .inv .1) (omega (arith, few, eight)), ap (λ (n : Net). withThreads n (set (l .net .threads) (l .gap) (getD (l .net .threads) (l .gap + 1) noThread))) (l .inv .2))
 
 loop-less-3 : tie.Need-loop-less-3 Inv-loop2 μ-loop2 Inv-loop3 μ-loop3 Inv-loop4 μ-loop4 Inv-loop μ-loop
 loop-less-3 c = less (pickedOf (thereBy (tabledOf (c .before .before) .before)))
@@ -1141,7 +1141,7 @@ carry-out-spec =
     loop2-holds
     mul-other
     element-copy-out-other
-    add-q
+    add-level
     (λ c. search needs)
     loop2-less
     loop2-again
@@ -1161,7 +1161,7 @@ carry-out-spec =
     (λ c κs. search needs)
     (λ c. search needs)
     (λ c. search needs)
-    element-copy-out-v
+    element-copy-out-variable
     (λ c κs. search needs)
     judged-requires
     (λ c κs. search needs)
@@ -1189,7 +1189,7 @@ carry-out-spec =
     add-net
     sub-last
     loop3-holds
-    add-y
+    add-next
     mul-moved
     element-copy-out-moved
     mul-moved-2
@@ -1202,7 +1202,7 @@ carry-out-spec =
     element-set-from-net-2
     sub-last-2
     loop4-holds
-    add-y-2
+    add-next-2
     mul-moved-3
     element-copy-out-moved-2
     mul-moved-4
