@@ -13,15 +13,14 @@ use load_walk::Reach;
 use load_walk::tables::tables_from;
 use nets::Net;
 use nets::Pick;
+use record_bytes::RECORD;
 ghost use mathlib.Core.Path.{_≡_};
-ghost use Prim.Native.Nat.{_≤_, _*_};
-ghost use lib.ListN.{length};
 ghost use Rattle.nets.specs.View.{view};
-ghost use Rattle.record_bytes.specs.Decoding.{wholeRecords, recordsIn};
+ghost use Rattle.record_bytes.specs.Decoding.{recordsIn};
 ghost use Rattle.files.specs.Empty.{blankNet};
 ghost use Rattle.files.specs.Engine.{LoadIs, picksOf};
 ghost use Rattle.files.specs.Loading.{nothingRead, readAll};
-ghost use Rattle.load_walk.specs.Walking.{ending};
+ghost use Rattle.load_walk.specs.Walking.{Whole, ending};
 
 // What all records gave, up to the first fault.
 pub struct FileRead {
@@ -33,7 +32,7 @@ pub struct FileRead {
 
 // Checks 3 to 8, group after group.
 fn read_all(file: &[u8]) -> FileRead
-    requires { ⌜ (length (now file) ≡ wholeRecords (now file) * 104) × (wholeRecords (now file) ≤ 256) ⌝ }
+    requires { ⌜ Whole (now file) ⌝ }
     ensures { λ r. ⌜ readAll 0 nothingRead (recordsIn (now (file .entry))) ≡ ending (r .reach) (record { net = view (r .net); picks = picksOf (r .pickcount) (r .picks); group = 0 }) ⌝ }
 {
     let start = Reach {
@@ -87,8 +86,8 @@ fn refused(number: u8, place: usize) -> Loaded
 pub fn load(file: &[u8]) -> Loaded
     ensures { λ r. ⌜ LoadIs (now (file .entry)) r ⌝ }
 {
-    let count = file.len() / 104;
-    if file.len() % 104 != 0 {
+    let count = file.len() / RECORD;
+    if file.len() % RECORD != 0 {
         return refused(1, count);
     }
     if 256 < count {

@@ -17,7 +17,7 @@ returns-3 c =
     (c .refused3 .ensures .0) (c .refused3 .ensures .1) (c .refused3 .ensures .2)
 
 bad-link-requires : tie.Need-bad-link-requires
-bad-link-requires c κs = (omega arith, omega arith, records-good (c .before .before .before .before .before .before .before .before .args .file .now) (records-loaded (c .before .before .before .before .before .before .before .before .args .file .now) (c .before .before .before .before .before .before .if1 .left) (c .before .before .before .before .before .if2 .left)) (c .before .before .before .before .read-all .result .reach) (c .before .before .before .before .read-all .result .net) (c .before .before .before .before .read-all .result .picks) (c .before .before .before .before .read-all .result .pickcount) (c .before .before .before .before .read-all .ensures) (c .before .if3 .left))
+bad-link-requires c κs = (search needs, records-good (c .before .before .before .before .before .before .before .before .args .file .now) (records-loaded (c .before .before .before .before .before .before .before .before .args .file .now) (c .before .before .before .before .before .before .if1 .left) (c .before .before .before .before .before .if2 .left)) (c .before .before .before .before .read-all .result .reach) (c .before .before .before .before .read-all .result .net) (c .before .before .before .before .read-all .result .picks) (c .before .before .before .before .read-all .result .pickcount) (c .before .before .before .before .read-all .ensures) (c .before .if3 .left))
 
 returns-4 : tie.Need-returns-4
 returns-4 c =

@@ -29,8 +29,5 @@ with-operands t =
       result = Absent;
     }
 
-returns : tie.Need-returns
-returns c = ap with-operands (c .blank-operands .ensures)
-
 pub blank-node-spec : {M : Type 1} → statement M
-blank-node-spec = tie.close (tie.spec (λ c κs. search needs) returns)
+blank-node-spec = tie.close (tie.spec (λ c κs. search needs) (λ c. ap with-operands (c .blank-operands .ensures)))

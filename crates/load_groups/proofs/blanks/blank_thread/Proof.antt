@@ -15,8 +15,5 @@ abbrev with-content : Relation → Thread
 with-content r =
     record { site = noSite; vars = replicate 16 noSlot; relations = replicate 2 (record { bound = false; content = r }); stack = replicate 8 blankFrame; depth = 0 }
 
-returns : tie.Need-returns
-returns c = ap with-content (c .blank-relation .ensures)
-
 pub blank-thread-spec : {M : Type 1} → statement M
-blank-thread-spec = tie.close (tie.spec (λ c κs. search needs) returns)
+blank-thread-spec = tie.close (tie.spec (λ c κs. search needs) (λ c. ap with-content (c .blank-relation .ensures)))
