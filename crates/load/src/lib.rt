@@ -21,6 +21,13 @@ ghost use Rattle.files.specs.Empty.{blankNet};
 ghost use Rattle.files.specs.Engine.{LoadIs, picksOf};
 ghost use Rattle.files.specs.Loading.{nothingRead, readAll};
 ghost use Rattle.load_walk.specs.Walking.{Whole, ending};
+ghost use Rattle.load.specs.Lengths.{LengthIs};
+
+// The number of a check that fails by the file's length, 0 for none, and the place that goes with it.
+pub struct LengthFault {
+    pub number: u8,
+    pub place: usize,
+}
 
 // What all records gave, up to the first fault.
 pub struct FileRead {
@@ -28,6 +35,29 @@ pub struct FileRead {
     pub picks: [Pick; 256],
     pub pickcount: usize,
     pub reach: Reach,
+}
+
+// Checks 1 and 2, which ask for the length alone: of a file in memory, or of one that is longer than any that loads.
+pub fn length_fault(length: usize) -> LengthFault
+    ensures { λ r. ⌜ LengthIs length (r .number) (r .place) ⌝ }
+{
+    let count = length / RECORD;
+    if length % RECORD != 0 {
+        return LengthFault {
+            number: 1,
+            place: count,
+        };
+    }
+    if 256 < count {
+        return LengthFault {
+            number: 2,
+            place: 256,
+        };
+    }
+    LengthFault {
+        number: 0,
+        place: 0,
+    }
 }
 
 // Checks 3 to 8, group after group.
@@ -86,12 +116,9 @@ fn refused(number: u8, place: usize) -> Loaded
 pub fn load(file: &[u8]) -> Loaded
     ensures { λ r. ⌜ LoadIs (now (file .entry)) r ⌝ }
 {
-    let count = file.len() / RECORD;
-    if file.len() % RECORD != 0 {
-        return refused(1, count);
-    }
-    if 256 < count {
-        return refused(2, 256);
+    let length = length_fault(file.len());
+    if length.number != 0 {
+        return refused(length.number, length.place);
     }
     let read = read_all(file);
     let reach = read.reach;
@@ -100,7 +127,7 @@ pub fn load(file: &[u8]) -> Loaded
     }
     let net = read.net;
     let bad = bad_link(file, net.nodecount);
-    if bad < count {
+    if bad < file.len() / RECORD {
         return refused(9, bad);
     }
     let picks = read.picks;
