@@ -73,7 +73,7 @@ pub fn function_at(b: u8) -> Function
     }
 }
 
-// A byte that a create leaves out.
+// A byte of 8 to 11 as a number: 0 for a create, which has kinds there.
 fn byte_in(create: bool, b: u8) -> u8
     ensures { λ r. ⌜ r ≡ cond create 0 b ⌝ }
 {
@@ -202,7 +202,7 @@ fn node_bytes(r: &[u8]) -> bool
         & operand_form(&r[RIGHT..RECORD])
 }
 
-// The node is read once: its fields are judged as those of any node of a net, and its loader keeps it.
+// The node is read once: check 4 judges its fields as those of any node of a net, and loading keeps it.
 pub fn node_read(r: &[u8]) -> NodeRead
     requires { ⌜ length (now r) ≡ 104 ⌝ }
     ensures { λ o. ⌜ (o .right ≡ nodeForm (now (r .entry))) × (nodeOf (o .node) ≡ nodeIn (now (r .entry))) ⌝ }
