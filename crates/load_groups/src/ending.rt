@@ -1,4 +1,4 @@
-// The record at which all groups are past: checks 3, 4 and 5.
+// What is left after the last group: checks 3, 4 and 5.
 use load_walk::Reach;
 use load_walk::walking::record_at;
 use record_bytes::RECORD;
@@ -15,6 +15,7 @@ ghost use lib.ListN.{length};
 ghost use Rattle.record_bytes.specs.Decoding.{recordIn};
 ghost use Rattle.load_walk.specs.Walking.{Going, Ends, decodedFault};
 
+// Check 4: its number where it fails, 0 where it passes.
 fn formed(ok: bool) -> u8
     ensures { λ r. ⌜ r ≡ cond ok 0 4 ⌝ }
 {
@@ -47,7 +48,7 @@ fn form_fault(r: &[u8]) -> u8
     }
 }
 
-// A record that is left when all groups are past has a fault: 3 or 4, or it is of a group that is past.
+// No loop took the record that is left, so it is refused: by check 3 or 4, or else by check 5, since its group comes before that of an earlier record.
 pub fn reach_end(file: &[u8], from: Reach) -> Reach
     requires { ⌜ Going (now file) 7 from ⌝ }
     ensures { λ r. ⌜ Ends (now (file .entry)) from r ⌝ }

@@ -13,7 +13,7 @@ ghost use Rattle.record_bytes.specs.Decoding.{wholeRecords, recordsIn};
 ghost use Rattle.files.specs.Loading.{firstBadLink};
 ghost use Rattle.load_walk.specs.Walking.{Whole, isGood, placeOr, LinkIs};
 
-// A start's node is among the `n` nodes.
+// Check 9 of a start: its node is among the `n` nodes.
 fn start_ok(node: u8, n: usize) -> bool
     ensures { λ r. ⌜ r ≡ ltb node n ⌝ }
 {

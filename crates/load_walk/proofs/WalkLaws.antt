@@ -22,7 +22,7 @@ use Rattle.value_bytes.proofs.Stores.{part-size}
 use Rattle.record_bytes.proofs.GroupLaws.{byGroup, by-group}
 use Rattle.load_walk.specs.declared.Reach.{Reach}
 use Rattle.files.specs.Loading.{Progress, groupOf, loadChecks, advance, failed, failing, stopped, proceed, readAll}
-use Rattle.load_walk.specs.Walking.{Whole, recordAt, rest, byFault, Leads, groupNext, Going, orZero, numberOf, formThen}
+use Rattle.load_walk.specs.Walking.{recordAt, rest, byFault, Leads, groupNext, Going, orZero, numberOf, formThen}
 
 -- ── the record at a place ──
 

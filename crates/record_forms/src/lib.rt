@@ -40,7 +40,7 @@ pub fn group_of(kind: u8) -> u8
 
 // ---- fields
 
-// The site in byte 1, where every record but a node and a pick has its own.
+// The site that an alias, table, row or start names.
 pub fn record_site(r: &[u8]) -> Site
     requires { ⌜ length (now r) ≡ 104 ⌝ }
     ensures { λ o. ⌜ o ≡ siteAt 1 (now (r .entry)) ⌝ }

@@ -9,7 +9,6 @@ use rows::Operands;
 use values::Locality;
 use values::Operand;
 ghost use mathlib.Core.Path.{_≡_};
-ghost use Prim.Native.Nat.{_≤_};
 ghost use lib.ListN.{length};
 ghost use Rattle.rows.specs.View.{operandsOf, Short};
 ghost use Rattle.nets.specs.Sound.{isAbsent};

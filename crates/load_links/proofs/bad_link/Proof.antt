@@ -1,15 +1,13 @@
 -- `load_links::bad_link` meets its contract: what is left decides.
-use Prim.Native.Nat.{ℕ, _+_, _-_, _*_, _≤_, _<_}
-use mathlib.Core.Path.{_≡_, refl, sym, ap, _∙_}
+use Prim.Native.Nat.{ℕ, _+_, _-_, _≤_}
+use mathlib.Core.Path.{_≡_, refl}
 use mathlib.Core.Bool.{Bool, true, false, cond}
-use mathlib.Core.List.{List}
 use native.Mathlib.Omega.{arith}
 use lib.Dec.{eqb}
-use lib.ListN.{length, drop, length-take, length-drop}
+use lib.ListN.{drop}
 use borrow.Author.Needs.{needs}
 use borrow.Author.Tests.{not-true, not-false}
 use Rattle.record_bytes.specs.Decoding.{wholeRecords, recordsIn}
-use Rattle.record_bytes.specs.Judging.{groupAt}
 use Rattle.files.specs.Loading.{firstBadLink}
 use Rattle.load_links.proofs.LinkLaws.{link-found, link-passed, no-link}
 use Rattle.load_links.proofs.bad_link.Statement.{statement}

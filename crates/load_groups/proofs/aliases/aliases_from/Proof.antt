@@ -1,7 +1,7 @@
 -- `load_groups::aliases::aliases_from` meets its contract: record by record, while they are aliases. No two are alike, so there is room for all.
 use Prim.Native.Nat.{ℕ, _+_, _-_, _≤_, _<_}
 use mathlib.Core.Path.{_≡_, refl, ap, subst, sym, _∙_}
-use mathlib.Core.Bool.{Bool, true, not, _&&_}
+use mathlib.Core.Bool.{Bool, true, not}
 use mathlib.Core.List.{List, [], _∷_, _++_, append-nil}
 use native.Mathlib.Omega.{arith}
 use lib.ListN.{length, length-set, set, length-append}
@@ -36,7 +36,7 @@ said bs = aliasRecord (aliasIn bs)
 abbrev new : List Alias → List ℕ → Bool
 new xs bs = not (any (λ b. sameAlias b (aliasIn bs)) xs)
 
-checks : (g c : ℕ) (xs : List Alias) (bs : List ℕ) (l : Progress) → g ≤ 1 → length xs ≡ c → failing (loadChecks (withGroup g (putAliases xs l)) (said bs)) ≡ failing (listChecks (new xs bs) (true))
+checks : (g c : ℕ) (xs : List Alias) (bs : List ℕ) (l : Progress) → g ≤ 1 → length xs ≡ c → failing (loadChecks (withGroup g (putAliases xs l)) (said bs)) ≡ failing (listChecks (new xs bs) true)
 unfolding loadChecks
 checks g c xs bs l h e = rw (le-leb g 1 h)
 

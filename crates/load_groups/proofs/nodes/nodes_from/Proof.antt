@@ -1,7 +1,7 @@
 -- `load_groups::nodes::nodes_from` meets its contract: record by record, while they are nodes.
-use Prim.Native.Nat.{ℕ, _+_, _-_, _≤_, _<_}
+use Prim.Native.Nat.{ℕ, _-_, _≤_}
 use mathlib.Core.Path.{_≡_, refl}
-use mathlib.Core.Bool.{Bool, true}
+use mathlib.Core.Bool.{true}
 use mathlib.Core.List.{List, [], _∷_, _++_, append-nil}
 use native.Mathlib.Omega.{arith}
 use lib.ListN.{length, length-set}
@@ -26,7 +26,7 @@ pos = omega arith
 abbrev said : List ℕ → Record
 said bs = nodeRecord (nodeIn bs)
 
-checks : (g c : ℕ) (xs : List M.Node) (bs : List ℕ) (l : Progress) → g ≤ 4 → length xs ≡ c → failing (loadChecks (withGroup g (putNodes xs l)) (said bs)) ≡ failing (listChecks (true) (ltb c 128))
+checks : (g c : ℕ) (xs : List M.Node) (bs : List ℕ) (l : Progress) → g ≤ 4 → length xs ≡ c → failing (loadChecks (withGroup g (putNodes xs l)) (said bs)) ≡ failing (listChecks true (ltb c 128))
 unfolding loadChecks
 checks g c xs bs l h e = rw (le-leb g 4 h, e)
 

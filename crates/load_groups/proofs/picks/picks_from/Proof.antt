@@ -1,8 +1,8 @@
 -- `load_groups::picks::picks_from` meets its contract: record by record, while they are picks.
-use Prim.Native.Nat.{ℕ, _+_, _-_, _≤_, _<_}
+use Prim.Native.Nat.{ℕ, _-_, _≤_, _<_}
 use mathlib.Core.Path.{_≡_, refl}
-use mathlib.Core.Bool.{Bool, true}
-use mathlib.Core.List.{List, [], _∷_, _++_, append-nil}
+use mathlib.Core.Bool.{true}
+use mathlib.Core.List.{List, [], _∷_, _++_}
 use native.Mathlib.Omega.{arith}
 use lib.ListN.{length, length-set}
 use borrow.Author.Needs.{needs}
@@ -26,7 +26,7 @@ pos = omega arith
 abbrev said : List ℕ → Record
 said bs = pickRecord (pickIn bs)
 
-checks : (g c : ℕ) (xs : List Pick) (bs : List ℕ) (l : Progress) → g ≤ 6 → length xs ≡ c → failing (loadChecks (withGroup g (putPicks xs l)) (said bs)) ≡ failing (listChecks (true) (true))
+checks : (g c : ℕ) (xs : List Pick) (bs : List ℕ) (l : Progress) → g ≤ 6 → length xs ≡ c → failing (loadChecks (withGroup g (putPicks xs l)) (said bs)) ≡ failing (listChecks true true)
 unfolding loadChecks
 checks g c xs bs l h e = rw (le-leb g 6 h)
 

@@ -1,7 +1,7 @@
 -- `load_groups::starts::starts_from` meets its contract: record by record, while they are starts.
-use Prim.Native.Nat.{ℕ, _+_, _-_, _≤_, _<_}
+use Prim.Native.Nat.{ℕ, _-_, _≤_}
 use mathlib.Core.Path.{_≡_, refl}
-use mathlib.Core.Bool.{Bool, true}
+use mathlib.Core.Bool.{true}
 use mathlib.Core.List.{List, [], _∷_, _++_, append-nil}
 use native.Mathlib.Omega.{arith}
 use lib.ListN.{length, length-set}
@@ -27,7 +27,7 @@ pos = omega arith
 abbrev said : List ℕ → Record
 said bs = startRecord (siteAt 1 bs) (at bs 2)
 
-checks : (g c : ℕ) (xs : List M.Thread) (bs : List ℕ) (l : Progress) → g ≤ 5 → length xs ≡ c → failing (loadChecks (withGroup g (putThreads xs l)) (said bs)) ≡ failing (listChecks (true) (ltb c 8))
+checks : (g c : ℕ) (xs : List M.Thread) (bs : List ℕ) (l : Progress) → g ≤ 5 → length xs ≡ c → failing (loadChecks (withGroup g (putThreads xs l)) (said bs)) ≡ failing (listChecks true (ltb c 8))
 unfolding loadChecks
 checks g c xs bs l h e = rw (le-leb g 5 h, e)
 

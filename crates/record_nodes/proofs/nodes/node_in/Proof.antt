@@ -1,6 +1,6 @@
 -- `record_nodes::nodes::node_in` meets its contract, field by field.
 use Prim.Native.Nat.{ℕ}
-use mathlib.Core.Path.{_≡_, ap, _∙_}
+use mathlib.Core.Path.{_≡_}
 use mathlib.Core.Bool.{Bool, cond}
 use mathlib.Core.List.{List, []}
 use Rattle.values.specs.declared.Operand.{Operand}
