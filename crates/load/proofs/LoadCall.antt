@@ -1,5 +1,5 @@
 -- From what `load` has in hand to its contract. Assumes nothing.
-use Prim.Native.Nat.{ℕ, zero, suc, _+_, _≤_, _<_, _%_}
+use Prim.Native.Nat.{ℕ, zero, suc, _+_, _≤_, _<_, _/_, _%_}
 use mathlib.Core.Path.{_≡_, refl, sym, ap, _∙_}
 use mathlib.Core.Bool.{Bool, true, false}
 use mathlib.Core.List.{List, [], _∷_}
@@ -15,7 +15,8 @@ use Rattle.nets.specs.declared.Pick.{Pick}
 use Rattle.nets.specs.View.{noNode, nodeOf, view}
 use Rattle.record_bytes.specs.Decoding.{Decoded, good, bad, wholeRecords, recordsIn}
 use Rattle.files.specs.declared.Loaded.{Loaded}
-use Rattle.load_walk.specs.declared.Reach.{Reach}
+use Rattle.load.specs.declared.FileRead.{FileRead}
+use Rattle.load.specs.Lengths.{LengthIs}
 use Rattle.files.specs.declared.Verdict.the-variants as verdict
 use Rattle.files.specs.Empty.{blankNet}
 use Rattle.files.specs.Engine.{faultIn, picksOf, LoadIs}
@@ -41,18 +42,36 @@ accepted-is file net ps n e = record { fault = sym (ap faultOf e); net = sym (ap
 
 -- ── checks 1 and 2 ──
 
-module _ (file : List ℕ) where
-  pub broken : (length file % 104 ≡ 0 → ⊥) → loadBytes file ≡ rejected 1 (wholeRecords file)
+module _ (n : ℕ) where
+  pub broken : (n % 104 ≡ 0 → ⊥) → LengthIs n 1 (n / 104)
   unfolding loadBytes
-  broken h = rw (ne-eqb (length file % 104) 0 h)
+  broken h =
+      record {
+        refused = λ z file e. rw (e, ne-eqb (n % 104) 0 h);
+        whole = λ z. absurd (omega (arith, z));
+        passed = λ z. absurd (omega (arith, z));
+        long = λ l z. omega (arith, z);
+      }
 
-  pub too-many : length file % 104 ≡ 0 → 256 < wholeRecords file → loadBytes file ≡ rejected 2 256
+  pub too-many : n % 104 ≡ 0 → 256 < n / 104 → LengthIs n 2 256
   unfolding loadBytes
-  too-many e h = rw (eq-eqb (length file % 104) 0 e, lt-leb (wholeRecords file) 256 h)
+  too-many p h =
+      record {
+        refused = λ z file e. rw (e, eq-eqb (n % 104) 0 p, lt-leb (n / 104) 256 h);
+        whole = λ z. absurd (omega (arith, z));
+        passed = λ z. absurd (omega (arith, z));
+        long = λ l z. omega (arith, z);
+      }
 
-  pub records-loaded : length file % 104 ≡ 0 → wholeRecords file ≤ 256 → loadBytes file ≡ load (recordsIn file)
+  pub whole-records : n % 104 ≡ 0 → n / 104 ≤ 256 → LengthIs n 0 0
   unfolding loadBytes
-  records-loaded e h = rw (eq-eqb (length file % 104) 0 e, le-leb (wholeRecords file) 256 h)
+  whole-records p h =
+      record {
+        refused = λ z. absurd (z refl);
+        whole = λ z file e. record { exact = omega (arith, e); few = omega (arith, e) };
+        passed = λ z file e. rw (e, eq-eqb (n % 104) 0 p, le-leb (n / 104) 256 h);
+        long = λ l z. omega arith;
+      }
 
 -- ── checks 3 to 8 ──
 
@@ -110,39 +129,39 @@ module _ (file : List ℕ) (n k : ℕ) (e : k ≡ placeOr (wholeRecords file) (f
 
 -- ── the answer ──
 
-module _ (file : List ℕ) (e : loadBytes file ≡ load (recordsIn file)) (r : Reach) (net : Net) (ps : List Pick) (c : ℕ)
-    (q : readAll 0 nothingRead (recordsIn file) ≡ ending r (record { net = view net; picks = picksOf c ps; group = 0 })) where
+module _ (file : List ℕ) (e : loadBytes file ≡ load (recordsIn file)) (d : FileRead)
+    (q : readAll 0 nothingRead (recordsIn file) ≡ ending (d .reach) (record { net = view (d .net); picks = picksOf (d .pickcount) (d .picks); group = 0 })) where
   abbrev got : Progress
-  got = record { net = view net; picks = picksOf c ps; group = r .group }
+  got = record { net = view (d .net); picks = picksOf (d .pickcount) (d .picks); group = d .reach .group }
 
-  loaded : loadBytes file ≡ finish (recordsIn file) (byEnd (r .fault) (r .place) got)
+  loaded : loadBytes file ≡ finish (recordsIn file) (byEnd (d .reach .fault) (d .reach .place) got)
   unfolding load
   loaded = e ∙ ap (finish (recordsIn file)) q
 
-  pub stopped-file : (r .fault ≡ 0 → ⊥) → loadBytes file ≡ rejected (r .fault) (r .place)
-  stopped-file h = loaded ∙ go (r .fault) h
+  pub stopped-file : (d .reach .fault ≡ 0 → ⊥) → loadBytes file ≡ rejected (d .reach .fault) (d .reach .place)
+  stopped-file h = loaded ∙ go (d .reach .fault) h
     where
-      go : (f : ℕ) → (f ≡ 0 → ⊥) → finish (recordsIn file) (byEnd f (r .place) got) ≡ rejected f (r .place)
+      go : (f : ℕ) → (f ≡ 0 → ⊥) → finish (recordsIn file) (byEnd f (d .reach .place) got) ≡ rejected f (d .reach .place)
       go zero h = absurd (h refl)
       go (suc f) h = refl
 
-  module _ (z : r .fault ≡ 0) where
+  module _ (z : d .reach .fault ≡ 0) where
     pub records-good : T (all isGood (recordsIn file))
-    records-good = all-good 0 nothingRead (recordsIn file) got (q ∙ ap (λ (f : ℕ). byEnd f (r .place) got) z)
+    records-good = all-good 0 nothingRead (recordsIn file) got (q ∙ ap (λ (f : ℕ). byEnd f (d .reach .place) got) z)
 
-    nodes-in : length (view net .nodes) ≡ net .nodecount
+    nodes-in : length (view (d .net) .nodes) ≡ d .net .nodecount
     unfolding view
-    nodes-in = length-firsts nodeOf noNode (net .nodecount) (net .nodes)
+    nodes-in = length-firsts nodeOf noNode (d .net .nodecount) (d .net .nodes)
 
-    linked-as : loadBytes file ≡ linked (firstBadLink (net .nodecount) 0 0 (recordsIn file)) got
+    linked-as : loadBytes file ≡ linked (firstBadLink (d .net .nodecount) 0 0 (recordsIn file)) got
     linked-as =
         loaded
-        ∙ ap (λ (f : ℕ). finish (recordsIn file) (byEnd f (r .place) got)) z
+        ∙ ap (λ (f : ℕ). finish (recordsIn file) (byEnd f (d .reach .place) got)) z
         ∙ ap (λ (n : ℕ). linked (firstBadLink n 0 0 (recordsIn file)) got) nodes-in
 
-    module _ (k : ℕ) (b : k ≡ placeOr (wholeRecords file) (firstBadLink (net .nodecount) 0 0 (recordsIn file))) where
+    module _ (k : ℕ) (b : k ≡ placeOr (wholeRecords file) (firstBadLink (d .net .nodecount) 0 0 (recordsIn file))) where
       pub bad-linked : k < wholeRecords file → loadBytes file ≡ rejected 9 k
-      bad-linked h = linked-as ∙ ap (λ (o : Option ℕ). linked o got) (link-at file (net .nodecount) k b h)
+      bad-linked h = linked-as ∙ ap (λ (o : Option ℕ). linked o got) (link-at file (d .net .nodecount) k b h)
 
-      pub well-linked : wholeRecords file ≤ k → loadBytes file ≡ accepted (view net) (picksOf c ps)
-      well-linked h = linked-as ∙ ap (λ (o : Option ℕ). linked o got) (link-none file (net .nodecount) k b h)
+      pub well-linked : wholeRecords file ≤ k → loadBytes file ≡ accepted (view (d .net)) (picksOf (d .pickcount) (d .picks))
+      well-linked h = linked-as ∙ ap (λ (o : Option ℕ). linked o got) (link-none file (d .net .nodecount) k b h)

@@ -13,15 +13,21 @@ use load_walk::Reach;
 use load_walk::tables::tables_from;
 use nets::Net;
 use nets::Pick;
+use record_bytes::RECORD;
 ghost use mathlib.Core.Path.{_≡_};
-ghost use Prim.Native.Nat.{_≤_, _*_};
-ghost use lib.ListN.{length};
 ghost use Rattle.nets.specs.View.{view};
-ghost use Rattle.record_bytes.specs.Decoding.{wholeRecords, recordsIn};
+ghost use Rattle.record_bytes.specs.Decoding.{recordsIn};
 ghost use Rattle.files.specs.Empty.{blankNet};
 ghost use Rattle.files.specs.Engine.{LoadIs, picksOf};
 ghost use Rattle.files.specs.Loading.{nothingRead, readAll};
-ghost use Rattle.load_walk.specs.Walking.{ending};
+ghost use Rattle.load_walk.specs.Walking.{Whole, ending};
+ghost use Rattle.load.specs.Lengths.{LengthIs};
+
+// The number of a check that fails by the file's length, 0 for none, and the place that goes with it.
+pub struct LengthFault {
+    pub number: u8,
+    pub place: usize,
+}
 
 // What all records gave, up to the first fault.
 pub struct FileRead {
@@ -31,9 +37,32 @@ pub struct FileRead {
     pub reach: Reach,
 }
 
+// Checks 1 and 2, which ask for the length alone: of a file in memory, or of one that is longer than any that loads.
+pub fn length_fault(length: usize) -> LengthFault
+    ensures { λ r. ⌜ LengthIs length (r .number) (r .place) ⌝ }
+{
+    let count = length / RECORD;
+    if length % RECORD != 0 {
+        return LengthFault {
+            number: 1,
+            place: count,
+        };
+    }
+    if 256 < count {
+        return LengthFault {
+            number: 2,
+            place: 256,
+        };
+    }
+    LengthFault {
+        number: 0,
+        place: 0,
+    }
+}
+
 // Checks 3 to 8, group after group.
 fn read_all(file: &[u8]) -> FileRead
-    requires { ⌜ (length (now file) ≡ wholeRecords (now file) * 104) × (wholeRecords (now file) ≤ 256) ⌝ }
+    requires { ⌜ Whole (now file) ⌝ }
     ensures { λ r. ⌜ readAll 0 nothingRead (recordsIn (now (file .entry))) ≡ ending (r .reach) (record { net = view (r .net); picks = picksOf (r .pickcount) (r .picks); group = 0 }) ⌝ }
 {
     let start = Reach {
@@ -87,12 +116,9 @@ fn refused(number: u8, place: usize) -> Loaded
 pub fn load(file: &[u8]) -> Loaded
     ensures { λ r. ⌜ LoadIs (now (file .entry)) r ⌝ }
 {
-    let count = file.len() / 104;
-    if file.len() % 104 != 0 {
-        return refused(1, count);
-    }
-    if 256 < count {
-        return refused(2, 256);
+    let length = length_fault(file.len());
+    if length.number != 0 {
+        return refused(length.number, length.place);
     }
     let read = read_all(file);
     let reach = read.reach;
@@ -101,7 +127,7 @@ pub fn load(file: &[u8]) -> Loaded
     }
     let net = read.net;
     let bad = bad_link(file, net.nodecount);
-    if bad < count {
+    if bad < file.len() / RECORD {
         return refused(9, bad);
     }
     let picks = read.picks;

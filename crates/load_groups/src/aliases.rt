@@ -2,35 +2,30 @@
 use crate::AliasesRead;
 use crate::blanks::blank_alias;
 use load_walk::Reach;
+use load_walk::walking::first_fault;
 use load_walk::walking::next_group;
+use load_walk::walking::record_at;
 use net_parts::lists::alias_new;
 use nets::Alias;
 use record_forms::alias_form;
 use record_forms::alias_in;
 ghost use mathlib.Core.Path.{_≡_};
 ghost use mathlib.Core.Bool.{not};
-ghost use mathlib.Core.List.{[], _∷_};
+ghost use mathlib.Core.List.{[]};
 ghost use Prim.Native.Nat.{_≤_};
 ghost use lib.ListN.{length};
 ghost use Rattle.values.specs.Lists.{any};
 ghost use Rattle.nets.specs.Sound.{sameAlias};
-ghost use Rattle.nets.specs.Steps.{check};
 ghost use Rattle.nets.specs.View.{aliasesOf};
-ghost use Rattle.record_bytes.specs.Decoding.{aliasIn, aliasForm};
-ghost use Rattle.load_walk.specs.Walking.{putAliases, Leads, Going, formThen};
+ghost use Rattle.record_bytes.specs.Decoding.{aliasIn};
+ghost use Rattle.load_walk.specs.Walking.{putAliases, Leads, Going};
 
-// The number of its fault, 0 for none.
-fn alias_fault(aliases: [Alias; 56], count: usize, r: &[u8]) -> u8
+// No earlier alias has its site and locality.
+fn alias_first(aliases: [Alias; 56], count: usize, r: &[u8]) -> bool
     requires { ⌜ (length (now r) ≡ 104) × (count ≤ 56) ⌝ }
-    ensures { λ o. ⌜ o ≡ formThen (aliasForm (now (r .entry))) (check 6 (not (any (λ b. sameAlias b (aliasIn (now (r .entry)))) (aliasesOf count aliases))) ∷ []) ⌝ }
+    ensures { λ o. ⌜ o ≡ not (any (λ b. sameAlias b (aliasIn (now (r .entry)))) (aliasesOf count aliases)) ⌝ }
 {
-    if alias_form(r) {
-        if alias_new(aliases, count, alias_in(r), 0) {
-            return 0;
-        }
-        return 6;
-    }
-    4
+    alias_new(aliases, count, alias_in(r), 0)
 }
 
 pub fn aliases_from(file: &[u8], from: Reach) -> AliasesRead
@@ -41,8 +36,8 @@ pub fn aliases_from(file: &[u8], from: Reach) -> AliasesRead
     let mut count: usize = 0;
     let mut at = from;
     while next_group(file, at) == 1 {
-        let i = at.place * 104;
-        let fault = alias_fault(aliases, count, &file[i..i + 104]);
+        let r = record_at(file, at.place);
+        let fault = first_fault(alias_form(r), alias_first(aliases, count, r), true);
         if fault != 0 {
             return AliasesRead {
                 aliases,
@@ -54,7 +49,7 @@ pub fn aliases_from(file: &[u8], from: Reach) -> AliasesRead
                 },
             };
         }
-        aliases[count] = alias_in(&file[i..i + 104]);
+        aliases[count] = alias_in(r);
         count += 1;
         at = Reach {
             place: at.place + 1,

@@ -1,4 +1,4 @@
-// The blank elements that arrays hold where nothing is in use, and the empty net.
+// The blank elements that arrays hold where none is in use, and the empty net.
 use load_walk::blanks::blank_relation;
 use load_walk::blanks::blank_table;
 use nets::Alias;

@@ -5,12 +5,12 @@ use load_walk::TablesRead;
 use load_walk::contents::content_fault;
 use load_walk::contents::content_with;
 use load_walk::walking::next_group;
+use load_walk::walking::record_at;
 use nets::Table;
 use nets::tables::find_table;
-use record_forms::name_in;
-use record_forms::site_in;
-use record_nodes::drafts::row_draft;
-use record_nodes::tuples::row_form;
+use record_forms::record_name;
+use record_forms::record_site;
+use record_nodes::tuples::row_read;
 ghost use mathlib.Core.Path.{_≡_};
 ghost use mathlib.Core.Bool.{false};
 ghost use mathlib.Core.List.{[], _∷_, _++_};
@@ -32,7 +32,7 @@ fn row_place(tables: [Table; 8], count: usize, r: &[u8]) -> usize
     requires { ⌜ (length (now r) ≡ 104) × (count ≤ 8) ⌝ }
     ensures { λ o. ⌜ o ≡ placeOf (isAt (siteAt 1 (now (r .entry))) (nameIn (now (r .entry)))) (tablesOf count tables) ⌝ }
 {
-    find_table(tables, count, site_in(r), name_in(r))
+    find_table(tables, count, record_site(r), record_name(r))
 }
 
 // The fault of a row that has no table.
@@ -40,7 +40,8 @@ fn lost_fault(r: &[u8]) -> u8
     requires { ⌜ length (now r) ≡ 104 ⌝ }
     ensures { λ o. ⌜ o ≡ formThen (rowForm (now (r .entry))) (check 7 false ∷ []) ⌝ }
 {
-    if row_form(r) {
+    let read = row_read(r);
+    if read.right {
         return 7;
     }
     4
@@ -53,10 +54,11 @@ fn row_taken(t: Table, r: &[u8]) -> RowTaken
         × (o .fault ≡ 0 → tableOf (o .table) ≡ withRows (relationOf (t .content) .rows ++ (rowIn (part 56 88 (now (r .entry))) ∷ [])) (tableOf t))
         × Shaped (o .table .content) ⌝ }
 {
-    if !row_form(r) {
+    let read = row_read(r);
+    if !read.right {
         return RowTaken { fault: 4, table: t };
     }
-    let d = row_draft(&r[56..88]);
+    let d = read.draft;
     let old = t.content;
     let fault = content_fault(old, d);
     if fault != 0 {
@@ -97,14 +99,14 @@ pub fn rows_from(file: &[u8], read: TablesRead) -> TablesRead
     let mut tables = read.tables;
     let mut at = read.reach;
     while next_group(file, at) == 3 {
-        let i = at.place * 104;
-        let place = row_place(tables, count, &file[i..i + 104]);
+        let r = record_at(file, at.place);
+        let place = row_place(tables, count, r);
         if count <= place {
-            let fault = lost_fault(&file[i..i + 104]);
+            let fault = lost_fault(r);
             return halted(tables, count, at, fault);
         }
         let t = tables[place];
-        let taken = row_taken(t, &file[i..i + 104]);
+        let taken = row_taken(t, r);
         if taken.fault != 0 {
             return halted(tables, count, at, taken.fault);
         }

@@ -1,4 +1,4 @@
-// The groups of a file's records but for the tables: one loop for each.
+// Loading a file group by group: aliases, rows, nodes, starts and picks, a loop for each, and what may be left after the last group. `load_walk` has the tables.
 use load_walk::Reach;
 use nets::Alias;
 use nets::Node;
@@ -14,7 +14,7 @@ pub mod nodes;
 pub mod picks;
 pub mod starts;
 
-// The lists that records gave, and the place after them.
+// What the records of a group gave, and how far reading has come.
 pub struct AliasesRead {
     pub aliases: [Alias; 56],
     pub count: usize,

@@ -2,31 +2,13 @@
 use crate::NodesRead;
 use crate::blanks::blank_node;
 use load_walk::Reach;
+use load_walk::walking::first_fault;
 use load_walk::walking::next_group;
-use record_nodes::nodes::node_form;
-use record_nodes::nodes::node_in;
-ghost use mathlib.Core.Path.{_≡_};
-ghost use mathlib.Core.List.{[], _∷_};
-ghost use lib.Dec.{ltb};
-ghost use lib.ListN.{length};
-ghost use Rattle.nets.specs.Steps.{check};
+use load_walk::walking::record_at;
+use record_nodes::nodes::node_read;
+ghost use mathlib.Core.List.{[]};
 ghost use Rattle.nets.specs.View.{nodesOf};
-ghost use Rattle.record_bytes.specs.Decoding.{nodeForm};
-ghost use Rattle.load_walk.specs.Walking.{putNodes, Leads, Going, formThen};
-
-// The number of its fault, 0 for none.
-fn node_fault(count: usize, r: &[u8]) -> u8
-    requires { ⌜ length (now r) ≡ 104 ⌝ }
-    ensures { λ o. ⌜ o ≡ formThen (nodeForm (now (r .entry))) (check 8 (ltb count 128) ∷ []) ⌝ }
-{
-    if !node_form(r) {
-        return 4;
-    }
-    if count < 128 {
-        return 0;
-    }
-    8
-}
+ghost use Rattle.load_walk.specs.Walking.{putNodes, Leads, Going};
 
 pub fn nodes_from(file: &[u8], from: Reach) -> NodesRead
     requires { ⌜ Going (now file) 4 from ⌝ }
@@ -36,8 +18,9 @@ pub fn nodes_from(file: &[u8], from: Reach) -> NodesRead
     let mut count: usize = 0;
     let mut at = from;
     while next_group(file, at) == 4 {
-        let i = at.place * 104;
-        let fault = node_fault(count, &file[i..i + 104]);
+        let r = record_at(file, at.place);
+        let read = node_read(r);
+        let fault = first_fault(read.right, true, count < 128);
         if fault != 0 {
             return NodesRead {
                 nodes,
@@ -49,7 +32,8 @@ pub fn nodes_from(file: &[u8], from: Reach) -> NodesRead
                 },
             };
         }
-        nodes[count] = node_in(&file[i..i + 104]);
+        let node = read.node;
+        nodes[count] = node;
         count += 1;
         at = Reach {
             place: at.place + 1,

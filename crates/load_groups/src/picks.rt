@@ -1,27 +1,15 @@
 // Pick records, group 6: check 4.
 use crate::PicksRead;
 use load_walk::Reach;
+use load_walk::walking::first_fault;
 use load_walk::walking::next_group;
+use load_walk::walking::record_at;
 use nets::Pick;
 use record_forms::pick_form;
 use record_forms::pick_in;
-ghost use mathlib.Core.Path.{_≡_};
 ghost use mathlib.Core.List.{[]};
-ghost use lib.ListN.{length};
-ghost use Rattle.record_bytes.specs.Decoding.{pickForm};
 ghost use Rattle.files.specs.Engine.{picksOf};
-ghost use Rattle.load_walk.specs.Walking.{putPicks, Leads, Going, formThen};
-
-// The number of its fault, 0 for none.
-fn pick_fault(r: &[u8]) -> u8
-    requires { ⌜ length (now r) ≡ 104 ⌝ }
-    ensures { λ o. ⌜ o ≡ formThen (pickForm (now (r .entry))) [] ⌝ }
-{
-    if pick_form(r) {
-        return 0;
-    }
-    4
-}
+ghost use Rattle.load_walk.specs.Walking.{putPicks, Leads, Going};
 
 pub fn picks_from(file: &[u8], from: Reach) -> PicksRead
     requires { ⌜ Going (now file) 6 from ⌝ }
@@ -31,8 +19,8 @@ pub fn picks_from(file: &[u8], from: Reach) -> PicksRead
     let mut count: usize = 0;
     let mut at = from;
     while next_group(file, at) == 6 {
-        let i = at.place * 104;
-        let fault = pick_fault(&file[i..i + 104]);
+        let r = record_at(file, at.place);
+        let fault = first_fault(pick_form(r), true, true);
         if fault != 0 {
             return PicksRead {
                 picks,
@@ -44,7 +32,7 @@ pub fn picks_from(file: &[u8], from: Reach) -> PicksRead
                 },
             };
         }
-        picks[count] = pick_in(&file[i..i + 104]);
+        picks[count] = pick_in(r);
         count += 1;
         at = Reach {
             place: at.place + 1,

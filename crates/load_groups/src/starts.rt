@@ -2,43 +2,29 @@
 use crate::ThreadsRead;
 use crate::blanks::blank_thread;
 use load_walk::Reach;
+use load_walk::walking::first_fault;
 use load_walk::walking::next_group;
+use load_walk::walking::record_at;
 use nets::Entry;
 use nets::Frame;
 use nets::Thread;
-use record_forms::site_in;
+use record_forms::record_site;
 use record_forms::start_form;
 ghost use mathlib.Core.Path.{_≡_};
-ghost use mathlib.Core.List.{[], _∷_};
-ghost use lib.Dec.{ltb};
+ghost use mathlib.Core.List.{[]};
 ghost use lib.ListN.{length};
-ghost use Rattle.nets.specs.Steps.{check};
 ghost use Rattle.nets.specs.View.{threadOf, threadsOf};
 ghost use Rattle.record_bytes.specs.Bytes.{at};
-ghost use Rattle.record_bytes.specs.Decoding.{siteAt, startForm};
+ghost use Rattle.record_bytes.specs.Decoding.{siteAt};
 ghost use Rattle.files.specs.Loading.{fresh};
-ghost use Rattle.load_walk.specs.Walking.{putThreads, Leads, Going, formThen};
-
-// The number of its fault, 0 for none.
-fn start_fault(count: usize, r: &[u8]) -> u8
-    requires { ⌜ length (now r) ≡ 104 ⌝ }
-    ensures { λ o. ⌜ o ≡ formThen (startForm (now (r .entry))) (check 8 (ltb count 8) ∷ []) ⌝ }
-{
-    if !start_form(r) {
-        return 4;
-    }
-    if count < 8 {
-        return 0;
-    }
-    8
-}
+ghost use Rattle.load_walk.specs.Walking.{putThreads, Leads, Going};
 
 // A thread with nothing bound and one node to run.
 fn start_in(r: &[u8]) -> Thread
     requires { ⌜ length (now r) ≡ 104 ⌝ }
     ensures { λ o. ⌜ threadOf o ≡ fresh (siteAt 1 (now (r .entry))) (at (now (r .entry)) 2) ⌝ }
 {
-    let site = site_in(r);
+    let site = record_site(r);
     let mut t = blank_thread();
     t.site = site;
     t.stack[0] = Frame {
@@ -57,8 +43,8 @@ pub fn starts_from(file: &[u8], from: Reach) -> ThreadsRead
     let mut count: usize = 0;
     let mut at = from;
     while next_group(file, at) == 5 {
-        let i = at.place * 104;
-        let fault = start_fault(count, &file[i..i + 104]);
+        let r = record_at(file, at.place);
+        let fault = first_fault(start_form(r), true, count < 8);
         if fault != 0 {
             return ThreadsRead {
                 threads,
@@ -70,7 +56,7 @@ pub fn starts_from(file: &[u8], from: Reach) -> ThreadsRead
                 },
             };
         }
-        threads[count] = start_in(&file[i..i + 104]);
+        threads[count] = start_in(r);
         count += 1;
         at = Reach {
             place: at.place + 1,

@@ -17,9 +17,9 @@ use Rattle.record_bytes.specs.Bytes.{at}
 use Rattle.record_bytes.specs.Decoding.{Record, aliasRecord, tableRecord, rowRecord, nodeRecord, startRecord, pickRecord, Decoded, good, bad, siteAt, nodeIn, nodeForm, startForm, judged, recordIn, wholeRecords, recordsIn}
 use Rattle.record_bytes.specs.Judging.{groupAt}
 use Rattle.files.specs.Loading.{groupOf, linkOk, numberAfter, badLink, firstBadLink}
-use Rattle.load_walk.specs.Walking.{isGood, placeOr, LinkIs}
+use Rattle.load_walk.specs.Walking.{recordAt, isGood, placeOr, LinkIs}
 use Rattle.load_walk.proofs.LeftLaws.{not-good, of-group, good-group}
-use Rattle.load_walk.proofs.WalkLaws.{recordAt, records-cons, records-length}
+use Rattle.load_walk.proofs.WalkLaws.{records-cons, records-length}
 
 -- ── one record ──
 
@@ -67,7 +67,10 @@ all-drop p [] (suc i) h = tt
 all-drop p (a ∷ l) (suc i) h = all-drop p l i (and-r (p a) (all p l) h)
 
 module _ (file : List ℕ) (h : T (all isGood (recordsIn file))) (n i j : ℕ) (l : i < wholeRecords file) (o : Option ℕ) (e : o ≡ firstBadLink n i j (drop i (recordsIn file)))
-    (b : Bool) (k : LinkIs n j (recordAt file i) b) where
+    (bs : List ℕ) (eb : bs ≡ recordAt file i) (b : Bool) (k₀ : LinkIs n j bs b) where
+  k : LinkIs n j (recordAt file i) b
+  k = subst (λ (x : List ℕ). LinkIs n j x b) eb k₀
+
   here : (x : Record) → recordIn (recordAt file i) ≡ good x → o ≡ badLink b i (firstBadLink n (i + 1) (numberAfter j x) (drop (i + 1) (recordsIn file)))
   unfolding firstBadLink
   here x q =
@@ -87,7 +90,7 @@ module _ (file : List ℕ) (h : T (all isGood (recordsIn file))) (n i j : ℕ) (
       go (good x) q t = sym (ap (placeOr (wholeRecords file)) (here x q ∙ ap (λ (c : Bool). badLink c i (firstBadLink n (i + 1) (numberAfter j x) (drop (i + 1) (recordsIn file)))) z))
       go (bad m) q t = absurd t
 
-  pub link-passed : (g m : ℕ) → b ≡ true → g ≡ groupAt (at (recordAt file i) 0) → m ≡ cond (eqb g 4) (j + 1) j → o ≡ firstBadLink n (i + 1) m (drop (i + 1) (recordsIn file))
+  pub link-passed : (g m : ℕ) → b ≡ true → g ≡ groupAt (at bs 0) → m ≡ cond (eqb g 4) (j + 1) j → o ≡ firstBadLink n (i + 1) m (drop (i + 1) (recordsIn file))
   link-passed g m z p r = go (recordIn (recordAt file i)) refl fine
     where
       go : (d : Decoded) → recordIn (recordAt file i) ≡ d → T (isGood d) → o ≡ firstBadLink n (i + 1) m (drop (i + 1) (recordsIn file))
@@ -95,7 +98,7 @@ module _ (file : List ℕ) (h : T (all isGood (recordsIn file))) (n i j : ℕ) (
           here x q
           ∙ ap (λ (c : Bool). badLink c i (firstBadLink n (i + 1) (numberAfter j x) (drop (i + 1) (recordsIn file)))) z
           ∙ ap (λ (k : ℕ). firstBadLink n (i + 1) k (drop (i + 1) (recordsIn file)))
-          (number-is j x ∙ ap (λ (k : ℕ). cond (eqb k 4) (suc j) j) (good-group (recordAt file i) x q .0 ∙ sym p) ∙ ap (λ (k : ℕ). cond (eqb g 4) k j) (sym (add-one j)) ∙ sym r)
+          (number-is j x ∙ ap (λ (k : ℕ). cond (eqb k 4) (suc j) j) (good-group (recordAt file i) x q .0 ∙ ap (λ (x : List ℕ). groupAt (at x 0)) (sym eb) ∙ sym p) ∙ ap (λ (k : ℕ). cond (eqb g 4) k j) (sym (add-one j)) ∙ sym r)
       go (bad y) q t = absurd t
 
 pub no-link : (file : List ℕ) (n i j : ℕ) (o : Option ℕ) → wholeRecords file ≤ i → o ≡ firstBadLink n i j (drop i (recordsIn file)) → wholeRecords file ≡ placeOr (wholeRecords file) o

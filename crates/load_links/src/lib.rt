@@ -1,17 +1,19 @@
-// The links between the records of a file.
+// Check 9: the links of nodes and starts to the nodes of the file, record by record.
+use load_walk::walking::record_at;
 use net_parts::nodes::links_at;
+use record_bytes::RECORD;
 use record_forms::group_of;
 ghost use mathlib.Core.Path.{_≡_};
 ghost use mathlib.Core.Bool.{cond};
-ghost use Prim.Native.Nat.{_+_, _*_, _≤_};
+ghost use Prim.Native.Nat.{_+_, _≤_};
 ghost use lib.Dec.{T, eqb, ltb};
 ghost use lib.ListN.{length};
 ghost use Rattle.values.specs.Lists.{all};
 ghost use Rattle.record_bytes.specs.Decoding.{wholeRecords, recordsIn};
 ghost use Rattle.files.specs.Loading.{firstBadLink};
-ghost use Rattle.load_walk.specs.Walking.{isGood, placeOr, LinkIs};
+ghost use Rattle.load_walk.specs.Walking.{Whole, isGood, placeOr, LinkIs};
 
-// A start's node is among the `n` nodes.
+// Check 9 of a start: its node is among the `n` nodes.
 fn start_ok(node: u8, n: usize) -> bool
     ensures { λ r. ⌜ r ≡ ltb node n ⌝ }
 {
@@ -29,7 +31,7 @@ fn number_after(group: u8, j: usize) -> usize
     j
 }
 
-// With `n` nodes in all, `j` the number of the node met next: this record's, if it is a node.
+// Check 9 of one record, with `n` nodes in all; `j` is the number of the node met next, which is this record's if it is a node.
 fn link_ok(r: &[u8], n: usize, j: usize) -> bool
     requires { ⌜ length (now r) ≡ 104 ⌝ }
     ensures { λ o. ⌜ LinkIs n j (now (r .entry)) o ⌝ }
@@ -43,21 +45,20 @@ fn link_ok(r: &[u8], n: usize, j: usize) -> bool
     }
 }
 
-// The place of the first record that fails it; the number of records where none does.
+// The place of the first record that fails check 9; the number of records where none does.
 pub fn bad_link(file: &[u8], n: usize) -> usize
-    requires { ⌜ (length (now file) ≡ wholeRecords (now file) * 104) × (wholeRecords (now file) ≤ 256) × T (all isGood (recordsIn (now file))) ⌝ }
+    requires { ⌜ Whole (now file) × T (all isGood (recordsIn (now file))) ⌝ }
     ensures { λ r. ⌜ r ≡ placeOr (wholeRecords (now (file .entry))) (firstBadLink n 0 0 (recordsIn (now (file .entry)))) ⌝ }
 {
-    let count = file.len() / 104;
+    let count = file.len() / RECORD;
     let mut i: usize = 0;
     let mut j: usize = 0;
     while i < count {
-        let at = i * 104;
-        let group = group_of(file[at]);
-        if !link_ok(&file[at..at + 104], n, j) {
+        let r = record_at(file, i);
+        if !link_ok(r, n, j) {
             return i;
         }
-        j = number_after(group, j);
+        j = number_after(group_of(r[0]), j);
         i += 1;
     }
     count

@@ -14,22 +14,15 @@ use Rattle.record_bytes.specs.Judging.{groupAt}
 use Rattle.record_bytes.proofs.GroupLaws.{byGroup, by-group}
 use Rattle.load_walk.specs.declared.Reach.{Reach}
 use Rattle.files.specs.Loading.{Progress, groupOf, stopped, readAll}
-use Rattle.load_walk.specs.Walking.{rest, byFault, outcome, groupNext, Going, byEnd, Ends, isGood, decodedFault}
+use Rattle.load_walk.specs.Walking.{recordAt, rest, byFault, outcome, groupNext, Going, byEnd, Ends, isGood, decodedFault}
 use Rattle.files.proofs.FaultLaws.{decodedNumbered, record-numbered}
-use Rattle.load_walk.proofs.WalkLaws.{recordAt, withGroup, first-byte, records-length, rest-bad, rest-early}
+use Rattle.load_walk.proofs.WalkLaws.{withGroup, records-length, rest-bad, rest-early}
 
 -- ── by the group ──
 
 module _ (bs : List ℕ) (g : ℕ) (e : g ≡ groupAt (at bs 0)) where
   pub of-group : (k : ℕ) (form : Bool) (x : Record) → g ≡ k → byGroup k bs ≡ judged form x → recordIn bs ≡ judged form x
   of-group k form x h q = by-group bs ∙ ap (λ (j : ℕ). byGroup j bs) (sym e ∙ h) ∙ q
-
-  pub form-fault : (k : ℕ) (form : Bool) (x : Record) → g ≡ k → byGroup k bs ≡ judged form x → (b : Bool) (f : ℕ) → b ≡ form → f ≡ cond b 0 4 → f ≡ decodedFault (recordIn bs)
-  form-fault k form x h q b f p z = z ∙ go b form p ∙ ap decodedFault (sym (of-group k form x h q))
-    where
-      go : (b form : Bool) → b ≡ form → cond b 0 4 ≡ decodedFault (judged form x)
-      go b true p = rw p
-      go b false p = rw p
 
   pub no-group : (g ≡ 1 → ⊥) → (g ≡ 2 → ⊥) → (g ≡ 3 → ⊥) → (g ≡ 4 → ⊥) → (g ≡ 5 → ⊥) → (g ≡ 6 → ⊥) → 3 ≡ decodedFault (recordIn bs)
   no-group a b c d u v = sym (ap decodedFault (by-group bs ∙ ap (λ (j : ℕ). byGroup j bs) (sym e) ∙ go g a b c d u v))
@@ -43,6 +36,15 @@ module _ (bs : List ℕ) (g : ℕ) (e : g ≡ groupAt (at bs 0)) where
       go (suc (suc (suc (suc (suc zero))))) a b c d u v = absurd (u refl)
       go (suc (suc (suc (suc (suc (suc zero)))))) a b c d u v = absurd (v refl)
       go (suc (suc (suc (suc (suc (suc (suc j))))))) a b c d u v = refl
+
+-- a record of the group `k` fails check 4 by the form of its group
+pub form-fault : (k : ℕ) (form : List ℕ → Bool) (said : List ℕ → Record) → ((bs : List ℕ) → byGroup k bs ≡ judged (form bs) (said bs)) →
+    (bs : List ℕ) (g : ℕ) (b : Bool) (f : ℕ) → g ≡ groupAt (at bs 0) → g ≡ k → b ≡ form bs → f ≡ cond b 0 4 → f ≡ decodedFault (recordIn bs)
+form-fault k form said same bs g b f e h p z = z ∙ go b (form bs) p ∙ ap decodedFault (sym (of-group bs g e k (form bs) (said bs) h (same bs)))
+  where
+    go : (b c : Bool) → b ≡ c → cond b 0 4 ≡ decodedFault (judged c (said bs))
+    go b true p = rw p
+    go b false p = rw p
 
 abbrev groupIn : Decoded → ℕ
 groupIn (good x) = groupOf x
@@ -86,7 +88,7 @@ module _ (file : List ℕ) (r : Reach) where
     pub at-end : Going file 7 r → length file ≤ r .place * 104 → Ends file r r
     unfolding rest readAll
     at-end g h =
-        let k : length (recordsIn file) ≤ r .place = omega (arith, h, g .whole, records-length file) in
+        let k : length (recordsIn file) ≤ r .place = omega (arith, h, g .whole .exact, records-length file) in
         record {
           ends = λ l.
               starts l
@@ -94,13 +96,16 @@ module _ (file : List ℕ) (r : Reach) where
               ∙ ap (λ (f : ℕ). byEnd f (r .place) (withGroup (r .group) l)) (sym z);
         }
 
-    module _ (g : Going file 7 r) (h : r .place * 104 < length file) (f : ℕ) (e : f ≡ decodedFault (recordIn (recordAt file (r .place)))) where
+    module _ (g : Going file 7 r) (h : r .place * 104 < length file) (bs : List ℕ) (eb : bs ≡ recordAt file (r .place)) (f : ℕ) (e₀ : f ≡ decodedFault (recordIn bs)) where
+      e : f ≡ decodedFault (recordIn (recordAt file (r .place)))
+      e = e₀ ∙ ap (λ (x : List ℕ). decodedFault (recordIn x)) eb
+
       below : r .place < wholeRecords file
-      below = omega (arith, h, g .whole)
+      below = omega (arith, h, g .whole .exact)
 
       next : groupNext file r ≡ groupAt (at (recordAt file (r .place)) 0)
       unfolding groupNext
-      next = rw (eq-eqb (r .fault) 0 z, lt-ltb (r .place * 104) (length file) h) (ap groupAt (sym (first-byte file (r .place))))
+      next = rw (eq-eqb (r .fault) 0 z, lt-ltb (r .place * 104) (length file) h)
 
       smaller : (k j : ℕ) → k ≡ j → 1 ≤ j → j ≤ 6 → (1 ≤ j → r .group ≤ j → 7 ≤ j) → k < r .group
       smaller k j q a b p = go (leb (r .group) j) refl

@@ -1,6 +1,6 @@
 -- The walk over a file: a record of the group that is read leads on to the next place, or stops at its fault. Assumes nothing.
-use Prim.Native.Nat.{ℕ, zero, suc, _+_, _*_, _≤_, _<_}
-use mathlib.Core.Path.{_≡_, refl, ap, sym, _∙_}
+use Prim.Native.Nat.{ℕ, zero, suc, _+_, _-_, _*_, _≤_, _<_}
+use mathlib.Core.Path.{_≡_, refl, ap, ap₂, sym, _∙_}
 use mathlib.Core.Bool.{Bool, true, false, cond, _&&_}
 use mathlib.Core.List.{List, [], _∷_, _++_, map}
 use mathlib.Core.Option.{Option, none, some}
@@ -8,13 +8,13 @@ use native.Mathlib.Omega.{arith}
 use borrow.Author.Tests.{ne-eqb}
 use lib.Dec.{T, eqb, eqb→eq, leb, ltb, ltb→lt}
 use native.Mathlib.Numerals.{add-one}
-use lib.ListN.{length, getD, set, take, drop, length-take, length-drop}
-use lib.Seq.{drop-drop, getD-take, getD-drop}
+use lib.ListN.{length, set, take, drop}
+use lib.Seq.{drop-drop}
 use Rattle.values.specs.Lists.{all, firsts}
 use Rattle.values.proofs.Bools.{and-l, and-r, T-of}
 use Rattle.values.proofs.Firsts.{length-firsts, firsts-push}
-use Rattle.nets.specs.Steps.{Check}
-use Rattle.record_bytes.specs.Bytes.{at, part, parts}
+use Rattle.nets.specs.Steps.{Check, check}
+use Rattle.record_bytes.specs.Bytes.{at, parts}
 use Rattle.record_bytes.specs.Decoding.{Record, Decoded, good, bad, judged, recordIn, wholeRecords, recordsIn}
 use Rattle.record_bytes.specs.Judging.{groupAt}
 use Rattle.record_bytes.proofs.ByteLaws.{not-this}
@@ -22,12 +22,9 @@ use Rattle.value_bytes.proofs.Stores.{part-size}
 use Rattle.record_bytes.proofs.GroupLaws.{byGroup, by-group}
 use Rattle.load_walk.specs.declared.Reach.{Reach}
 use Rattle.files.specs.Loading.{Progress, groupOf, loadChecks, advance, failed, failing, stopped, proceed, readAll}
-use Rattle.load_walk.specs.Walking.{rest, byFault, Leads, groupNext, Going, orZero, numberOf, formThen}
+use Rattle.load_walk.specs.Walking.{recordAt, rest, byFault, Leads, groupNext, Going, orZero, numberOf, formThen}
 
 -- ── the record at a place ──
-
-abbrev pub recordAt : List ℕ → ℕ → List ℕ
-recordAt file i = part (i * 104) (i * 104 + 104) file
 
 parts-cons : {A : Type 0} (f : List ℕ → A) (n i : ℕ) (bs : List ℕ) → i < n → drop i (map f (parts 104 n bs)) ≡ f (take 104 (drop (i * 104) bs)) ∷ drop (suc i) (map f (parts 104 n bs))
 parts-cons f zero i bs h = absurd (omega arith)
@@ -49,13 +46,6 @@ parts-length f (suc n) bs = ap suc (parts-length f n (drop 104 bs))
 pub records-length : (file : List ℕ) → length (recordsIn file) ≡ wholeRecords file
 unfolding recordsIn
 records-length file = parts-length recordIn (wholeRecords file) file
-
-pub first-byte : (file : List ℕ) (i : ℕ) → at (recordAt file i) 0 ≡ at file (i * 104)
-first-byte file i =
-    ap (λ (k : ℕ). getD (take k (drop (i * 104) file)) 0 0) (part-size (i * 104) 104)
-    ∙ getD-take 104 (drop (i * 104) file) 0 0 (omega arith)
-    ∙ getD-drop (i * 104) file 0 0
-    ∙ ap (λ (k : ℕ). getD file k 0) (omega arith)
 
 -- ── a record by itself ──
 
@@ -125,34 +115,37 @@ leads-refl file a p = record { leads = λ l. refl }
 -- ── a turn of the walk: the next record is of the group `k` ──
 
 module _ (k : ℕ) (pos : 1 ≤ k) (file : List ℕ) (r : Reach) (n : ℕ) (e : n ≡ groupNext file r) (e′ : n ≡ k) where
-  next-is : (r .fault ≡ 0) × (r .place * 104 < length file) × (groupAt (at file (r .place * 104)) ≡ k)
+  next-is : (r .fault ≡ 0) × (r .place * 104 < length file) × (groupAt (at (recordAt file (r .place)) 0) ≡ k)
   unfolding groupNext
   next-is = go (eqb (r .fault) 0) (ltb (r .place * 104) (length file)) refl refl (sym e ∙ e′)
     where
-      go : (a b : Bool) → eqb (r .fault) 0 ≡ a → ltb (r .place * 104) (length file) ≡ b → cond (a && b) (groupAt (at file (r .place * 104))) 0 ≡ k →
-          (r .fault ≡ 0) × (r .place * 104 < length file) × (groupAt (at file (r .place * 104)) ≡ k)
+      go : (a b : Bool) → eqb (r .fault) 0 ≡ a → ltb (r .place * 104) (length file) ≡ b → cond (a && b) (groupAt (at (recordAt file (r .place)) 0)) 0 ≡ k →
+          (r .fault ≡ 0) × (r .place * 104 < length file) × (groupAt (at (recordAt file (r .place)) 0) ≡ k)
       go true true p q z = (eqb→eq (r .fault) 0 (T-of (eqb (r .fault) 0) p), ltb→lt (r .place * 104) (length file) (T-of (ltb (r .place * 104) (length file)) q), z)
       go true false p q z = absurd (omega arith)
       go false b p q z = absurd (omega arith)
 
-  pub kind-is : recordIn (recordAt file (r .place)) ≡ byGroup k (recordAt file (r .place))
-  kind-is =
-      by-group (recordAt file (r .place)) ∙ ap (λ (j : ℕ). byGroup j (recordAt file (r .place))) (ap groupAt (first-byte file (r .place)) ∙ next-is .2)
+  kind-is : recordIn (recordAt file (r .place)) ≡ byGroup k (recordAt file (r .place))
+  kind-is = by-group (recordAt file (r .place)) ∙ ap (λ (j : ℕ). byGroup j (recordAt file (r .place))) (next-is .2)
 
   module _ (g : Going file k r) where
-    pub near : (r .place * 104 + 104 ≤ length file) × (r .place < wholeRecords file) × (wholeRecords file ≤ 256)
-    near = (omega (arith, next-is .1, g .whole), omega (arith, next-is .1, g .whole), g .few)
+    -- there is a record
+    pub next-in : r .place < wholeRecords file
+    next-in = omega (arith, next-is .1, g .whole .exact)
 
-    pub sized : length (recordAt file (r .place)) ≡ 104
-    sized = simp (length-take, length-drop) (omega (arith, near .0))
+    pub next-fits : r .place + 1 < 18446744073709551616
+    next-fits = omega (arith, next-in, g .whole .few)
+
+    pub next-less : wholeRecords file - (r .place + 1) < wholeRecords file - r .place
+    next-less = omega (arith, next-in)
 
     pub gone-on : Going file k (past r k)
-    gone-on = record { whole = g .whole; few = g .few; place = omega (arith, near .1); group = omega arith; passed = λ a b. b }
+    gone-on = record { whole = g .whole; place = omega (arith, next-in); group = omega arith; passed = λ a b. b }
 
     pub gone-off : (f : ℕ) → (f ≡ 0 → ⊥) → Going file (suc k) (stop r k f)
     unfolding groupNext
     gone-off f n =
-        record { whole = g .whole; few = g .few; place = g .place; group = omega arith; passed = λ a b. absurd (omega (arith, a, none-next f n)) }
+        record { whole = g .whole; place = g .place; group = omega arith; passed = λ a b. absurd (omega (arith, a, none-next f n)) }
       where
         none-next : (j : ℕ) → (j ≡ 0 → ⊥) → groupNext file (stop r k j) ≡ 0
         none-next j n = rw (ne-eqb j 0 n)
@@ -166,7 +159,7 @@ module _ (k : ℕ) (pos : 1 ≤ k) (file : List ℕ) (r : Reach) (n : ℕ) (e : 
           record {
             leads = λ l.
                 ap (λ (f : ℕ). byFault f file (r .place) (withGroup (r .group) (p l))) (next-is .0)
-                ∙ rest-on file (r .place) (near .1) (withGroup (r .group) (p l)) form x ks (kind-is ∙ same) (checks l) pos z
+                ∙ rest-on file (r .place) next-in (withGroup (r .group) (p l)) form x ks (kind-is ∙ same) (checks l) pos z
                 ∙ ap (rest file (r .place + 1)) (h l);
           }
 
@@ -175,7 +168,7 @@ module _ (k : ℕ) (pos : 1 ≤ k) (file : List ℕ) (r : Reach) (n : ℕ) (e : 
           record {
             leads = λ l.
                 ap (λ (j : ℕ). byFault j file (r .place) (withGroup (r .group) (p l))) (next-is .0)
-                ∙ rest-off file (r .place) (near .1) (withGroup (r .group) (p l)) form x ks f (kind-is ∙ same) (checks l) z n
+                ∙ rest-off file (r .place) next-in (withGroup (r .group) (p l)) form x ks f (kind-is ∙ same) (checks l) z n
                 ∙ stopped-as f (withGroup k (q l)) n;
           }
         where
@@ -183,40 +176,76 @@ module _ (k : ℕ) (pos : 1 ≤ k) (file : List ℕ) (r : Reach) (n : ℕ) (e : 
           stopped-as zero l n = absurd (n refl)
           stopped-as (suc j) l n = refl
 
--- ── a list to which the records of one group add ──
-
--- an element `a` of the code is seen as `seen a`; a record is judged by `form` and `ks`, says `said`, and adds `element`
-module _ {A B : Type 0} (k : ℕ) (pos : 1 ≤ k) (seen : A → B) (z : A) (put : List B → Progress → Progress) (form : List ℕ → Bool) (said : List ℕ → Record) (element : List ℕ → B)
-    (ks : ℕ → List B → List ℕ → List Check) (same : (bs : List ℕ) → byGroup k bs ≡ judged (form bs) (said bs))
-    (checks : (g c : ℕ) (xs : List B) (bs : List ℕ) (l : Progress) → g ≤ k → length xs ≡ c → failing (loadChecks (withGroup g (put xs l)) (said bs)) ≡ failing (ks c xs bs))
-    (added : (g : ℕ) (xs : List B) (bs : List ℕ) (l : Progress) → advance (withGroup g (put xs l)) (said bs) ≡ withGroup k (put (xs ++ (element bs ∷ [])) l))
-    (file : List ℕ) (from r : Reach) (n : ℕ) (e : n ≡ groupNext file r) (e′ : n ≡ k) (g : Going file k r) (c : ℕ) (xs : List A) (f : ℕ)
-    (w : f ≡ formThen (form (recordAt file (r .place))) (ks c (firsts seen z c xs) (recordAt file (r .place)))) (h : Leads file from r (put []) (put (firsts seen z c xs))) where
-  abbrev bytes : List ℕ
-  bytes = recordAt file (r .place)
-
-  abbrev list : List B
-  list = firsts seen z c xs
-
-  judging : (l : Progress) → failing (loadChecks (withGroup (r .group) (put list l)) (said bytes)) ≡ failing (ks c list bytes)
-  judging l = checks (r .group) c list bytes l (g .group) (length-firsts seen z c xs)
-
-  pub list-stops : (f ≡ 0 → ⊥) → Leads file from (stop r k f) (put []) (put list)
-  list-stops y =
-      leads-trans file from r (stop r k f) (put []) (put list) (put list) h
-      (leads-off k pos file r n e e′ g (put list) (form bytes) (said bytes) (ks c list bytes) (same bytes) judging (put list) f w y)
-
-  pub list-grows : (x : A) → f ≡ 0 → Positive (ks c list bytes) → c < length xs → seen x ≡ element bytes → Leads file from (past r k) (put []) (put (firsts seen z (c + 1) (set xs c x)))
-  list-grows x y p room q =
-      leads-trans file from r (past r k) (put []) (put list) (put (firsts seen z (c + 1) (set xs c x))) h
-      (leads-on k pos file r n e e′ g (put list) (form bytes) (said bytes) (ks c list bytes) (same bytes) judging (put (firsts seen z (c + 1) (set xs c x))) p (sym y ∙ w)
-      (λ l. added (r .group) list bytes l
-      ∙ ap (λ (us : List B). withGroup k (put us l)) (ap (λ (d : B). list ++ (d ∷ [])) (sym q) ∙ sym (firsts-push seen z c xs x room))))
-
 -- the next record is of another group
 pub gone-by : (k : ℕ) (file : List ℕ) (r : Reach) (n : ℕ) → n ≡ groupNext file r → (n ≡ k → ⊥) → Going file k r → Going file (suc k) r
 gone-by k file r n e h g =
-    record { whole = g .whole; few = g .few; place = g .place; group = omega (arith, g .group); passed = λ a b. not-this k (groupNext file r) (g .passed a b) (λ z. h (e ∙ z)) }
+    record { whole = g .whole; place = g .place; group = omega (arith, g .group); passed = λ a b. not-this k (groupNext file r) (g .passed a b) (λ z. h (e ∙ z)) }
 
-pub place-few : (k : ℕ) (file : List ℕ) (r : Reach) → Going file k r → r .place ≤ 256
-place-few k file r g = omega (arith, g .place, g .few)
+-- ── a list to which the records of one group add ──
+
+abbrev pub listChecks : Bool → Bool → List Check
+listChecks new room = check 6 new ∷ check 8 room ∷ []
+
+-- an element of the code is seen as one of the net; a record says `said`, adds `element`, and passes check 4 by `form`, check 6 by `new` and check 8 by `room`
+pub record Group (A B : Type 0) : Type 0 where
+  pub number : ℕ
+  pub some : 1 ≤ number
+  pub seen : A → B
+  pub blank : A
+  pub put : List B → Progress → Progress
+  pub form : List ℕ → Bool
+  pub new : List B → List ℕ → Bool
+  pub room : ℕ → Bool
+  pub said : List ℕ → Record
+  pub element : List ℕ → B
+  pub same : (bs : List ℕ) → byGroup number bs ≡ judged (form bs) (said bs)
+  pub checks : (g c : ℕ) (xs : List B) (bs : List ℕ) (l : Progress) → g ≤ number → length xs ≡ c → failing (loadChecks (withGroup g (put xs l)) (said bs)) ≡ failing (listChecks (new xs bs) (room c))
+  pub added : (g : ℕ) (xs : List B) (bs : List ℕ) (l : Progress) → advance (withGroup g (put xs l)) (said bs) ≡ withGroup number (put (xs ++ (element bs ∷ [])) l)
+
+-- the first `c` elements are what the records between two reaches gave
+abbrev pub Listed : {A B : Type 0} → Group A B → List ℕ → Reach → Reach → ℕ → List A → Type 0
+Listed G file from r c xs = Leads file from r (G .put []) (G .put (firsts (G .seen) (G .blank) c xs))
+
+module _ {A B : Type 0} (G : Group A B) (file : List ℕ) (from r : Reach) (n : ℕ) (e : n ≡ groupNext file r) (c : ℕ) (xs : List A) (h : Listed G file from r c xs) (g : Going file (G .number) r) where
+  abbrev list : List B
+  list = firsts (G .seen) (G .blank) c xs
+
+  module _ (e′ : n ≡ G .number) (bs : List ℕ) (eb : bs ≡ recordAt file (r .place)) (form new : Bool) (hf : form ≡ G .form bs) (hn : new ≡ G .new list bs)
+      (f : ℕ) (w : f ≡ formThen form (listChecks new (G .room c))) where
+    abbrev bytes : List ℕ
+    bytes = recordAt file (r .place)
+
+    fault : f ≡ formThen (G .form bytes) (listChecks (G .new list bytes) (G .room c))
+    fault = w ∙ ap₂ (λ (a b : Bool). formThen a (listChecks b (G .room c))) (hf ∙ ap (G .form) eb) (hn ∙ ap (G .new list) eb)
+
+    judging : (l : Progress) → failing (loadChecks (withGroup (r .group) (G .put list l)) (G .said bytes)) ≡ failing (listChecks (G .new list bytes) (G .room c))
+    judging l = G .checks (r .group) c list bytes l (g .group) (length-firsts (G .seen) (G .blank) c xs)
+
+    pub list-stops : (f ≡ 0 → ⊥) → Listed G file from (stop r (G .number) f) c xs
+    list-stops y =
+        leads-trans file from r (stop r (G .number) f) (G .put []) (G .put list) (G .put list) h
+        (leads-off (G .number) (G .some) file r n e e′ g (G .put list) (G .form bytes) (G .said bytes) (listChecks (G .new list bytes) (G .room c)) (G .same bytes) judging (G .put list) f fault y)
+
+    pub list-grows : (m : ℕ) (x : A) → f ≡ 0 → length xs ≡ m → c < m → G .seen x ≡ G .element bs →
+        Listed G file from (past r (G .number)) (c + 1) (set xs c x)
+    list-grows m x y long room q =
+        leads-trans file from r (past r (G .number)) (G .put []) (G .put list) (G .put (firsts (G .seen) (G .blank) (c + 1) (set xs c x))) h
+        (leads-on (G .number) (G .some) file r n e e′ g (G .put list) (G .form bytes) (G .said bytes) (listChecks (G .new list bytes) (G .room c)) (G .same bytes) judging
+        (G .put (firsts (G .seen) (G .blank) (c + 1) (set xs c x))) tt (sym y ∙ fault)
+        (λ l. G .added (r .group) list bytes l
+        ∙ ap (λ (us : List B). withGroup (G .number) (G .put us l)) (ap (λ (d : B). list ++ (d ∷ [])) (sym (q ∙ ap (G .element) eb)) ∙ sym (firsts-push (G .seen) (G .blank) c xs x (omega (arith, long, room))))))
+
+-- a record without a fault passed its checks
+pub passed : (f : ℕ) (form new room : Bool) → f ≡ 0 → f ≡ formThen form (listChecks new room) → T form × T new × T room
+unfolding formThen
+passed f true true true y w = (tt, tt, tt)
+passed f true true false y w = absurd (omega arith)
+passed f true false room y w = absurd (omega arith)
+passed f false new room y w = absurd (omega arith)
+
+-- check 8 left room for one more
+pub room-left : (f : ℕ) (form new : Bool) (c m : ℕ) → f ≡ 0 → f ≡ formThen form (listChecks new (ltb c m)) → c < m
+room-left f form new c m y w = ltb→lt c m (passed f form new (ltb c m) y w .2)
+
+pub room-after : (f : ℕ) (form new : Bool) (c m : ℕ) → f ≡ 0 → f ≡ formThen form (listChecks new (ltb c m)) → c + 1 ≤ m
+room-after f form new c m y w = omega (arith, room-left f form new c m y w)

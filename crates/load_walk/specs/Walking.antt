@@ -1,5 +1,5 @@
 -- How `load` walks a file: group after group, each on from where the last one ended.
-use Prim.Native.Nat.{ℕ, zero, suc, _*_, _≤_, _<_}
+use Prim.Native.Nat.{ℕ, zero, suc, _+_, _*_, _≤_, _<_}
 use mathlib.Core.Path.{_≡_}
 use mathlib.Core.Bool.{Bool, true, false, cond, _&&_}
 use mathlib.Core.List.{List}
@@ -13,7 +13,7 @@ use Rattle.nets.specs.declared.Table as Code
 use Rattle.nets.specs.Nets.{Table, Node, Thread}
 use Rattle.nets.specs.View.{noTable}
 use Rattle.nets.specs.Steps.{Check}
-use Rattle.record_bytes.specs.Bytes.{at}
+use Rattle.record_bytes.specs.Bytes.{at, part}
 use Rattle.record_bytes.specs.Decoding.{Record, Decoded, good, bad, recordIn, wholeRecords, recordsIn}
 use Rattle.record_bytes.specs.Judging.{groupAt}
 use Rattle.load_walk.specs.declared.Reach.{Reach}
@@ -36,6 +36,17 @@ putThreads hs l = record { net = record { aliases = l .net .aliases; tables = l 
 abbrev pub putPicks : List Pick → Progress → Progress
 putPicks ps l = record { net = l .net; picks = ps; group = l .group }
 
+-- ── a file of whole records ──
+
+-- check 1 passes, and check 2
+pub record Whole (file : List ℕ) : Type 0 where
+  pub exact : length file ≡ wholeRecords file * 104
+  pub few : wholeRecords file ≤ 256
+
+-- the record at a place: its own part of the file
+abbrev pub recordAt : List ℕ → ℕ → List ℕ
+recordAt file i = part (i * 104) (i * 104 + 104) file
+
 -- ── how far reading came ──
 
 -- what the records from place `i` on come to, after `l`
@@ -56,12 +67,11 @@ pub record Leads (file : List ℕ) (from to : Reach) (p q : Progress → Progres
 
 -- the group of the next record; 0 for an unknown kind, at a fault, and past the last record
 unfoldable pub groupNext : List ℕ → Reach → ℕ
-groupNext file r = cond (eqb (r .fault) 0 && ltb (r .place * 104) (length file)) (groupAt (at file (r .place * 104))) 0
+groupNext file r = cond (eqb (r .fault) 0 && ltb (r .place * 104) (length file)) (groupAt (at (recordAt file (r .place)) 0)) 0
 
 -- groups before `k` are past: the next record is of `k` or a later one, or it can't go on
 pub record Going (file : List ℕ) (k : ℕ) (r : Reach) : Type 0 where
-  pub whole : length file ≡ wholeRecords file * 104
-  pub few : wholeRecords file ≤ 256
+  pub whole : Whole file
   pub place : r .place ≤ wholeRecords file
   pub group : r .group ≤ k
   pub passed : 1 ≤ groupNext file r → r .group ≤ groupNext file r → k ≤ groupNext file r

@@ -1,4 +1,4 @@
-// A table without rows, and what arrays of tables hold where nothing is in use.
+// The blank relation and the blank table, which arrays hold where none is in use.
 use nets::Table;
 use rows::Cell;
 use rows::Relation;

@@ -1,4 +1,4 @@
-// A row in the content of its table: checks 7 and 8.
+// What a row adds to the content of its table, and checks 7 and 8 of it.
 use row_change::appending::push;
 use row_fit::fit::fits_columns;
 use row_fit::fit::row_of;
@@ -16,7 +16,7 @@ ghost use Rattle.row_change.specs.Contracts.{Holds};
 ghost use Rattle.nets.specs.Steps.{check};
 ghost use Rattle.load_walk.specs.Walking.{numberOf};
 
-// Checks 7 and 8 of what a row gives, in its table: the number of the first that fails, 0 for none.
+// Checks 7 and 8: does the row fit the columns, and is there room for it? The number of the first that fails, 0 for none.
 pub fn content_fault(content: Relation, d: Draft) -> u8
     requires { ⌜ Shaped content × (d .count ≤ 4) ⌝ }
     ensures { λ o. ⌜ o ≡ numberOf (check 7 (fits (relationOf content .columns) (draftOf d)) ∷ check 8 (ltb (length (relationOf content .rows)) 16) ∷ []) ⌝ }

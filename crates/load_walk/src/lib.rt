@@ -1,4 +1,4 @@
-// How loading goes through a file: the place reached, and what a row adds to a table.
+// Loading record by record: the record at a place, how far reading has come, table records, and what a row adds to its table.
 use nets::Table;
 
 pub mod blanks;
@@ -6,14 +6,14 @@ pub mod contents;
 pub mod tables;
 pub mod walking;
 
-// A place in the file: of the next record, with the group of the last one looked at and the number of the fault there, 0 for none.
+// How far reading has come: the place of the next record, the group of the last one read, and the number of the fault at that place, 0 for none.
 pub struct Reach {
     pub place: usize,
     pub group: u8,
     pub fault: u8,
 }
 
-// The tables that records gave, and the place after them.
+// The tables read so far, and how far reading has come.
 pub struct TablesRead {
     pub tables: [Table; 8],
     pub count: usize,

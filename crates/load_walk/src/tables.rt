@@ -3,46 +3,40 @@ use crate::Reach;
 use crate::TablesRead;
 use crate::blanks::blank_relation;
 use crate::blanks::blank_table;
+use crate::walking::first_fault;
 use crate::walking::next_group;
+use crate::walking::record_at;
 use nets::Table;
 use nets::tables::find_table;
+use record_bytes::KINDS;
+use record_bytes::KINDS_END;
 use record_forms::columns_in;
 use record_forms::kinds_in;
-use record_forms::name_in;
-use record_forms::site_in;
+use record_forms::record_name;
+use record_forms::record_site;
 use record_forms::table_form;
 use rows::Relation;
 ghost use mathlib.Core.Path.{_≡_};
 ghost use mathlib.Core.Bool.{not};
-ghost use mathlib.Core.List.{[], _∷_};
+ghost use mathlib.Core.List.{[]};
 ghost use Prim.Native.Nat.{_≤_};
-ghost use lib.Dec.{ltb};
 ghost use lib.ListN.{length};
 ghost use Rattle.values.specs.Lists.{isSome};
 ghost use Rattle.rows.specs.View.{Shaped};
 ghost use Rattle.nets.specs.Tables.{tableAt};
-ghost use Rattle.nets.specs.Steps.{check};
 ghost use Rattle.nets.specs.View.{tableOf, tablesOf};
 ghost use Rattle.record_bytes.specs.Bytes.{part, columnsIn};
-ghost use Rattle.record_bytes.specs.Decoding.{siteAt, nameIn, tableForm};
+ghost use Rattle.record_bytes.specs.Decoding.{siteAt, nameIn};
 ghost use Rattle.files.specs.Loading.{bare};
-ghost use Rattle.load_walk.specs.Walking.{putTables, AllShaped, Leads, Going, formThen};
+ghost use Rattle.load_walk.specs.Walking.{putTables, AllShaped, Leads, Going};
 
-// The number of its fault, 0 for none.
-fn table_fault(tables: [Table; 8], count: usize, r: &[u8]) -> u8
+// No earlier table has its site and name.
+fn table_new(tables: [Table; 8], count: usize, r: &[u8]) -> bool
     requires { ⌜ (length (now r) ≡ 104) × (count ≤ 8) ⌝ }
-    ensures { λ o. ⌜ o ≡ formThen (tableForm (now (r .entry))) (check 6 (not (isSome (tableAt (siteAt 1 (now (r .entry))) (nameIn (now (r .entry))) (tablesOf count tables)))) ∷ check 8 (ltb count 8) ∷ []) ⌝ }
+    ensures { λ o. ⌜ o ≡ not (isSome (tableAt (siteAt 1 (now (r .entry))) (nameIn (now (r .entry))) (tablesOf count tables))) ⌝ }
 {
-    if !table_form(r) {
-        return 4;
-    }
-    if find_table(tables, count, site_in(r), name_in(r)) < count {
-        return 6;
-    }
-    if count < 8 {
-        return 0;
-    }
-    8
+    let place = find_table(tables, count, record_site(r), record_name(r));
+    !(place < count)
 }
 
 // The table, with no rows yet.
@@ -52,12 +46,13 @@ fn table_in(r: &[u8]) -> Table
 {
     let blank = blank_relation();
     let rows = blank.rows;
+    let p = &r[KINDS..KINDS_END];
     Table {
-        site: site_in(r),
-        name: name_in(r),
+        site: record_site(r),
+        name: record_name(r),
         content: Relation {
-            columns: columns_in(&r[8..12]),
-            kinds: kinds_in(&r[8..12]),
+            columns: columns_in(p),
+            kinds: kinds_in(p),
             rows,
             count: 0,
         },
@@ -72,8 +67,8 @@ pub fn tables_from(file: &[u8], from: Reach) -> TablesRead
     let mut count: usize = 0;
     let mut at = from;
     while next_group(file, at) == 2 {
-        let i = at.place * 104;
-        let fault = table_fault(tables, count, &file[i..i + 104]);
+        let r = record_at(file, at.place);
+        let fault = first_fault(table_form(r), table_new(tables, count, r), count < 8);
         if fault != 0 {
             return TablesRead {
                 tables,
@@ -85,7 +80,7 @@ pub fn tables_from(file: &[u8], from: Reach) -> TablesRead
                 },
             };
         }
-        tables[count] = table_in(&file[i..i + 104]);
+        tables[count] = table_in(r);
         count += 1;
         at = Reach {
             place: at.place + 1,

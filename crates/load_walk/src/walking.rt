@@ -1,21 +1,49 @@
-// The next record of a file, by its group.
+// A record of a file by its place, the group of the next one, and the fault of one whose group has a list of its own.
 use crate::Reach;
+use record_bytes::RECORD;
 use record_forms::group_of;
 ghost use mathlib.Core.Path.{_≡_};
-ghost use Prim.Native.Nat.{_≤_};
-ghost use Rattle.load_walk.specs.Walking.{groupNext};
+ghost use mathlib.Core.List.{[], _∷_};
+ghost use Prim.Native.Nat.{_≤_, _<_};
+ghost use lib.ListN.{length};
+ghost use Rattle.nets.specs.Steps.{check};
+ghost use Rattle.record_bytes.specs.Decoding.{wholeRecords};
+ghost use Rattle.load_walk.specs.Walking.{Whole, recordAt, groupNext, formThen};
+
+// The record at a place, as its own part of the file.
+pub fn record_at<'a>(file: &'a [u8], place: usize) -> &'a [u8]
+    requires { ⌜ Whole (now file) × (place < wholeRecords (now file)) ⌝ }
+    ensures { λ r. ⌜ (now r ≡ recordAt (now (file .entry)) place) × (length (now r) ≡ 104) ⌝ }
+{
+    let i = place * RECORD;
+    &file[i..i + RECORD]
+}
 
 // The group of the next record; 0 for an unknown kind, at a fault, and past the last record.
 pub fn next_group(file: &[u8], r: Reach) -> u8
-    requires { ⌜ r .place ≤ 256 ⌝ }
+    requires { ⌜ Whole (now file) × (r .place ≤ wholeRecords (now file)) ⌝ }
     ensures { λ o. ⌜ o ≡ groupNext (now (file .entry)) r ⌝ }
 {
-    let i = r.place * 104;
+    let place = r.place;
     if r.fault != 0 {
         return 0;
     }
-    if i < file.len() {
-        return group_of(file[i]);
+    if place * RECORD < file.len() {
+        let record = record_at(file, place);
+        return group_of(record[0]);
     }
     0
+}
+
+// Checks 4, 6 and 8: the number of the first that fails, 0 for none.
+pub fn first_fault(form: bool, new: bool, room: bool) -> u8
+    ensures { λ o. ⌜ o ≡ formThen form (check 6 new ∷ check 8 room ∷ []) ⌝ }
+{
+    if !form {
+        return 4;
+    }
+    if !new {
+        return 6;
+    }
+    if room { 0 } else { 8 }
 }

@@ -13,12 +13,3 @@ pub fn print_fault(number: u8, place: usize) {
     at = put_byte(&mut page, at, b'\n');
     write_page(&page, at);
 }
-
-// A file with more bytes than loading is handed: checks 1 and 2 on its length alone, as they stand in the definition of loading.
-pub fn print_long(length: usize) {
-    if length % 104 != 0 {
-        print_fault(1, length / 104);
-    } else {
-        print_fault(2, 256);
-    }
-}

@@ -6,6 +6,33 @@ ghost use Prim.Native.Nat.{_≤_};
 ghost use lib.ListN.{length};
 ghost use Rattle.record_bytes.specs.Bytes.{joined, little, textIn, signed, intIn, zeros, leading, thenOnly};
 
+// ---- the layout of a record
+
+// How many bytes a record has.
+pub const RECORD: usize = 104;
+
+// How many bytes an operand has.
+pub const OPERAND: usize = 8;
+
+// Where fields of more than one byte begin: the name; the column kinds of a table or of a create, and the byte after the last kind; L; T; t; the two operands of the predicate.
+pub const NAME: usize = 4;
+
+pub const KINDS: usize = 8;
+
+pub const KINDS_END: usize = 12;
+
+pub const PLACE: usize = 16;
+
+pub const TEMPLATE: usize = 24;
+
+pub const TUPLE: usize = 56;
+
+pub const LEFT: usize = 88;
+
+pub const RIGHT: usize = 96;
+
+// ---- numbers and texts
+
 // From the least byte to the highest.
 fn joined(a: u8, b: u8, c: u8, d: u8) -> u32
     ensures { λ r. ⌜ r ≡ joined a b c d ⌝ }
@@ -46,6 +73,8 @@ pub fn int_in(p: &[u8]) -> i32
 {
     signed(little(p))
 }
+
+// ---- unused bytes
 
 // All bytes are zero.
 pub fn zeros(p: &[u8]) -> bool

@@ -1,8 +1,14 @@
-// Records by themselves but for rows and nodes: check 4, and what each kind says. A record is a part of 104 bytes.
+// Alias, table, start and pick records: check 4 of each, and what its fields say. A record is a part of the file, of 104 bytes.
 use net_parts::ranges::is_text;
+use net_parts::ranges::locality_ok;
+use net_parts::ranges::site_ok;
 use net_parts::relations::columns_ok;
 use nets::Alias;
 use nets::Pick;
+use record_bytes::KINDS;
+use record_bytes::KINDS_END;
+use record_bytes::NAME;
+use record_bytes::RECORD;
 use record_bytes::before_none;
 use record_bytes::nones_last;
 use record_bytes::text_in;
@@ -34,18 +40,19 @@ pub fn group_of(kind: u8) -> u8
 
 // ---- fields
 
-pub fn site_in(r: &[u8]) -> Site
+// The site that an alias, table, row or start names.
+pub fn record_site(r: &[u8]) -> Site
     requires { ⌜ length (now r) ≡ 104 ⌝ }
     ensures { λ o. ⌜ o ≡ siteAt 1 (now (r .entry)) ⌝ }
 {
     Site(r[1])
 }
 
-pub fn name_in(r: &[u8]) -> u32
+pub fn record_name(r: &[u8]) -> u32
     requires { ⌜ length (now r) ≡ 104 ⌝ }
     ensures { λ o. ⌜ o ≡ nameIn (now (r .entry)) ⌝ }
 {
-    text_in(&r[4..8])
+    text_in(&r[NAME..KINDS])
 }
 
 pub fn alias_in(r: &[u8]) -> Alias
@@ -98,33 +105,35 @@ pub fn alias_form(r: &[u8]) -> bool
     requires { ⌜ length (now r) ≡ 104 ⌝ }
     ensures { λ o. ⌜ o ≡ aliasForm (now (r .entry)) ⌝ }
 {
-    (r[1] < 8) & ((1 <= r[2]) & (r[2] < 8)) & (r[3] < 8) & zeros(&r[4..104])
+    let a = alias_in(r);
+    let l = a.locality;
+    site_ok(a.site) & ((1 <= l.0) & locality_ok(l)) & site_ok(a.means) & zeros(&r[NAME..RECORD])
 }
 
 pub fn table_form(r: &[u8]) -> bool
     requires { ⌜ length (now r) ≡ 104 ⌝ }
     ensures { λ o. ⌜ o ≡ tableForm (now (r .entry)) ⌝ }
 {
-    let columns = columns_in(&r[8..12]);
-    let kinds = kinds_in(&r[8..12]);
-    (r[1] < 8)
-        & zeros(&r[2..4])
-        & is_text(text_in(&r[4..8]))
-        & columns_form(&r[8..12])
-        & columns_ok(columns, kinds)
-        & zeros(&r[12..104])
+    let p = &r[KINDS..KINDS_END];
+    let kinds = kinds_in(p);
+    site_ok(record_site(r))
+        & zeros(&r[2..NAME])
+        & is_text(record_name(r))
+        & columns_form(p)
+        & columns_ok(columns_in(p), kinds)
+        & zeros(&r[KINDS_END..RECORD])
 }
 
 pub fn start_form(r: &[u8]) -> bool
     requires { ⌜ length (now r) ≡ 104 ⌝ }
     ensures { λ o. ⌜ o ≡ startForm (now (r .entry)) ⌝ }
 {
-    (r[1] < 8) & zeros(&r[3..104])
+    site_ok(record_site(r)) & zeros(&r[3..RECORD])
 }
 
 pub fn pick_form(r: &[u8]) -> bool
     requires { ⌜ length (now r) ≡ 104 ⌝ }
     ensures { λ o. ⌜ o ≡ pickForm (now (r .entry)) ⌝ }
 {
-    zeros(&r[3..104])
+    zeros(&r[3..RECORD])
 }

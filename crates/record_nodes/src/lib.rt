@@ -1,5 +1,4 @@
-// Records with operands: rows and nodes.
-pub mod drafts;
+// Row and node records, which have operands.
 pub mod nodes;
 pub mod operands;
 pub mod tuples;

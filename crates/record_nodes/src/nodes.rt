@@ -1,4 +1,4 @@
-// Node records: check 4, and the node that one says. A create has its columns where other nodes have bytes 8 to 11; an aggregate has T' first in t.
+// Node records: the node that a record says, and check 4. In bytes 8 to 11 a create has the kinds of its columns, and other nodes have their table variables, function and column. An aggregate has T' where other nodes have the first operand of t.
 use crate::operands::operand_form;
 use crate::operands::operand_in;
 use crate::operands::operands_form;
@@ -7,11 +7,20 @@ use net_parts::nodes::fields_ok;
 use nets::Node;
 use nets::kinds::is_aggregate;
 use nets::kinds::is_create;
+use record_bytes::KINDS;
+use record_bytes::KINDS_END;
+use record_bytes::LEFT;
+use record_bytes::PLACE;
+use record_bytes::RECORD;
+use record_bytes::RIGHT;
+use record_bytes::TEMPLATE;
+use record_bytes::TUPLE;
 use record_bytes::text_in;
 use record_bytes::zeros;
 use record_forms::columns_form;
 use record_forms::columns_in;
 use record_forms::kinds_in;
+use record_forms::record_name;
 use rows::Function;
 use rows::Operands;
 use rows::Selector;
@@ -28,6 +37,15 @@ ghost use Rattle.nets.specs.View.{kindAt, nodeOf};
 ghost use Rattle.record_bytes.specs.Bytes.{at, part, zeros, operandForm, operandIn, operandsForm, operandsIn, columnsForm, columnsIn, testAt, isFunction, functionAt};
 ghost use Rattle.record_bytes.specs.Decoding.{nodeIn, nodeBytes, nodeForm};
 ghost use Rattle.record_bytes.specs.Judging.{selectorIn};
+
+// Where the second operand of t begins.
+const TUPLE_SECOND: usize = 64;
+
+// What a node record says, and whether it passes check 4.
+pub struct NodeRead {
+    pub right: bool,
+    pub node: Node,
+}
 
 // ---- the node
 
@@ -57,7 +75,7 @@ pub fn function_at(b: u8) -> Function
     }
 }
 
-// A byte that a create leaves out.
+// A byte of 8 to 11 as a number: 0 for a create, which has kinds there.
 fn byte_in(create: bool, b: u8) -> u8
     ensures { λ r. ⌜ r ≡ cond create 0 b ⌝ }
 {
@@ -91,10 +109,10 @@ fn selector_in(r: &[u8]) -> Selector
     ensures { λ o. ⌜ selectorOf o ≡ selectorIn (now (r .entry)) ⌝ }
 {
     Selector {
-        template: operands_in(&r[24..56]),
+        template: operands_in(&r[TEMPLATE..TUPLE]),
         test: test_at(r[3]),
-        left: operand_in(&r[88..96]),
-        right: operand_in(&r[96..104]),
+        left: operand_in(&r[LEFT..RIGHT]),
+        right: operand_in(&r[RIGHT..RECORD]),
     }
 }
 
@@ -120,34 +138,36 @@ fn result_in(aggregate: bool, p: &[u8]) -> Operand
     Operand::Absent
 }
 
-pub fn node_in(r: &[u8]) -> Node
+fn node_in(r: &[u8]) -> Node
     requires { ⌜ length (now r) ≡ 104 ⌝ }
     ensures { λ o. ⌜ nodeOf o ≡ nodeIn (now (r .entry)) ⌝ }
 {
     let kind = r[0];
     let create = is_create(kind);
     let aggregate = is_aggregate(kind);
+    let columns = &r[KINDS..KINDS_END];
+    let result = result_in(aggregate, &r[TUPLE..TUPLE_SECOND]);
     Node {
         kind,
         next: r[1],
         body: r[2],
-        name: text_in(&r[4..8]),
+        name: record_name(r),
         bound: byte_in(create, r[8]),
         read: byte_in(create, r[9]),
         function: function_in(create, r[10]),
         column: byte_in(create, r[11]),
-        columns: column_count(create, &r[8..12]),
-        kinds: kinds_in(&r[8..12]),
-        place: operand_in(&r[16..24]),
+        columns: column_count(create, columns),
+        kinds: kinds_in(columns),
+        place: operand_in(&r[PLACE..TEMPLATE]),
         selector: selector_in(r),
-        tuple: tuple_in(aggregate, &r[56..88]),
-        result: result_in(aggregate, &r[56..64]),
+        tuple: tuple_in(aggregate, &r[TUPLE..LEFT]),
+        result,
     }
 }
 
 // ---- check 4
 
-// Bytes 8 to 11, of which byte 10 is a function.
+// Check 4 of bytes 8 to 11 as bytes: the kinds of a create, or byte 10 as the number of a function.
 fn middle_form(create: bool, b: u8, p: &[u8]) -> bool
     requires { ⌜ length (now p) ≡ 4 ⌝ }
     ensures { λ r. ⌜ r ≡ cond create (columnsForm (now (p .entry))) (isFunction b) ⌝ }
@@ -163,9 +183,9 @@ fn tuple_form(aggregate: bool, r: &[u8]) -> bool
     ensures { λ o. ⌜ o ≡ cond aggregate (operandForm (part 56 64 (now (r .entry))) && zeros (part 64 88 (now (r .entry)))) (operandsForm (part 56 88 (now (r .entry)))) ⌝ }
 {
     if aggregate {
-        return operand_form(&r[56..64]) & zeros(&r[64..88]);
+        return operand_form(&r[TUPLE..TUPLE_SECOND]) & zeros(&r[TUPLE_SECOND..LEFT]);
     }
-    operands_form(&r[56..88])
+    operands_form(&r[TUPLE..LEFT])
 }
 
 fn node_bytes(r: &[u8]) -> bool
@@ -176,19 +196,23 @@ fn node_bytes(r: &[u8]) -> bool
     let create = is_create(kind);
     let aggregate = is_aggregate(kind);
     (r[3] <= 4)
-        & middle_form(create, r[10], &r[8..12])
-        & (text_in(&r[12..16]) == 0)
-        & operand_form(&r[16..24])
-        & operands_form(&r[24..56])
+        & middle_form(create, r[10], &r[KINDS..KINDS_END])
+        & (text_in(&r[KINDS_END..PLACE]) == 0)
+        & operand_form(&r[PLACE..TEMPLATE])
+        & operands_form(&r[TEMPLATE..TUPLE])
         & tuple_form(aggregate, r)
-        & operand_form(&r[88..96])
-        & operand_form(&r[96..104])
+        & operand_form(&r[LEFT..RIGHT])
+        & operand_form(&r[RIGHT..RECORD])
 }
 
-pub fn node_form(r: &[u8]) -> bool
+// The node is read once: check 4 judges its fields as those of any node of a net, and loading keeps it.
+pub fn node_read(r: &[u8]) -> NodeRead
     requires { ⌜ length (now r) ≡ 104 ⌝ }
-    ensures { λ o. ⌜ o ≡ nodeForm (now (r .entry)) ⌝ }
+    ensures { λ o. ⌜ (o .right ≡ nodeForm (now (r .entry))) × (nodeOf (o .node) ≡ nodeIn (now (r .entry))) ⌝ }
 {
-    let d = node_in(r);
-    node_bytes(r) & fields_ok(d)
+    let node = node_in(r);
+    NodeRead {
+        right: node_bytes(r) & fields_ok(node),
+        node,
+    }
 }

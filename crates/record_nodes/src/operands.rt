@@ -1,4 +1,4 @@
-// Operands of 8 bytes, and lists of up to four of them.
+// Operands, and lists of up to four of them. An operand has 8 bytes: its tag, a variable, two zeros, and four value bytes.
 use record_bytes::before_none;
 use record_bytes::int_in;
 use record_bytes::nones_last;
@@ -9,7 +9,6 @@ use rows::Operands;
 use values::Locality;
 use values::Operand;
 ghost use mathlib.Core.Path.{_≡_};
-ghost use Prim.Native.Nat.{_≤_};
 ghost use lib.ListN.{length};
 ghost use Rattle.rows.specs.View.{operandsOf, Short};
 ghost use Rattle.nets.specs.Sound.{isAbsent};
@@ -50,7 +49,7 @@ pub fn operand_in(p: &[u8]) -> Operand
     }
 }
 
-// The tag is of no operand.
+// The tag is 0, or of no operand.
 fn absent_in(p: &[u8]) -> bool
     requires { ⌜ length (now p) ≡ 8 ⌝ }
     ensures { λ r. ⌜ r ≡ isAbsent (operandIn (now (p .entry))) ⌝ }
@@ -63,27 +62,15 @@ pub fn operands_form(p: &[u8]) -> bool
     requires { ⌜ length (now p) ≡ 32 ⌝ }
     ensures { λ r. ⌜ r ≡ operandsForm (now (p .entry)) ⌝ }
 {
-    let a = absent_in(&p[0..8]);
-    let b = absent_in(&p[8..16]);
-    let c = absent_in(&p[16..24]);
-    let d = absent_in(&p[24..32]);
-    operand_form(&p[0..8])
-        & operand_form(&p[8..16])
-        & operand_form(&p[16..24])
-        & operand_form(&p[24..32])
-        & nones_last(a, b, c, d)
-}
-
-// How many operands come before the first absent one.
-fn count_in(p: &[u8]) -> usize
-    requires { ⌜ length (now p) ≡ 32 ⌝ }
-    ensures { λ r. ⌜ (r ≡ length (operandsIn (now (p .entry)))) × (r ≤ 4) ⌝ }
-{
-    let a = absent_in(&p[0..8]);
-    let b = absent_in(&p[8..16]);
-    let c = absent_in(&p[16..24]);
-    let d = absent_in(&p[24..32]);
-    before_none(a, b, c, d)
+    let a = &p[0..8];
+    let b = &p[8..16];
+    let c = &p[16..24];
+    let d = &p[24..32];
+    operand_form(a)
+        & operand_form(b)
+        & operand_form(c)
+        & operand_form(d)
+        & nones_last(absent_in(a), absent_in(b), absent_in(c), absent_in(d))
 }
 
 // The operands before the first absent one.
@@ -91,17 +78,25 @@ pub fn operands_in(p: &[u8]) -> Operands
     requires { ⌜ length (now p) ≡ 32 ⌝ }
     ensures { λ r. ⌜ (operandsOf r ≡ operandsIn (now (p .entry))) × Short r ⌝ }
 {
-    let a = operand_in(&p[0..8]);
-    let b = operand_in(&p[8..16]);
-    let c = operand_in(&p[16..24]);
-    let d = operand_in(&p[24..32]);
+    let a = &p[0..8];
+    let b = &p[8..16];
+    let c = &p[16..24];
+    let d = &p[24..32];
     Operands {
         fields: [
-            Field { operand: a },
-            Field { operand: b },
-            Field { operand: c },
-            Field { operand: d },
+            Field {
+                operand: operand_in(a),
+            },
+            Field {
+                operand: operand_in(b),
+            },
+            Field {
+                operand: operand_in(c),
+            },
+            Field {
+                operand: operand_in(d),
+            },
         ],
-        count: count_in(p),
+        count: before_none(absent_in(a), absent_in(b), absent_in(c), absent_in(d)),
     }
 }

@@ -14,11 +14,5 @@ node g j h = rw (eq-eqb g 4 h)
 other : (g j : ℕ) → (g ≡ 4 → ⊥) → j ≡ cond (eqb g 4) (j + 1) j
 other g j h = rw (ne-eqb g 4 h)
 
-returns : tie.Need-returns
-returns c = search node
-
-returns-2 : tie.Need-returns-2
-returns-2 c = search other
-
 pub number-after-spec : {M : Type 1} → statement M
-number-after-spec = tie.close (tie.spec (λ c. search needs) returns returns-2)
+number-after-spec = tie.close (tie.spec (λ c. search needs) (λ c. search node) (λ c. search other))

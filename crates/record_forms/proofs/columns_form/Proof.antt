@@ -13,9 +13,6 @@ use Rattle.record_forms.proofs.columns_form.Tie as tie
 whole : (bs : List ℕ) (z : Bool) → length bs ≡ 4 → z ≡ thenOnly same (isZero (at bs 0) ∷ isZero (at bs 1) ∷ isZero (at bs 2) ∷ isZero (at bs 3) ∷ []) → z ≡ columnsForm bs
 whole bs z l e = subst (λ (x : List ℕ). z ≡ columnsForm x) (four-bytes bs l) (e ∙ only-flags isZero (at bs 0 ∷ at bs 1 ∷ at bs 2 ∷ at bs 3 ∷ []))
 
-returns : tie.Need-returns
-returns c = search whole
-
 pub columns-form-spec : {M : Type 1} → statement M
 columns-form-spec =
     tie.close
@@ -25,4 +22,4 @@ columns-form-spec =
     (λ c. search needs)
     (λ c. search needs)
     (λ c κs. search needs)
-    returns)
+    (λ c. search whole))

@@ -16,9 +16,6 @@ four-columns a b c d n e = rw (e, leading-flags isZero (a ∷ b ∷ c ∷ d ∷ 
 whole : (bs : List ℕ) (n : ℕ) → length bs ≡ 4 → n ≡ length (leading same (isZero (at bs 0) ∷ isZero (at bs 1) ∷ isZero (at bs 2) ∷ isZero (at bs 3) ∷ [])) → columnsOf n bs ≡ columnsIn bs
 whole bs n l e = subst (λ (x : List ℕ). columnsOf n x ≡ columnsIn x) (four-bytes bs l) (four-columns (at bs 0) (at bs 1) (at bs 2) (at bs 3) n e)
 
-returns : tie.Need-returns
-returns c = (search whole, c .before-none .ensures .1)
-
 pub columns-in-spec : {M : Type 1} → statement M
 columns-in-spec =
     tie.close
@@ -28,4 +25,4 @@ columns-in-spec =
     (λ c. search needs)
     (λ c. search needs)
     (λ c κs. search needs)
-    returns)
+    (λ c. (search whole, c .before-none .ensures .1)))

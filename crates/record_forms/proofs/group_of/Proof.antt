@@ -17,31 +17,7 @@ module _ (k : ℕ) (a : k ≡ 1 → ⊥) (b : k ≡ 2 → ⊥) (c : k ≡ 3 → 
   above : 16 ≤ k → 26 < k → 0 ≡ groupAt k
   above l h = rw (ne-eqb k 1 a, ne-eqb k 2 b, ne-eqb k 3 c, le-leb 16 k l, lt-leb k 26 h, ne-eqb k 32 d, ne-eqb k 33 e)
 
-returns : tie.Need-returns
-returns c = rw (c .match .keys1)
-
-returns-2 : tie.Need-returns-2
-returns-2 c = rw (c .match .keys2)
-
-returns-3 : tie.Need-returns-3
-returns-3 c = rw (c .match .keys3)
-
-returns-4 : tie.Need-returns-4
-returns-4 c = rw (c .match .keys4)
-
-returns-5 : tie.Need-returns-5
-returns-5 c = rw (c .match .keys5)
-
-returns-6 : tie.Need-returns-6
-returns-6 c = search within
-
-returns-7 : tie.Need-returns-7
-returns-7 c = search below
-
-returns-8 : tie.Need-returns-8
-returns-8 c = search above
-
 pub group-of-spec : {M : Type 1} → statement M
 group-of-spec =
     tie.close
-    (tie.spec returns returns-2 returns-3 returns-4 returns-5 returns-6 returns-7 returns-8)
+    (tie.spec (λ c. rw (c .match .keys1)) (λ c. rw (c .match .keys2)) (λ c. rw (c .match .keys3)) (λ c. rw (c .match .keys4)) (λ c. rw (c .match .keys5)) (λ c. search within) (λ c. search below) (λ c. search above))

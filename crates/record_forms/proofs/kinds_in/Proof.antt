@@ -4,9 +4,6 @@ use borrow.Author.Needs.{needs}
 use Rattle.record_forms.proofs.kinds_in.Statement.{statement}
 use Rattle.record_forms.proofs.kinds_in.Tie as tie
 
-returns : tie.Need-returns
-returns c = search four-bytes
-
 pub kinds-in-spec : {M : Type 1} → statement M
 kinds-in-spec =
     tie.close
@@ -15,4 +12,4 @@ kinds-in-spec =
     (λ c. search needs)
     (λ c. search needs)
     (λ c. search needs)
-    returns)
+    (λ c. search four-bytes))

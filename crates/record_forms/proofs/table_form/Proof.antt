@@ -3,33 +3,22 @@ use Prim.Native.Nat.{ℕ}
 use mathlib.Core.Path.{_≡_, ap, _∙_}
 use mathlib.Core.Bool.{Bool, _&&_}
 use mathlib.Core.List.{List}
-use lib.Dec.{ltb}
-use Rattle.values.specs.Values.{isText}
+use Rattle.values.specs.declared.Site.{Site}
+use Rattle.values.specs.Values.{siteOk, isText}
 use Rattle.rows.specs.View.{columnsOf}
 use Rattle.nets.specs.Sound.{columnsOk}
-use Rattle.record_bytes.specs.Bytes.{at, part, zeros, textIn, columnsForm, columnsIn}
-use Rattle.record_bytes.specs.Decoding.{nameIn, tableForm}
+use Rattle.record_bytes.specs.Bytes.{part, zeros, columnsForm, columnsIn}
+use Rattle.record_bytes.specs.Decoding.{siteAt, nameIn, tableForm}
 use borrow.Author.Needs.{needs}
 use Rattle.record_forms.proofs.table_form.Statement.{statement}
 use Rattle.record_forms.proofs.table_form.Tie as tie
 
-whole : (r : List ℕ) (n t : ℕ) (ks : List ℕ) (a b c d e : Bool) → columnsOf n (part 8 12 r) ≡ columnsIn (part 8 12 r) → ks ≡ part 8 12 r → a ≡ zeros (part 2 4 r) → t ≡ textIn (part 4 8 r) → b ≡ isText t
-    → c ≡ columnsForm (part 8 12 r) → d ≡ columnsOk (columnsOf n ks) → e ≡ zeros (part 12 104 r) → (ltb (at r 1) 8 && a && b && c && d && e) ≡ tableForm r
+whole : (r : List ℕ) (s : Site) (n t : ℕ) (ks : List ℕ) (a b c d e f : Bool) → columnsOf n (part 8 12 r) ≡ columnsIn (part 8 12 r) → ks ≡ part 8 12 r → s ≡ siteAt 1 r → a ≡ siteOk s → b ≡ zeros (part 2 4 r) → t ≡ nameIn r → c ≡ isText t
+    → d ≡ columnsForm (part 8 12 r) → e ≡ columnsOk (columnsOf n ks) → f ≡ zeros (part 12 104 r) → (a && b && c && d && e && f) ≡ tableForm r
 unfolding tableForm
-whole r n t ks a b c d e hn hk ha ht hb hc hd he =
-    let name : b ≡ isText (nameIn r) = hb ∙ ap isText ht in
-    let columns : d ≡ columnsOk (columnsIn (part 8 12 r)) = hd ∙ ap columnsOk (ap (columnsOf n) hk ∙ hn) in
-    rw (ha, name, hc, columns, he)
-
-returns : tie.Need-returns
-returns c =
-    let c₁ = c .before .before .before .before .before in
-    let c₂ = c₁ .before .before .before .before .before in
-    let c₃ = c₂ .before .before .before .before .before in
-    whole (c₃ .before .args .r .now) (c₂ .before .before .before .columns-in .result) _ _ _ _ _ _ _
-    (c₂ .before .before .before .columns-in .ensures .0) (c₂ .before .kinds-in .ensures) (c₁ .before .before .before .zeros .ensures)
-    (c₁ .before .text-in .ensures) (c₁ .is-text .ensures) (c .before .before .before .columns-form .ensures)
-    (c .before .before .columns-ok .ensures) (c .zeros2 .ensures)
+whole r s n t ks a b c d e f hn hk hs ha hb ht hc hd he hf =
+    let columns : e ≡ columnsOk (columnsIn (part 8 12 r)) = he ∙ ap columnsOk (ap (columnsOf n) hk ∙ hn) in
+    rw (ha, hs, hb, hc, ht, hd, columns, hf)
 
 pub table-form-spec : {M : Type 1} → statement M
 table-form-spec =
@@ -39,18 +28,6 @@ table-form-spec =
     (λ c. search needs)
     (λ c. search needs)
     (λ c κs. search needs)
-    (λ c. search needs)
-    (λ c. search needs)
-    (λ c. search needs)
-    (λ c κs. search needs)
-    (λ c. search needs)
-    (λ c. search needs)
-    (λ c. search needs)
-    (λ c. search needs)
-    (λ c κs. search needs)
-    (λ c. search needs)
-    (λ c. search needs)
-    (λ c. search needs)
     (λ c κs. search needs)
     (λ c κs. search needs)
     (λ c. search needs)
@@ -58,8 +35,12 @@ table-form-spec =
     (λ c. search needs)
     (λ c κs. search needs)
     (λ c κs. search needs)
+    (λ c κs. search needs)
+    (λ c κs. search needs)
+    (λ c κs. search needs)
+    (λ c κs. search needs)
     (λ c. search needs)
     (λ c. search needs)
     (λ c. search needs)
     (λ c κs. search needs)
-    returns)
+    (λ c. search whole))

@@ -2,10 +2,10 @@
 use mathlib.Core.Path.{_≡_, sym}
 use mathlib.Core.Bool.{Bool, true, false}
 use mathlib.Core.List.{[], _∷_}
-use borrow.Author.Needs.{needs}
 use Rattle.nets.specs.Steps.{check}
 use Rattle.load_walk.specs.Walking.{formThen}
 use Rattle.load_walk.proofs.FormLaws.{unformed}
+use borrow.Author.Needs.{needs}
 use Rattle.load_groups.proofs.contents.lost_fault.Statement.{statement}
 use Rattle.load_groups.proofs.contents.lost_fault.Tie as tie
 
@@ -13,11 +13,5 @@ formed : (b form : Bool) → b ≡ form → b ≡ true → 7 ≡ formThen form (
 unfolding formThen
 formed b form e h = rw (sym e, h)
 
-returns : tie.Need-returns
-returns c = search formed
-
-returns-2 : tie.Need-returns-2
-returns-2 c = search unformed
-
 pub lost-fault-spec : {M : Type 1} → statement M
-lost-fault-spec = tie.close (tie.spec (λ c κs. search needs) returns returns-2)
+lost-fault-spec = tie.close (tie.spec (λ c κs. search needs) (λ c. search formed) (λ c. search unformed))

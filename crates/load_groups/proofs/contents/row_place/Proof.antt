@@ -4,9 +4,6 @@ use Rattle.load_walk.proofs.PlaceTies.{found-at}
 use Rattle.load_groups.proofs.contents.row_place.Statement.{statement}
 use Rattle.load_groups.proofs.contents.row_place.Tie as tie
 
-returns : tie.Need-returns
-returns c = search found-at
-
 pub row-place-spec : {M : Type 1} → statement M
 row-place-spec =
-    tie.close (tie.spec (λ c κs. search needs) (λ c κs. search needs) (λ c κs. search needs) returns)
+    tie.close (tie.spec (λ c κs. search needs) (λ c κs. search needs) (λ c κs. search needs) (λ c. search found-at))

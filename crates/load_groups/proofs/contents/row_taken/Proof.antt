@@ -1,12 +1,11 @@
 -- `load_groups::contents::row_taken` meets its contract: checks 4, 7 and 8 in order, then the row goes into its table.
+use native.Mathlib.Omega.{arith}
 use Prim.Native.Nat.{ℕ}
 use mathlib.Core.Path.{_≡_, sym, ap, _∙_}
 use mathlib.Core.Bool.{Bool, true}
 use mathlib.Core.List.{List, [], _∷_, _++_, map}
-use native.Mathlib.Omega.{arith}
 use lib.Dec.{T, ltb}
 use lib.ListN.{length}
-use borrow.Author.Needs.{needs}
 use borrow.Author.Tests.{not-true, not-false}
 use Rattle.values.specs.declared.Got.{Got}
 use Rattle.values.specs.Operands.{valuesIn, eval}
@@ -26,6 +25,7 @@ use Rattle.record_bytes.specs.Decoding.{rowIn, rowForm}
 use Rattle.load_walk.specs.Walking.{numberOf, formThen}
 use Rattle.load_walk.proofs.FormLaws.{unformed}
 use Rattle.load_groups.proofs.RowLaws.{row-fits}
+use borrow.Author.Needs.{needs}
 use Rattle.load_groups.proofs.contents.row_taken.Statement.{statement}
 use Rattle.load_groups.proofs.contents.row_taken.Tie as tie
 
@@ -53,26 +53,13 @@ module _ (t : Table) (bs : List ℕ) (d : Draft) (given : draftOf d ≡ map (eva
       let e = h .rows ∙ ap (λ (g : List Got). relationOf (t .content) .rows ++ (valuesIn g ∷ [])) given in
       λ i. record { site = t .site; name = t .name; content = record { columns = h .columns i; rows = e i } }
 
-returns : tie.Need-returns
-returns c = (search (unformed, not-true), λ z. absurd (omega (arith, z)), search needs)
-
-returns-2 : tie.Need-returns-2
-returns-2 c = (search (judged, not-false), λ z. absurd (c .if2 .taken z), search needs)
-
-returns-3 : tie.Need-returns-3
-returns-3 c = (search (passed, not-false), λ z. search added, c .content-with .ensures .shaped)
-
 pub row-taken-spec : {M : Type 1} → statement M
 row-taken-spec =
     tie.close
     (tie.spec
     (λ c κs. search needs)
-    returns
-    (λ c. search needs)
-    (λ c. search needs)
-    (λ c. search needs)
+    (λ c. (search (unformed, not-true), λ z. absurd (omega (arith, z)), search needs))
     (λ c κs. search needs)
+    (λ c. (search (judged, not-false), λ z. absurd (c .if2 .taken z), search needs))
     (λ c κs. search needs)
-    returns-2
-    (λ c κs. search needs)
-    returns-3)
+    (λ c. (search (passed, not-false), λ z. search added, c .content-with .ensures .shaped)))

@@ -18,11 +18,11 @@ use Rattle.record_bytes.specs.Decoding.{rowRecord, wholeRecords, siteAt, nameIn
 use Rattle.load_walk.specs.declared.Reach.{Reach}
 use Rattle.load_walk.specs.declared.TablesRead.{TablesRead}
 use Rattle.files.specs.Loading.{Progress, loadChecks, failing, put, advance}
-use Rattle.load_walk.specs.Walking.{putTables, AllShaped, Leads, groupNext, Going, formThen}
+use Rattle.load_walk.specs.Walking.{recordAt, putTables, AllShaped, Leads, groupNext, Going, formThen}
 use Rattle.load_walk.proofs.PlaceTies.{other-shaped}
-use Rattle.load_groups.proofs.RowTies as row
+use Rattle.load_groups.proofs.RowTies as at-place
 use Rattle.load_groups.proofs.RowTies.{rowChecks}
-use Rattle.load_walk.proofs.WalkLaws.{recordAt, withGroup, past, stop, leads-trans, leads-refl, leads-on, leads-off, near, sized, place-few, gone-on, gone-off, gone-by}
+use Rattle.load_walk.proofs.WalkLaws.{withGroup, past, stop, leads-trans, leads-refl, leads-on, leads-off, next-in, next-fits, next-less, gone-on, gone-off, gone-by}
 use Rattle.load_groups.proofs.contents.rows_from.Statement.{statement}
 use Rattle.load_groups.proofs.contents.rows_from.Tie as tie
 
@@ -42,27 +42,30 @@ module _ (g : ℕ) (ts : List M.Table) (s : Site) (n : ℕ) (x : Row) (l : Progr
 
 -- ── a turn ──
 
-module _ (file : List ℕ) (from r : Reach) (n : ℕ) (e : n ≡ groupNext file r) (e′ : n ≡ 3) (g : Going file 3 r) (c : ℕ) (p : Progress → Progress) (ts : List Table) (f : ℕ)
-    (z : f ≡ formThen (rowForm (recordAt file (r .place)))
-    (rowChecks (tablesOf c ts) (siteAt 1 (recordAt file (r .place))) (nameIn (recordAt file (r .place))) (rowIn (part 56 88 (recordAt file (r .place))))))
-    (h : Leads file from r p (putTables (tablesOf c ts))) where
+abbrev row : List ℕ → Row
+row bs = rowIn (part 56 88 bs)
+
+module _ (file : List ℕ) (from r : Reach) (n : ℕ) (e : n ≡ groupNext file r) (e′ : n ≡ 3) (g : Going file 3 r) (c : ℕ) (p : Progress → Progress) (ts : List Table) (bs : List ℕ) (eb : bs ≡ recordAt file (r .place)) (f : ℕ)
+    (z : f ≡ formThen (rowForm bs) (rowChecks (tablesOf c ts) (siteAt 1 bs) (nameIn bs) (row bs))) (h : Leads file from r p (putTables (tablesOf c ts))) where
+  fault : f ≡ formThen (rowForm (recordAt file (r .place))) (rowChecks (tablesOf c ts) (siteAt 1 (recordAt file (r .place))) (nameIn (recordAt file (r .place))) (row (recordAt file (r .place))))
+  fault = z ∙ ap (λ (x : List ℕ). formThen (rowForm x) (rowChecks (tablesOf c ts) (siteAt 1 x) (nameIn x) (row x))) eb
+
   off : (f ≡ 0 → ⊥) → c ≤ 8 → (o : TablesRead) → o ≡ record { tables = ts; count = c; reach = stop r 3 f } →
       Leads file from (o .reach) p (putTables (tablesOf (o .count) (o .tables))) × Going file 4 (o .reach) × (o .count ≤ 8)
   off k few o same =
       subst (λ (v : TablesRead). Leads file from (v .reach) p (putTables (tablesOf (v .count) (v .tables))) × Going file 4 (v .reach) × (v .count ≤ 8)) (sym same) (
         leads-trans file from r (stop r 3 f) _ _ _ h
-            (leads-off 3 pos file r n e e′ g (putTables (tablesOf c ts)) _ _ _ refl (λ l. same-checks (r .group) (tablesOf c ts) _ _ _ l (g .group)) _ f z k),
+            (leads-off 3 pos file r n e e′ g (putTables (tablesOf c ts)) _ _ _ refl (λ l. same-checks (r .group) (tablesOf c ts) _ _ _ l (g .group)) _ f fault k),
         gone-off 3 pos file r n e e′ g f k,
         few,
       )
 
-  on : (vs : List Table) → f ≡ 0 →
-      tablesOf c vs ≡ change (siteAt 1 (recordAt file (r .place))) (nameIn (recordAt file (r .place))) (λ rs. rs ++ (rowIn (part 56 88 (recordAt file (r .place))) ∷ [])) (tablesOf c ts) →
-      Leads file from (past r 3) p (putTables (tablesOf c vs))
+  on : (vs : List Table) → f ≡ 0 → tablesOf c vs ≡ change (siteAt 1 bs) (nameIn bs) (λ rs. rs ++ (row bs ∷ [])) (tablesOf c ts) → Leads file from (past r 3) p (putTables (tablesOf c vs))
   on vs y q =
+      let q′ = q ∙ ap (λ (x : List ℕ). change (siteAt 1 x) (nameIn x) (λ rs. rs ++ (row x ∷ [])) (tablesOf c ts)) eb in
       leads-trans file from r (past r 3) _ _ _ h
-      (leads-on 3 pos file r n e e′ g (putTables (tablesOf c ts)) _ _ _ refl (λ l. same-checks (r .group) (tablesOf c ts) _ _ _ l (g .group)) _ tt (sym y ∙ z)
-      (λ l. added (r .group) (tablesOf c ts) _ _ _ l ∙ ap (λ (k : List M.Table). withGroup 3 (putTables k l)) (sym q)))
+      (leads-on 3 pos file r n e e′ g (putTables (tablesOf c ts)) _ _ _ refl (λ l. same-checks (r .group) (tablesOf c ts) _ _ _ l (g .group)) _ tt (sym y ∙ fault)
+      (λ l. added (r .group) (tablesOf c ts) _ _ _ l ∙ ap (λ (k : List M.Table). withGroup 3 (putTables k l)) (sym q′)))
 
 abbrev Inv-loop : tie.InvT-loop
 Inv-loop file count tables₀ at₀ tables at = (length tables ≡ 8) × AllShaped count tables × Leads file at₀ at (putTables (tablesOf count tables₀)) (putTables (tablesOf count tables)) × Going file 3 at
@@ -70,112 +73,50 @@ Inv-loop file count tables₀ at₀ tables at = (length tables ≡ 8) × AllShap
 abbrev μ-loop : tie.MeasureT-loop
 μ-loop file count tables₀ at₀ tables at = wholeRecords file - at .place
 
-loop-holds : tie.Need-loop-holds Inv-loop μ-loop
-loop-holds c = let s = c .before .before .before in (search (long, needs), s .pre .1, leads-refl _ _ _, s .pre .0)
-
-next-group-requires : tie.Need-next-group-requires Inv-loop μ-loop
-next-group-requires c κs = search (place-few 3)
-
-mul-i : tie.Need-mul-i Inv-loop μ-loop
-mul-i c = let t = c .before in let h = near 3 pos _ _ _ (t .before .next-group .ensures) (t .if1 .taken) (t .before .before .loop .inv .3) in omega (arith, h .0, h .1, h .2)
-
-add-row-place : tie.Need-add-row-place Inv-loop μ-loop
-add-row-place c = let t = c .before in let h = near 3 pos _ _ _ (t .before .next-group .ensures) (t .if1 .taken) (t .before .before .loop .inv .3) in omega (arith, h .0, h .1, h .2)
-
-part-row-place-start : tie.Need-part-row-place-start Inv-loop μ-loop
-part-row-place-start c = let t = c .before in let h = near 3 pos _ _ _ (t .before .next-group .ensures) (t .if1 .taken) (t .before .before .loop .inv .3) in omega (arith, h .0, h .1, h .2)
-
-part-row-place-end : tie.Need-part-row-place-end Inv-loop μ-loop
-part-row-place-end c = let t = c .before in let h = near 3 pos _ _ _ (t .before .next-group .ensures) (t .if1 .taken) (t .before .before .loop .inv .3) in omega (arith, h .0, h .1, h .2)
-
-row-place-requires : tie.Need-row-place-requires Inv-loop μ-loop
-row-place-requires c κs = (search (sized 3 pos), c .before .before .before .before .loop .inv .1 .0)
-
-add-lost-fault : tie.Need-add-lost-fault Inv-loop μ-loop
-add-lost-fault c = let t = c .before .before .before .before in let h = near 3 pos _ _ _ (t .before .next-group .ensures) (t .if1 .taken) (t .before .before .loop .inv .3) in omega (arith, h .0, h .1, h .2)
-
-part-lost-fault-start : tie.Need-part-lost-fault-start Inv-loop μ-loop
-part-lost-fault-start c = let t = c .before .before .before .before in let h = near 3 pos _ _ _ (t .before .next-group .ensures) (t .if1 .taken) (t .before .before .loop .inv .3) in omega (arith, h .0, h .1, h .2)
-
-part-lost-fault-end : tie.Need-part-lost-fault-end Inv-loop μ-loop
-part-lost-fault-end c = let t = c .before .before .before .before in let h = near 3 pos _ _ _ (t .before .next-group .ensures) (t .if1 .taken) (t .before .before .loop .inv .3) in omega (arith, h .0, h .1, h .2)
-
-lost-fault-requires : tie.Need-lost-fault-requires Inv-loop μ-loop
-lost-fault-requires c κs = search (sized 3 pos)
-
 returns : tie.Need-returns Inv-loop μ-loop
 returns c =
-    let u = c .before .before .before in
-    let t = u .before .before .before .before in
+    let u = c .before .before in
+    let b = u .before .before in
+    let t = b .before in
     let l = t .before .before .loop in
     let a = t .before .before .before .before .before .before .args in
-    let x = rowIn (part 56 88 (recordAt (a .file .now) (l .at .place))) in
-    off _ _ _ _ (t .before .next-group .ensures) (t .if1 .taken) (l .inv .3) (a .read .count) _ (l .tables) _
-    (row.missing (l .tables) _ _ _ _ (u .before .row-place .ensures) _ x _ (u .if2 .taken) (c .before .lost-fault .ensures))
-    (l .inv .2) (row.lost-stops _ _ (c .before .lost-fault .ensures)) (l .inv .1 .0) _ (c .halted .ensures)
-
-mul-t : tie.Need-mul-t Inv-loop μ-loop
-mul-t c = let l = c .before .before .before .before .before .before .loop .inv in omega (arith, l .1 .0, c .if2 .left)
-
-array-copy-out-t : tie.Need-array-copy-out-t Inv-loop μ-loop
-array-copy-out-t c = let l = c .before .before .before .before .before .before .loop .inv in omega (arith, l .1 .0, c .if2 .left)
-
-add-row-taken : tie.Need-add-row-taken Inv-loop μ-loop
-add-row-taken c = let t = c .before .before .before .before .before in let h = near 3 pos _ _ _ (t .before .next-group .ensures) (t .if1 .taken) (t .before .before .loop .inv .3) in omega (arith, h .0, h .1, h .2)
-
-part-row-taken-start : tie.Need-part-row-taken-start Inv-loop μ-loop
-part-row-taken-start c = let t = c .before .before .before .before .before in let h = near 3 pos _ _ _ (t .before .next-group .ensures) (t .if1 .taken) (t .before .before .loop .inv .3) in omega (arith, h .0, h .1, h .2)
-
-part-row-taken-end : tie.Need-part-row-taken-end Inv-loop μ-loop
-part-row-taken-end c = let t = c .before .before .before .before .before in let h = near 3 pos _ _ _ (t .before .next-group .ensures) (t .if1 .taken) (t .before .before .loop .inv .3) in omega (arith, h .0, h .1, h .2)
+    off _ _ _ _ (t .before .next-group .ensures) (t .if1 .taken) (l .inv .3) (a .read .count) _ (l .tables) _ (b .record-at .ensures .0) _
+    (at-place.missing (l .tables) _ _ _ _ (u .before .row-place .ensures) _ (row (b .record-at .result .now)) _ (u .if2 .taken) (c .before .lost-fault .ensures))
+    (l .inv .2) (at-place.lost-stops _ _ (c .before .lost-fault .ensures)) (l .inv .1 .0) _ (c .halted .ensures)
 
 row-taken-requires : tie.Need-row-taken-requires Inv-loop μ-loop
-row-taken-requires c κs = (search (sized 3 pos), c .before .before .before .before .before .before .before .before .loop .inv .1 .1 _ (c .before .before .if2 .left))
+row-taken-requires c κs = (search needs, c .before .before .before .before .before .before .loop .inv .1 .1 _ (c .before .if2 .left))
 
 returns-2 : tie.Need-returns-2 Inv-loop μ-loop
 returns-2 c =
     let k = c .before .before .before .row-taken in
-    let u = c .before .before .before .before .before .before in
-    let t = u .before .before .before .before in
+    let u = c .before .before .before .before .before in
+    let b = u .before .before in
+    let t = b .before in
     let l = t .before .before .loop in
     let a = t .before .before .before .before .before .before .args in
-    let x = rowIn (part 56 88 (recordAt (a .file .now) (l .at .place))) in
-    off _ _ _ _ (t .before .next-group .ensures) (t .if1 .taken) (l .inv .3) (a .read .count) _ (l .tables) _
-    (row.found (l .tables) _ _ _ _ (u .before .row-place .ensures) (u .if2 .left) _ x _ (k .ensures .0))
+    off _ _ _ _ (t .before .next-group .ensures) (t .if1 .taken) (l .inv .3) (a .read .count) _ (l .tables) _ (b .record-at .ensures .0) _
+    (at-place.found (l .tables) _ _ _ _ (u .before .row-place .ensures) (u .if2 .left) _ (row (b .record-at .result .now)) _ (k .ensures .0))
     (l .inv .2) (c .before .if3 .taken) (l .inv .1 .0) _ (c .halted2 .ensures)
-
-mul-tables : tie.Need-mul-tables Inv-loop μ-loop
-mul-tables c = let l = c .before .before .before .before .before .before .before .before .before .before .before .before .loop .inv in omega (arith, l .1 .0, c .before .before .before .before .before .before .if2 .left)
-
-array-set-from-tables : tie.Need-array-set-from-tables Inv-loop μ-loop
-array-set-from-tables c = let l = c .before .before .before .before .before .before .before .before .before .before .before .before .loop .inv in omega (arith, l .1 .0, c .before .before .before .before .before .before .if2 .left)
-
-add-t15 : tie.Need-add-t15 Inv-loop μ-loop
-add-t15 c = let t = c .before .before .before .before .before .before .before .before .before .before .before in let h = near 3 pos _ _ _ (t .before .next-group .ensures) (t .if1 .taken) (t .before .before .loop .inv .3) in omega (arith, h .0, h .1, h .2)
-
-loop-less : tie.Need-loop-less Inv-loop μ-loop
-loop-less c = let t = c .before .before .before .before .before .before .before .before .before .before .before in let h = near 3 pos _ _ _ (t .before .next-group .ensures) (t .if1 .taken) (t .before .before .loop .inv .3) in omega (arith, h .0, h .1, h .2)
 
 loop-again : tie.Need-loop-again Inv-loop μ-loop
 loop-again c =
     let k = c .before .before .before .before .row-taken in
-    let u = c .before .before .before .before .before .before .before in
-    let t = u .before .before .before .before in
+    let u = c .before .before .before .before .before .before in
+    let b = u .before .before in
+    let t = b .before in
     let l = t .before .before .loop in
     let a = t .before .before .before .before .before .before .args in
-    let x = rowIn (part 56 88 (recordAt (a .file .now) (l .at .place))) in
+    let x = row (b .record-at .result .now) in
     let y = c .before .before .if3 .left in
     let r : u .before .row-place .result < length (l .tables) = omega (arith, l .inv .0, l .inv .1 .0, u .if2 .left) in (
       search length-set,
       other-shaped (l .tables) _ (k .result .table) r (k .ensures .2) _ (l .inv .1),
-      on _ _ _ _ (t .before .next-group .ensures) (t .if1 .taken) (l .inv .3) (a .read .count) _ (l .tables) _
-          (row.found (l .tables) _ _ _ _ (u .before .row-place .ensures) (u .if2 .left) _ x _ (k .ensures .0))
-          (l .inv .2) (set (l .tables) (u .before .row-place .result) (k .result .table)) y (row.added (l .tables) _ _ _ _ (u .before .row-place .ensures) (u .if2 .left) x (k .result .table) r (k .ensures .1 y)),
+      on _ _ _ _ (t .before .next-group .ensures) (t .if1 .taken) (l .inv .3) (a .read .count) _ (l .tables) _ (b .record-at .ensures .0) _
+          (at-place.found (l .tables) _ _ _ _ (u .before .row-place .ensures) (u .if2 .left) _ x _ (k .ensures .0))
+          (l .inv .2) (set (l .tables) (u .before .row-place .result) (k .result .table)) y (at-place.added (l .tables) _ _ _ _ (u .before .row-place .ensures) (u .if2 .left) x (k .result .table) r (k .ensures .1 y)),
       search (gone-on 3 pos),
     )
-
-returns-3 : tie.Need-returns-3 Inv-loop μ-loop
-returns-3 c = let l = c .before .before .loop in (l .inv .2, search (gone-by 3), l .inv .1 .0)
 
 pub rows-from-spec : {M : Type 1} → statement M
 rows-from-spec =
@@ -183,33 +124,21 @@ rows-from-spec =
     (tie.spec
     Inv-loop
     μ-loop
-    loop-holds
-    next-group-requires
-    mul-i
-    add-row-place
-    (λ c. search needs)
-    part-row-place-start
-    part-row-place-end
-    row-place-requires
-    add-lost-fault
-    (λ c. search needs)
-    part-lost-fault-start
-    part-lost-fault-end
-    lost-fault-requires
+    (λ c. let s = c .before .before .before in (search (long, needs), s .pre .1, leads-refl _ _ _, s .pre .0))
+    (λ c κs. search needs)
+    (λ c κs. search (next-in 3 pos))
+    (λ c κs. search needs)
+    (λ c κs. search needs)
     (λ c κs. search needs)
     returns
-    mul-t
-    array-copy-out-t
-    add-row-taken
-    (λ c. search needs)
-    part-row-taken-start
-    part-row-taken-end
+    (λ c. omega arith)
+    (λ c. omega arith)
     row-taken-requires
     (λ c κs. search needs)
     returns-2
-    mul-tables
-    array-set-from-tables
-    add-t15
-    loop-less
+    (λ c. omega arith)
+    (λ c. omega arith)
+    (λ c. search (next-fits 3 pos))
+    (λ c. search (next-less 3 pos))
     loop-again
-    returns-3)
+    (λ c. let l = c .before .before .loop in (l .inv .2, search (gone-by 3), l .inv .1 .0)))

@@ -4,29 +4,7 @@ use borrow.Author.Needs.{needs}
 use Rattle.load_groups.proofs.ending.reach_end.Statement.{statement}
 use Rattle.load_groups.proofs.ending.reach_end.Tie as tie
 
-returns : tie.Need-returns
-returns c = search faulted
-
-returns-2 : tie.Need-returns-2
-returns-2 c = search at-end
-
-returns-3 : tie.Need-returns-3
-returns-3 c = search left-past
-
-returns-4 : tie.Need-returns-4
-returns-4 c = search left-bad
-
 pub reach-end-spec : {M : Type 1} → statement M
 reach-end-spec =
     tie.close
-    (tie.spec
-    (λ c. search needs)
-    returns
-    returns-2
-    (λ c. search needs)
-    (λ c. search needs)
-    (λ c. search needs)
-    (λ c. search needs)
-    (λ c κs. search needs)
-    returns-3
-    returns-4)
+    (tie.spec (λ c. search faulted) (λ c. search needs) (λ c. search at-end) (λ c κs. search needs) (λ c κs. search needs) (λ c. search left-past) (λ c. search left-bad))

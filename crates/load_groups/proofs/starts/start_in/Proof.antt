@@ -17,9 +17,6 @@ started : (t : Thread) (s s′ : Site) (i : ℕ) → t ≡ blankThread → s′ 
     threadOf (record { site = s′; vars = t .vars; relations = t .relations; stack = set (t .stack) 0 (record { entry = Run i; visit = replicate 16 false }); depth = 1 }) ≡ fresh s i
 started t s s′ i p q = rw (p, q)
 
-returns : tie.Need-returns
-returns c = search started
-
 pub start-in-spec : {M : Type 1} → statement M
 start-in-spec =
     tie.close
@@ -28,4 +25,4 @@ start-in-spec =
     (λ c κs. search needs)
     (λ c. search needs)
     (λ c. search needs)
-    returns)
+    (λ c. search started))

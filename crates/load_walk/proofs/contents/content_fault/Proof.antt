@@ -33,14 +33,5 @@ module _ (r : Relation) (d : Draft) (b : Bool) (e : b ≡ fits (relationOf r .co
   full : b ≡ true → 16 ≤ r .count → 8 ≡ numberOf checks
   full h l = rw (sym e, h, counted, le-ltb (r .count) 16 l)
 
-returns : tie.Need-returns
-returns c = search (misfit, not-true)
-
-returns-2 : tie.Need-returns-2
-returns-2 c = search (fine, not-false)
-
-returns-3 : tie.Need-returns-3
-returns-3 c = search (full, not-false)
-
 pub content-fault-spec : {M : Type 1} → statement M
-content-fault-spec = tie.close (tie.spec (λ c κs. search needs) returns returns-2 returns-3)
+content-fault-spec = tie.close (tie.spec (λ c κs. search needs) (λ c. search (misfit, not-true)) (λ c. search (fine, not-false)) (λ c. search (full, not-false)))

@@ -56,11 +56,5 @@ module _ (r : Relation) (d : Draft) (z : numberOf (check 7 (fits (relationOf r .
         Holds o (relationOf r .columns) (relationOf r .rows ++ (valuesIn (draftOf d) ∷ []))
     pushed o h = rw (← the-row) h
 
-push-requires : tie.Need-push-requires
-push-requires c κs = (search needs, search room)
-
-returns : tie.Need-returns
-returns c = search pushed
-
 pub content-with-spec : {M : Type 1} → statement M
-content-with-spec = tie.close (tie.spec (λ c κs. search needs) push-requires returns)
+content-with-spec = tie.close (tie.spec (λ c κs. search needs) (λ c κs. (search needs, search room)) (λ c. search pushed))

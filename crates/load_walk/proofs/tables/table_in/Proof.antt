@@ -18,21 +18,18 @@ as-table : (s s′ : Site) (n n′ : ℕ) (w : ℕ) (ks ks′ : List ℕ) (rs : 
 as-table s s′ n n′ w ks ks′ rs p q e k = rw (p, q, k, e)
 
 returns : tie.Need-returns
-returns c = (search as-table, record { columns = c .before .before .columns-in .ensures .1; count = omega arith })
+returns c = (search as-table, record { columns = c .before .columns-in .ensures .1; count = omega arith })
 
 pub table-in-spec : {M : Type 1} → statement M
 table-in-spec =
     tie.close
     (tie.spec
     (λ c κs. search needs)
-    (λ c κs. search needs)
-    (λ c κs. search needs)
     (λ c. search needs)
     (λ c. search needs)
     (λ c. search needs)
     (λ c κs. search needs)
-    (λ c. search needs)
-    (λ c. search needs)
-    (λ c. search needs)
+    (λ c κs. search needs)
+    (λ c κs. search needs)
     (λ c κs. search needs)
     returns)

@@ -1,13 +1,13 @@
 -- `load_walk::walking::next_group` meets its contract: a fault, a record, or the end of the file.
 use Prim.Native.Nat.{ℕ, _*_, _≤_, _<_}
-use mathlib.Core.Path.{_≡_}
+use mathlib.Core.Path.{_≡_, ap, _∙_}
 use mathlib.Core.List.{List}
 use lib.ListN.{length}
 use borrow.Author.Tests.{eq-eqb, ne-eqb, lt-ltb, le-ltb}
 use Rattle.record_bytes.specs.Bytes.{at}
 use Rattle.record_bytes.specs.Judging.{groupAt}
 use Rattle.load_walk.specs.declared.Reach.{Reach}
-use Rattle.load_walk.specs.Walking.{groupNext}
+use Rattle.load_walk.specs.Walking.{recordAt, groupNext}
 use borrow.Author.Needs.{needs}
 use Rattle.load_walk.proofs.walking.next_group.Statement.{statement}
 use Rattle.load_walk.proofs.walking.next_group.Tie as tie
@@ -17,24 +17,22 @@ module _ (file : List ℕ) (r : Reach) where
   unfolding groupNext
   faulted n = rw (ne-eqb (r .fault) 0 n)
 
-  next : (g : ℕ) → r .fault ≡ 0 → r .place * 104 < length file → g ≡ groupAt (at file (r .place * 104)) → g ≡ groupNext file r
+  next : (g : ℕ) (bs : List ℕ) → r .fault ≡ 0 → r .place * 104 < length file → g ≡ groupAt (at bs 0) → bs ≡ recordAt file (r .place) → g ≡ groupNext file r
   unfolding groupNext
-  next g z h e = rw (eq-eqb (r .fault) 0 z, lt-ltb (r .place * 104) (length file) h) e
+  next g bs z h e eb = rw (eq-eqb (r .fault) 0 z, lt-ltb (r .place * 104) (length file) h) (e ∙ ap (λ (x : List ℕ). groupAt (at x 0)) eb)
 
   ended : r .fault ≡ 0 → length file ≤ r .place * 104 → 0 ≡ groupNext file r
   unfolding groupNext
   ended z h = rw (eq-eqb (r .fault) 0 z, le-ltb (r .place * 104) (length file) h)
 
-returns : tie.Need-returns
-returns c = search faulted
-
-returns-2 : tie.Need-returns-2
-returns-2 c = search next
-
-returns-3 : tie.Need-returns-3
-returns-3 c = search ended
-
 pub next-group-spec : {M : Type 1} → statement M
 next-group-spec =
     tie.close
-    (tie.spec (λ c. search needs) returns (λ c. search needs) (λ c κs. search needs) returns-2 returns-3)
+    (tie.spec
+    (λ c. search faulted)
+    (λ c. search needs)
+    (λ c κs. search needs)
+    (λ c. search needs)
+    (λ c κs. search needs)
+    (λ c. search next)
+    (λ c. search ended))

@@ -3,8 +3,5 @@ use borrow.Author.Needs.{needs}
 use Rattle.record_nodes.proofs.nodes.middle_form.Statement.{statement}
 use Rattle.record_nodes.proofs.nodes.middle_form.Tie as tie
 
-returns-2 : tie.Need-returns-2
-returns-2 c = rw (c .if1 .left)
-
 pub middle-form-spec : {M : Type 1} → statement M
-middle-form-spec = tie.close (tie.spec (λ c κs. search needs) (λ c. search needs) returns-2)
+middle-form-spec = tie.close (tie.spec (λ c κs. search needs) (λ c. search needs) (λ c. rw (c .if1 .left)))

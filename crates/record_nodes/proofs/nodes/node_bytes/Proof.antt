@@ -12,22 +12,12 @@ use borrow.Author.Needs.{needs}
 use Rattle.record_nodes.proofs.nodes.node_bytes.Statement.{statement}
 use Rattle.record_nodes.proofs.nodes.node_bytes.Tie as tie
 
-whole : (r : List ℕ) (t : ℕ) (create aggregate a b c d e f : Bool) → create ≡ isCreate (kindAt (at r 0)) → aggregate ≡ isAggregate (kindAt (at r 0))
+whole : (r : List ℕ) (t : ℕ) (create aggregate a b c d e f : Bool)
     → a ≡ cond create (columnsForm (part 8 12 r)) (isFunction (at r 10)) → t ≡ textIn (part 12 16 r) → b ≡ operandForm (part 16 24 r) → c ≡ operandsForm (part 24 56 r)
     → d ≡ cond aggregate (operandForm (part 56 64 r) && zeros (part 64 88 r)) (operandsForm (part 56 88 r)) → e ≡ operandForm (part 88 96 r) → f ≡ operandForm (part 96 104 r)
-    → (leb (at r 3) 4 && a && eqb t 0 && b && c && d && e && f) ≡ nodeBytes (kindAt (at r 0)) r
+    → create ≡ isCreate (kindAt (at r 0)) → aggregate ≡ isAggregate (kindAt (at r 0)) → (leb (at r 3) 4 && a && eqb t 0 && b && c && d && e && f) ≡ nodeBytes (kindAt (at r 0)) r
 unfolding nodeBytes
-whole r t create aggregate a b c d e f hk hg ha ht hb hc hd he hf = rw (ha, ht, hb, hc, hd, he, hf, hk, hg)
-
-returns : tie.Need-returns
-returns c =
-    let c₁ = c .before .before .before .before .before in
-    let c₂ = c₁ .before .before .before .before .before in
-    let c₃ = c₂ .before .before .before .before .before in
-    let r = c₃ .before .before .before .before .args .r .now in
-    whole r _ _ _ _ _ _ _ _ _ (c₃ .before .is-create .ensures) (c₃ .is-aggregate .ensures) (c₂ .before .middle-form .ensures)
-    (c₁ .before .before .before .before .text-in .ensures) (c₁ .before .before .operand-form .ensures) (c₁ .operands-form .ensures)
-    (c .before .before .before .before .tuple-form .ensures) (c .before .before .operand-form2 .ensures) (c .operand-form3 .ensures)
+whole r t create aggregate a b c d e f ha ht hb hc hd he hf hk hg = rw (ha, ht, hb, hc, hd, he, hf, hk, hg)
 
 pub node-bytes-spec : {M : Type 1} → statement M
 node-bytes-spec =
@@ -63,4 +53,4 @@ node-bytes-spec =
     (λ c. search needs)
     (λ c. search needs)
     (λ c κs. search needs)
-    returns)
+    (λ c. search whole))

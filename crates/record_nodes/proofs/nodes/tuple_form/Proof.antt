@@ -8,9 +8,6 @@ use Rattle.record_nodes.proofs.nodes.tuple_form.Tie as tie
 returns : tie.Need-returns
 returns c = rw (c .before .before .before .before .if1 .taken) (ap₂ _&&_ (c .before .before .operand-form .ensures) (c .zeros .ensures))
 
-returns-2 : tie.Need-returns-2
-returns-2 c = rw (c .before .before .if1 .left) (c .operands-form .ensures)
-
 pub tuple-form-spec : {M : Type 1} → statement M
 tuple-form-spec =
     tie.close
@@ -28,4 +25,4 @@ tuple-form-spec =
     (λ c. search needs)
     (λ c. search needs)
     (λ c κs. search needs)
-    returns-2)
+    (λ c. rw (c .before .before .if1 .left) (c .operands-form .ensures)))

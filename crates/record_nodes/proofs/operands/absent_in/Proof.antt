@@ -34,8 +34,5 @@ read : (bs : List ℕ) → (eqb (at bs 0) 0 || ltb 6 (at bs 0)) ≡ isAbsent (op
 unfolding operandIn
 read bs = tags (at bs 0) _ _ _ _
 
-returns : tie.Need-returns
-returns c = search read
-
 pub absent-in-spec : {M : Type 1} → statement M
-absent-in-spec = tie.close (tie.spec (λ c. search needs) (λ c. search needs) returns)
+absent-in-spec = tie.close (tie.spec (λ c. search needs) (λ c. search needs) (λ c. search read))

@@ -1,72 +1,29 @@
 -- `record_nodes::operands::operand_form` meets its contract: each arm is the test of its tag.
-use Prim.Native.Nat.{ℕ, _≤_}
-use mathlib.Core.Path.{_≡_}
+use Prim.Native.Nat.{ℕ}
+use mathlib.Core.Path.{_≡_, refl}
 use mathlib.Core.Bool.{Bool, false, _&&_}
-use mathlib.Core.List.{List}
-use native.Mathlib.Omega.{arith}
-use lib.ListN.{List·getD-eq-default}
+use mathlib.Core.List.{List, [], _∷_}
+use lib.ListN.{getD}
 use Rattle.record_bytes.specs.Bytes.{at, part, zeros, operandForm}
-use Rattle.record_bytes.proofs.ByteLaws.{not-this}
 use borrow.Author.Needs.{needs}
+use Rattle.record_nodes.proofs.TagLaws.{tag-at, tag-past}
 use Rattle.record_nodes.proofs.operands.operand_form.Statement.{statement}
 use Rattle.record_nodes.proofs.operands.operand_form.Tie as tie
 
+abbrev forms : List ℕ → List Bool
+forms bs = zeros (part 1 8 bs) ∷ zeros (part 1 4 bs) ∷ zeros (part 1 4 bs) ∷ (zeros (part 1 4 bs) && zeros (part 5 8 bs)) ∷ zeros (part 2 8 bs) ∷ zeros (part 2 4 bs) ∷ zeros (part 2 8 bs) ∷ []
+
+tagged : (k : ℕ) (bs : List ℕ) (z : Bool) → at bs 0 ≡ k → z ≡ getD (forms bs) k false → z ≡ operandForm bs
+unfolding operandForm
+tagged k bs z e h = tag-at (forms bs) false (at bs 0) k z e h
+
 module _ (bs : List ℕ) where
-  absent : (z : Bool) → z ≡ zeros (part 1 8 bs) → at bs 0 ≡ 0 → z ≡ operandForm bs
-  unfolding operandForm
-  absent z h e = rw e h
-
-  int : (z : Bool) → z ≡ zeros (part 1 4 bs) → at bs 0 ≡ 1 → z ≡ operandForm bs
-  unfolding operandForm
-  int z h e = rw e h
-
-  text : (z : Bool) → z ≡ zeros (part 1 4 bs) → at bs 0 ≡ 2 → z ≡ operandForm bs
-  unfolding operandForm
-  text z h e = rw e h
-
-  loc : (y z : Bool) → y ≡ zeros (part 1 4 bs) → z ≡ zeros (part 5 8 bs) → at bs 0 ≡ 3 → (y && z) ≡ operandForm bs
-  unfolding operandForm
-  loc y z g h e = rw (e, g, h)
-
-  var : (z : Bool) → z ≡ zeros (part 2 8 bs) → at bs 0 ≡ 4 → z ≡ operandForm bs
-  unfolding operandForm
-  var z h e = rw e h
-
-  plus : (z : Bool) → z ≡ zeros (part 2 4 bs) → at bs 0 ≡ 5 → z ≡ operandForm bs
-  unfolding operandForm
-  plus z h e = rw e h
-
-  formal : (z : Bool) → z ≡ zeros (part 2 8 bs) → at bs 0 ≡ 6 → z ≡ operandForm bs
-  unfolding operandForm
-  formal z h e = rw e h
+  loc : (y z : Bool) → at bs 0 ≡ 3 → y ≡ zeros (part 1 4 bs) → z ≡ zeros (part 5 8 bs) → (y && z) ≡ operandForm bs
+  loc y z e g h = tagged 3 bs (y && z) e (rw (g, h))
 
   other : (at bs 0 ≡ 0 → ⊥) → (at bs 0 ≡ 1 → ⊥) → (at bs 0 ≡ 2 → ⊥) → (at bs 0 ≡ 3 → ⊥) → (at bs 0 ≡ 4 → ⊥) → (at bs 0 ≡ 5 → ⊥) → (at bs 0 ≡ 6 → ⊥) → false ≡ operandForm bs
   unfolding operandForm
-  other a b c d e f g = let k = at bs 0 in let past : 7 ≤ k = not-this 6 k (not-this 5 k (not-this 4 k (not-this 3 k (not-this 2 k (not-this 1 k (not-this 0 k (omega arith) a) b) c) d) e) f) g in rw List·getD-eq-default
-
-returns : tie.Need-returns
-returns c = search absent
-
-returns-2 : tie.Need-returns-2
-returns-2 c = search int
-
-returns-3 : tie.Need-returns-3
-returns-3 c = search text
-
-returns-4 : tie.Need-returns-4
-returns-4 c = search loc
-
-returns-5 : tie.Need-returns-5
-returns-5 c = search var
-
-returns-6 : tie.Need-returns-6
-returns-6 c = search plus
-
-returns-7 : tie.Need-returns-7
-returns-7 c = search formal
-
-returns-8 : tie.Need-returns-8
-returns-8 c = search other
+  other a b c d e f g = tag-past (forms bs) false (at bs 0) refl a b c d e f g
 
 pub operand-form-spec : {M : Type 1} → statement M
 operand-form-spec =
@@ -105,11 +62,11 @@ operand-form-spec =
     (λ c. search needs)
     (λ c. search needs)
     (λ c κs. search needs)
-    returns
-    returns-2
-    returns-3
-    returns-4
-    returns-5
-    returns-6
-    returns-7
-    returns-8)
+    (λ c. search (tagged 0))
+    (λ c. search (tagged 1))
+    (λ c. search (tagged 2))
+    (λ c. search loc)
+    (λ c. search (tagged 4))
+    (λ c. search (tagged 5))
+    (λ c. search (tagged 6))
+    (λ c. search other))

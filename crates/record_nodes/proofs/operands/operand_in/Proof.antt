@@ -1,76 +1,38 @@
 -- `record_nodes::operands::operand_in` meets its contract: each arm is the operand of its tag.
-use Prim.Native.Nat.{ℕ, _≤_}
-use mathlib.Core.Path.{_≡_}
-use mathlib.Core.List.{List}
-use native.Mathlib.Omega.{arith}
+use Prim.Native.Nat.{ℕ}
+use mathlib.Core.Path.{_≡_, refl}
+use mathlib.Core.List.{List, [], _∷_}
 use lib.IntN.{ℤ}
-use lib.ListN.{List·getD-eq-default}
+use lib.ListN.{getD}
 use mir.Val.{toZ, ofZ, SFits}
 use mir.Syntax.{w32}
 use mir.Facts.{toZ-ofZ}
+use Rattle.values.specs.declared.Operand.{Operand}
 use Rattle.values.specs.declared.Operand.the-variants.{Absent, ConstInt, ConstText, ConstLoc, Var, Plus, Formal}
 use Rattle.record_bytes.specs.Bytes.{at, part, textIn, intIn, operandIn}
-use Rattle.record_bytes.proofs.ByteLaws.{not-this}
 use borrow.Author.Needs.{needs, sfits-of}
+use Rattle.record_nodes.proofs.TagLaws.{tag-at, tag-past}
 use Rattle.record_nodes.proofs.operands.operand_in.Statement.{statement}
 use Rattle.record_nodes.proofs.operands.operand_in.Tie as tie
 
+abbrev operands : List ℕ → List Operand
+operands bs =
+    Absent ∷ ConstInt (intIn (part 4 8 bs)) ∷ ConstText (textIn (part 4 8 bs)) ∷ ConstLoc (record { 0 = at bs 4 }) ∷ Var (at bs 1) ∷ Plus (at bs 1) (intIn (part 4 8 bs)) ∷ Formal (at bs 1) ∷ []
+
+tagged : (k : ℕ) (bs : List ℕ) (x : Operand) → at bs 0 ≡ k → x ≡ getD (operands bs) k Absent → x ≡ operandIn bs
+unfolding operandIn
+tagged k bs x e h = tag-at (operands bs) Absent (at bs 0) k x e h
+
 module _ (bs : List ℕ) where
-  absent : at bs 0 ≡ 0 → Absent ≡ operandIn bs
-  unfolding operandIn
-  absent e = rw e
+  int : (z : ℤ) → at bs 0 ≡ 1 → z ≡ intIn (part 4 8 bs) → SFits w32 z → ConstInt (toZ w32 (ofZ w32 z)) ≡ operandIn bs
+  int z e h f = tagged 1 bs _ e (rw (toZ-ofZ f, h))
 
-  int : (z : ℤ) → z ≡ intIn (part 4 8 bs) → SFits w32 z → at bs 0 ≡ 1 → ConstInt (toZ w32 (ofZ w32 z)) ≡ operandIn bs
-  unfolding operandIn
-  int z h f e = rw (toZ-ofZ f, e, h)
-
-  text : (t : ℕ) → t ≡ textIn (part 4 8 bs) → at bs 0 ≡ 2 → ConstText t ≡ operandIn bs
-  unfolding operandIn
-  text t h e = rw (e, h)
-
-  loc : at bs 0 ≡ 3 → ConstLoc (record { 0 = at bs 4 }) ≡ operandIn bs
-  unfolding operandIn
-  loc e = rw e
-
-  var : at bs 0 ≡ 4 → Var (at bs 1) ≡ operandIn bs
-  unfolding operandIn
-  var e = rw e
-
-  plus : (z : ℤ) → z ≡ intIn (part 4 8 bs) → SFits w32 z → at bs 0 ≡ 5 → Plus (at bs 1) (toZ w32 (ofZ w32 z)) ≡ operandIn bs
-  unfolding operandIn
-  plus z h f e = rw (toZ-ofZ f, e, h)
-
-  formal : at bs 0 ≡ 6 → Formal (at bs 1) ≡ operandIn bs
-  unfolding operandIn
-  formal e = rw e
+  plus : (z : ℤ) → at bs 0 ≡ 5 → z ≡ intIn (part 4 8 bs) → SFits w32 z → Plus (at bs 1) (toZ w32 (ofZ w32 z)) ≡ operandIn bs
+  plus z e h f = tagged 5 bs _ e (rw (toZ-ofZ f, h))
 
   other : (at bs 0 ≡ 0 → ⊥) → (at bs 0 ≡ 1 → ⊥) → (at bs 0 ≡ 2 → ⊥) → (at bs 0 ≡ 3 → ⊥) → (at bs 0 ≡ 4 → ⊥) → (at bs 0 ≡ 5 → ⊥) → (at bs 0 ≡ 6 → ⊥) → Absent ≡ operandIn bs
   unfolding operandIn
-  other a b c d e f g = let k = at bs 0 in let past : 7 ≤ k = not-this 6 k (not-this 5 k (not-this 4 k (not-this 3 k (not-this 2 k (not-this 1 k (not-this 0 k (omega arith) a) b) c) d) e) f) g in rw List·getD-eq-default
-
-returns : tie.Need-returns
-returns c = search absent
-
-returns-2 : tie.Need-returns-2
-returns-2 c = search (int, sfits-of)
-
-returns-3 : tie.Need-returns-3
-returns-3 c = search text
-
-returns-4 : tie.Need-returns-4
-returns-4 c = search loc
-
-returns-5 : tie.Need-returns-5
-returns-5 c = search var
-
-returns-6 : tie.Need-returns-6
-returns-6 c = search (plus, sfits-of)
-
-returns-7 : tie.Need-returns-7
-returns-7 c = search formal
-
-returns-8 : tie.Need-returns-8
-returns-8 c = search other
+  other a b c d e f g = tag-past (operands bs) Absent (at bs 0) refl a b c d e f g
 
 pub operand-in-spec : {M : Type 1} → statement M
 operand-in-spec =
@@ -93,11 +55,11 @@ operand-in-spec =
     (λ c. search needs)
     (λ c κs. search needs)
     (λ c. search needs)
-    returns
-    returns-2
-    returns-3
-    returns-4
-    returns-5
-    returns-6
-    returns-7
-    returns-8)
+    (λ c. search (tagged 0))
+    (λ c. search (int, sfits-of))
+    (λ c. search (tagged 2))
+    (λ c. search (tagged 3))
+    (λ c. search (tagged 4))
+    (λ c. search (plus, sfits-of))
+    (λ c. search (tagged 6))
+    (λ c. search other))

@@ -1,0 +1,2 @@
+-- Laws of operands' tags.
+pub mod TagLaws
