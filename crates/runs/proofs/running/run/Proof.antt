@@ -271,5 +271,5 @@ run-spec 𝓤 H 𝓜 𝓖 𝓡 =
     entered 𝓤 H (tripleOf 𝓤 H (𝓖 .A) run′.signature (run′.spec 𝓤 H (𝓖 .A) (𝓜 .mem) (𝓡 .run)))
     (tables 𝓤 H 𝓜 𝓡 code.env .C) (tables 𝓤 H 𝓜 𝓡 code.env .Λ) #run code.function (code.unfolded 𝓤 H 𝓜 𝓡)
     (run-meets 𝓤 H (𝓖 .A) (givenOf 𝓤 H 𝓜 𝓖) (𝓜 .mem) (𝓡 .run) (tablesOf 𝓤 H 𝓜 (tables 𝓤 H 𝓜 𝓡 code.env))
-    (cited 𝓤 H (Begin 𝓤 H (𝓖 .A) (𝓜 .mem) (𝓡 .run)) 𝓜 𝓡 code.env #begin begin-def.routine code.calls-counts·begin (begin-thm.met 𝓤 H 𝓜 𝓖 𝓡))
+    (cited 𝓤 H (Begin 𝓤 H (𝓖 .A) (𝓜 .mem) (𝓡 .run)) 𝓜 𝓡 code.env #begin begin-def.routine code.calls-run-state·begin (begin-thm.met 𝓤 H 𝓜 𝓖 𝓡))
     (cited 𝓤 H (Turn 𝓤 H (𝓖 .A) (𝓜 .mem) (𝓡 .run)) 𝓜 𝓡 code.env #turn turn-def.routine code.calls-runs·running·turn (turn-thm.met 𝓤 H 𝓜 𝓖 𝓡)))
