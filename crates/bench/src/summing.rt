@@ -1,10 +1,10 @@
 // Sums over answers, and over the rows, variables and heights of stacks of a net, to compare with the second engine's.
 use nets::Answer;
 use nets::Net;
-use nets::Refusal;
 use nets::Table;
 use nets::TableVariable;
 use nets::Thread;
+use nets::refusals::number_of;
 use rows::Relation;
 use rows::Row;
 use values::Got;
@@ -19,29 +19,11 @@ pub fn with(sum: u64, number: u64) -> u64 {
 
 // ---- answers
 
-fn number_of(r: Refusal) -> u64
-    ensures { λ o. ⌜ o < 21 ⌝ }
-{
-    match r {
-        Refusal::Unsound => 10,
-        Refusal::NoThread => 11,
-        Refusal::Unbound => 12,
-        Refusal::NoPlace => 13,
-        Refusal::NoTable => 14,
-        Refusal::TableThere => 15,
-        Refusal::Misfit => 16,
-        Refusal::Held => 17,
-        Refusal::NoResult => 18,
-        Refusal::NotReady => 19,
-        Refusal::Full => 20,
-    }
-}
-
 // No count of an answer is over 16.
 pub fn with_answer(sum: u64, a: Answer) -> u64 {
     match a {
         Answer::Done(added, taken) => with(sum, (added % 32 * 32 + taken % 32 + 1) as u64),
-        Answer::Refused(r) => with(sum, 1025 + number_of(r)),
+        Answer::Refused(r) => with(sum, 1025 + number_of(r) as u64),
     }
 }
 

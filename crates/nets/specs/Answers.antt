@@ -57,10 +57,13 @@ numberOf NoResult = 18
 numberOf NotReady = 19
 numberOf Full = 20
 
--- no refusal of a pick has values beside its number
+-- the values beside it: no refusal of a pick has any
+abbrev pub valuesOf : Refusal → List ℕ
+valuesOf r = []
+
 abbrev pub saidOf : Answer → Said
 saidOf (Done a t) = doing a t
-saidOf (Refused r) = refusing (numberOf r) []
+saidOf (Refused r) = refusing (numberOf r) (valuesOf r)
 
 abbrev pub isRefused : Answer → Bool
 isRefused (Done a t) = false

@@ -9,6 +9,7 @@ use values::Site;
 use values::Slot;
 
 pub mod kinds;
+pub mod refusals;
 pub mod tables;
 
 // At a site, a locality means a site.

@@ -7,7 +7,7 @@ use crate::pages::put_bytes;
 use crate::pages::put_decimal;
 use nets::Answer;
 use nets::Table;
-use step_bytes::answers::number_of;
+use nets::refusals::number_of;
 ghost use mathlib.Core.Path.{_≡_};
 ghost use Prim.Native.Nat.{_*_, _<_, _≤_};
 ghost use lib.ListN.{length};

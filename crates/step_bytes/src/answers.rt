@@ -1,34 +1,16 @@
 // Answers as bytes, 24 each.
 use nets::Answer;
-use nets::Refusal;
+use nets::refusals::number_of;
 ghost use mathlib.Core.Path.{_≡_};
 ghost use mathlib.Core.Bool.{cond};
 ghost use Prim.Native.Nat.{_+_, _*_, _≤_};
 ghost use lib.Dec.{T, leb};
 ghost use lib.ListN.{length};
 ghost use Rattle.value_bytes.specs.Bytes.{eightBytes, putAt};
-ghost use Rattle.nets.specs.Answers.{numberOf, saidOf};
+ghost use Rattle.nets.specs.Answers.{saidOf};
 ghost use Rattle.step_bytes.specs.AnswerBytes.{threeBytes, answerBytes};
 
 // ---- one answer
-
-pub fn number_of(why: Refusal) -> usize
-    ensures { λ r. ⌜ r ≡ numberOf why ⌝ }
-{
-    match why {
-        Refusal::Unsound => 10,
-        Refusal::NoThread => 11,
-        Refusal::Unbound => 12,
-        Refusal::NoPlace => 13,
-        Refusal::NoTable => 14,
-        Refusal::TableThere => 15,
-        Refusal::Misfit => 16,
-        Refusal::Held => 17,
-        Refusal::NoResult => 18,
-        Refusal::NotReady => 19,
-        Refusal::Full => 20,
-    }
-}
 
 // Eight bytes, little endian.
 fn put_number(out: &mut [u8], n: usize)

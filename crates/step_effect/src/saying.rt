@@ -15,7 +15,6 @@ use values::Slot;
 ghost use Prim.Native.Nat.{ℕ};
 ghost use mathlib.Core.Path.{_≡_};
 ghost use mathlib.Core.Bool.{Bool, _&&_};
-ghost use mathlib.Core.List.{[]};
 ghost use lib.Dec.{eqb};
 ghost use lib.ListN.{getD};
 ghost use Rattle.values.specs.Operands.{varsOf, isGot};
@@ -24,12 +23,12 @@ ghost use Rattle.rows.specs.Matching.{matches1};
 ghost use Rattle.rows.specs.View.{relationOf, Shaped, Short};
 ghost use Rattle.row_change.specs.Aggregates.{columnFits};
 ghost use Rattle.nets.specs.Steps.{verdict};
-ghost use Rattle.nets.specs.Answers.{refusing, stepSaid, numberOf, saidOf};
+ghost use Rattle.nets.specs.Answers.{refusing, stepSaid, numberOf, valuesOf, saidOf};
 ghost use Rattle.step_effect.specs.Contracts.{partsOf};
 
 // A check that fails refuses.
 pub fn checked(ok: bool, why: Refusal, then: Answer) -> Answer
-    ensures { λ r. ⌜ saidOf r ≡ verdict refusing ok (numberOf why) [] (saidOf then) ⌝ }
+    ensures { λ r. ⌜ saidOf r ≡ verdict refusing ok (numberOf why) (valuesOf why) (saidOf then) ⌝ }
 {
     if ok {
         return then;

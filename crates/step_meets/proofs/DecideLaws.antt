@@ -26,7 +26,7 @@ use Rattle.nets.specs.Nets.{Kind, code, isLoop, hasPlace, needsTable, isCreate,
 use Rattle.nets.specs.Tables.{rowsOf, columnsOf, tableAt}
 use Rattle.nets.specs.Scenes.{Scene, below, Parts, parts, site, table, source}
 use Rattle.nets.specs.Steps.{held, check12, check13, check14, check15, check17, rowsBy, tablesBy, boundBy, varsBy, bindingsBy, withBindings, goOn, settle, threadsAfter, judge, checks, partChecks}
-use Rattle.nets.specs.Answers.{refusing, isDoing, stepSaid, answerOf, numberOf, saidOf}
+use Rattle.nets.specs.Answers.{refusing, isDoing, stepSaid, answerOf, saidOf}
 use Rattle.nets.specs.View.{kindAt, bindingsOf, threadOf}
 use Rattle.step_effect.specs.Contracts.{isStep, putsRows, partsOf, Doing}
 use Rattle.step_thread.specs.Contracts.{standing, forksOf}
@@ -43,7 +43,7 @@ never-done r why e h = subst (λ (x : Answer). T (isDoing (saidOf x))) e h
 
 module _ (c : Scene) where
   -- a refusal changes nothing
-  pub refused-at : (s : Situation) (q : Code.Relation) (r : Decided) (why : Refusal) → r .answer ≡ Refused why → refusing (numberOf why) [] ≡ answerOf (outcomeAt c) → DecidedAt s q c r
+  pub refused-at : (s : Situation) (q : Code.Relation) (r : Decided) (why : Refusal) → r .answer ≡ Refused why → saidOf (Refused why) ≡ answerOf (outcomeAt c) → DecidedAt s q c r
   refused-at s q r why e a = record { answer = ap saidOf e ∙ a; change = λ h. absurd (never-done r why e h) }
 
   -- with another word for its answer, and for whether it forks
@@ -72,7 +72,7 @@ module _ (c : Scene) where
       refuses-15 fourteen e = rw (twelve, thirteen, fourteen, e)
 
 -- at every scene
-pub refused-is : (s : Situation) (q : Code.Relation) (r : Decided) (why : Refusal) → r .answer ≡ Refused why → ((c : Scene) → Meets s c → refusing (numberOf why) [] ≡ answerOf (outcomeAt c)) → DecidedIs s q r
+pub refused-is : (s : Situation) (q : Code.Relation) (r : Decided) (why : Refusal) → r .answer ≡ Refused why → ((c : Scene) → Meets s c → saidOf (Refused why) ≡ answerOf (outcomeAt c)) → DecidedIs s q r
 refused-is s q r why e a =
     record { at = λ c m. refused-at c s q r why e (a c m); known = λ h. absurd (never-done r why e h); does = λ h. absurd (never-done r why e h) }
 

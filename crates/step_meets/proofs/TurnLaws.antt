@@ -15,7 +15,7 @@ use Rattle.rows.specs.Relations.{Relation}
 use Rattle.rows.specs.Matching.{rowVars}
 use Rattle.rows.specs.View.{relationOf, operandsOf}
 use Rattle.nets.specs.declared.Refusal.{Refusal}
-use Rattle.nets.specs.declared.Answer.the-variants.{Done}
+use Rattle.nets.specs.declared.Answer.the-variants.{Done, Refused}
 use Rattle.nets.specs.declared.Thread.{Thread}
 use Rattle.nets.specs.declared.Frame.{Frame}
 use Rattle.step_thread.specs.declared.Round.{Round}
@@ -26,9 +26,9 @@ use Rattle.step_meets.specs.Situations.{Situation}
 use Rattle.nets.specs.Nets as M
 use Rattle.nets.specs.Nets.{Kind, isLoop, isParallel, bindsRelation, toRun, visiting}
 use Rattle.nets.specs.Sound.{entryNode}
-use Rattle.nets.specs.Scenes.{Scene, below, stillToVisit, vars, template, rowAt}
+use Rattle.nets.specs.Scenes.{Scene, below, stillToVisit, vars, rowAt}
 use Rattle.nets.specs.Steps.{roomForRound, check12, loopEntry, roundBindings, withBindings, withStack, withVars, goOn, settle}
-use Rattle.nets.specs.Answers.{refusing, answerOf, numberOf}
+use Rattle.nets.specs.Answers.{answerOf, saidOf}
 use Rattle.nets.specs.View.{kindAt, marked, entryOf, variableOf, bindingsOf, threadOf}
 use Rattle.step_effect.specs.Contracts.{putsRows}
 use Rattle.step_thread.specs.Contracts.{turnOf, turnBy, opened, readyAt, visitOf, RoundIs, standing}
@@ -113,7 +113,7 @@ module _ (s : Situation) (c : Scene) (o : Round) (r : RoundAt s c o) where
   pub turn-says : {t : Turn} → o .turn ≡ t → turnedSaid (turnOf t) ≡ answerOf (outcomeAt c)
   turn-says e = sym (turn-answer c loops (r .twelve) ∙ ap turnedSaid (turn-is e))
 
-  pub turn-stops : (why : Refusal) → o .turn ≡ Stopped why → refusing (numberOf why) [] ≡ answerOf (outcomeAt c)
+  pub turn-stops : (why : Refusal) → o .turn ≡ Stopped why → saidOf (Refused why) ≡ answerOf (outcomeAt c)
   turn-stops why e = turn-says e
 
   kind-is : isParallel (c .node .kind) ≡ isParallel (kindAt (s .node .kind))

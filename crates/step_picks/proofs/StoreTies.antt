@@ -2,7 +2,7 @@
 use Prim.Native.Nat.{ℕ, _<_, _≤_}
 use mathlib.Core.Path.{_≡_, refl, ap, ap₂, sym, subst, _∙_}
 use mathlib.Core.Bool.{Bool}
-use mathlib.Core.List.{List, [], _++_}
+use mathlib.Core.List.{List, _++_}
 use lib.Dec.{T, ltb→lt}
 use lib.ListN.{length}
 use Rattle.values.specs.declared.Site.{Site}
@@ -33,7 +33,7 @@ use Rattle.nets.specs.Scenes.{Scene, sceneOf, Parts, parts, site, table}
 use Rattle.nets.specs.Steps.{check14, roomBy, check20, settle, tablesBy, threadsAfter, performed, checks, step}
 use Rattle.nets.specs.Accounts.{netLeft}
 use Rattle.nets.specs.View.{noTable, noThread, kindAt, tableOf, nodeOf, threadOf, tablesOf, threadsOf, view}
-use Rattle.nets.specs.Answers.{Said, refusing, isDoing, numberOf, answerOf, saidOf, isRefused, StepIs}
+use Rattle.nets.specs.Answers.{Said, isDoing, answerOf, saidOf, isRefused, StepIs}
 use Rattle.step_effect.specs.Contracts.{putsRows}
 use Rattle.step_thread.specs.Contracts.{standing, forksOf}
 use Rattle.step_meets.specs.Contracts.{laterChecks, outcomeAt, ChangeIs}
@@ -49,7 +49,7 @@ use Rattle.step_picks.proofs.ReadTies.{nodeRead, Read, node-read, site-
 -- ── a refused step ──
 
 -- no such thread
-pub past-refused : (net : Net) (p : Pick) → T (sound (view net)) → net .threadcount ≤ p .thread → answerOf (step (view net) p) ≡ refusing (numberOf NoThread) []
+pub past-refused : (net : Net) (p : Pick) → T (sound (view net)) → net .threadcount ≤ p .thread → answerOf (step (view net) p) ≡ saidOf (Refused NoThread)
 unfolding view
 past-refused net p ok h =
     ap answerOf (refuses-11 (view net) p (is-true (sound (view net)) ok) (rw length-firsts (le-ltb (p .thread) (net .threadcount) h)))
@@ -57,7 +57,7 @@ past-refused net p ok h =
 -- refused by a later check
 pub change-refused :
     (net : Net) (p : Pick) → T (sound (view net)) → p .thread < net .threadcount → {a : Answer} → saidOf a ≡ answerOf (outcomeAt (sceneOf (view net) p)) → {why : Refusal} → a ≡ Refused why →
-    answerOf (step (view net) p) ≡ refusing (numberOf why) []
+    answerOf (step (view net) p) ≡ saidOf (Refused why)
 change-refused net p ok there is says = ap answerOf (step-is net p ok there) ∙ sym is ∙ ap saidOf says
 
 -- ── a done step passed the checks ──
