@@ -1,9 +1,9 @@
-// The call for answers.
+// The call for the answers to all picks.
 use call_open::open_file;
 use call_rules::Opening;
 use call_rules::Reply;
 use call_rules::refusal_reply;
-use call_run::answers::answers_given;
+use call_run::answers_given;
 ghost use Rattle.call_rules.specs.Calls.{AnswersIs};
 
 pub fn call_answers(file: &[u8], picks: &[u8], out: &mut [u8]) -> Reply

@@ -1,10 +1,10 @@
-// The tables left after all picks, and the call for them.
+// The call for the tables that all picks leave.
 use call_open::open_file;
 use call_reply::reply_to;
 use call_rules::Opening;
 use call_rules::Reply;
 use call_rules::refusal_reply;
-use call_run::running::run_picks;
+use call_run::run_picks;
 use nets::Net;
 use write::write;
 ghost use lib.Dec.{T};
@@ -14,6 +14,7 @@ ghost use Rattle.call_rules.specs.Layouts.{tablesPut};
 ghost use Rattle.step_bytes.specs.PickBytes.{picksIn};
 ghost use Rattle.call_rules.specs.Calls.{ifRoom, Gives, TablesIs};
 
+// Of a file and picks that are accepted.
 fn tables_left(net: Net, picks: &[u8], out: &mut [u8]) -> Reply
     requires { ⌜ T (sound (view net)) ⌝ }
     ensures { λ r. ⌜ Gives (ifRoom (tablesPut (view net) (picksIn (now (picks .entry)))) (now (out .entry))) (now (out .entry)) (now (out .exit)) (r .number) (r .place) ⌝ }

@@ -1,9 +1,10 @@
-// The threads left after all picks, and the call for them.
+// The call for the threads that all picks leave.
 use call_open::open_file;
 use call_rules::Opening;
 use call_rules::Reply;
 use call_rules::refusal_reply;
-use call_run::running::run_picks;
+use call_run::run_picks;
+use call_thread::THREAD;
 use call_thread::put_threads;
 use nets::Net;
 ghost use lib.Dec.{T};
@@ -13,13 +14,14 @@ ghost use Rattle.call_rules.specs.Layouts.{threadsPut};
 ghost use Rattle.step_bytes.specs.PickBytes.{picksIn};
 ghost use Rattle.call_rules.specs.Calls.{ifRoom, Gives, ThreadsIs};
 
+// Of a file and picks that are accepted.
 fn threads_left(net: Net, picks: &[u8], out: &mut [u8]) -> Reply
     requires { ⌜ T (sound (view net)) ⌝ }
     ensures { λ r. ⌜ Gives (ifRoom (threadsPut (view net) (picksIn (now (picks .entry)))) (now (out .entry))) (now (out .entry)) (now (out .exit)) (r .number) (r .place) ⌝ }
 {
     let left = run_picks(net, picks);
     let count = left.threadcount;
-    let size = count * 24;
+    let size = count * THREAD;
     if out.len() < size {
         return Reply {
             number: 21,

@@ -1,4 +1,4 @@
-// What a call replies to what was written.
+// The reply of a call that writes: the length written, or the number of the refusal.
 use call_rules::Reply;
 use files::Written;
 ghost use mathlib.Core.Path.{_≡_};

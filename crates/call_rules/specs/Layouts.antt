@@ -1,4 +1,4 @@
--- The bytes that calls hand out: of a net's tables, and of threads. Those of answers are in `picklists`.
+-- The bytes that calls hand out for a net's tables and for its threads. `step_bytes` has those of answers.
 use Prim.Native.Nat.{ℕ}
 use mathlib.Core.List.{List, [], _∷_, _++_, map}
 use lib.ListN.{length}

@@ -1,4 +1,4 @@
-// The reply to a file or picks that are refused.
+// What calls pass on between their parts: whether file and picks are accepted, and the number and place that a call replies.
 use nets::Net;
 ghost use mathlib.Core.Path.{_≡_};
 ghost use Rattle.call_rules.specs.Openings.{refusalReply};

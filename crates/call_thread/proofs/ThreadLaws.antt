@@ -6,7 +6,7 @@ use mathlib.Core.List.{List, [], _∷_, _++_, map, append-assoc, append-nil}
 use native.Mathlib.Omega.{arith}
 use native.Mathlib.Numerals.{add-one}
 use lib.ListN.{length, drop, getD, set, drop-of-length-le}
-use lib.Seq.{sets, set-at, drop-cons}
+use lib.Seq.{set-at, drop-cons}
 use borrow.Rule.Slice.PartMut.{putMid}
 use Rattle.values.specs.Lists.{bit, among, places, firsts}
 use Rattle.values.proofs.Firsts.{map-firsts}
@@ -20,7 +20,7 @@ use Rattle.nets.specs.View.{noThread, entryOf, threadOf, threadsOf}
 use Rattle.step_loop.proofs.MarkLaws.{marked-among}
 use Rattle.step_thread.proofs.ThreadLaws.{length-stack}
 use Rattle.value_bytes.specs.Bytes.{endToEnd}
-use Rattle.value_bytes.proofs.Stores.{all-stored, part-written, ends-more, ends-all}
+use Rattle.value_bytes.proofs.Stores.{part-written, ends-more, ends-all}
 use Rattle.call_rules.specs.Layouts.{entryKind, toVisit, visitBytes, headBytes, threadBytes}
 
 -- ── the rows still to visit ──
@@ -64,9 +64,9 @@ visit-over f o out i a b l e =
 
 -- ── one thread ──
 
-pub head-stored : (o : List ℕ) (s d k n : ℕ) (e : M.Entry) → length o ≡ 8 → k ≡ entryKind e → n ≡ entryNode e → sets o 0 (s ∷ d ∷ k ∷ n ∷ 0 ∷ 0 ∷ 0 ∷ 0 ∷ []) ≡ headBytes s d e
+pub head-is : (s d k n : ℕ) (e : M.Entry) (out : List ℕ) → out ≡ s ∷ d ∷ k ∷ n ∷ 0 ∷ 0 ∷ 0 ∷ 0 ∷ [] → k ≡ entryKind e → n ≡ entryNode e → out ≡ headBytes s d e
 unfolding headBytes
-head-stored o s d k n e l hk hn = all-stored o (s ∷ d ∷ k ∷ n ∷ 0 ∷ 0 ∷ 0 ∷ 0 ∷ []) l ∙ rw (hk, hn)
+head-is s d k n e out h hk hn = rw (h, hk, hn)
 
 head-length : (s d : ℕ) (e : M.Entry) → length (headBytes s d e) ≡ 8
 unfolding headBytes

@@ -1,10 +1,11 @@
-// Threads put into their bytes.
+// Threads as bytes: for each its site, depth, top entry and node, and a byte for each row that the entry has still to visit.
 use nets::Entry;
 use nets::Frame;
 use nets::Thread;
 use step_thread::node_of;
 use step_thread::top_frame;
 use values::Site;
+use write_fields::put_eight;
 ghost use mathlib.Core.Path.{_≡_};
 ghost use mathlib.Core.List.{map};
 ghost use Prim.Native.Nat.{_*_, _<_, _≤_};
@@ -16,6 +17,11 @@ ghost use Rattle.step_thread.specs.Contracts.{Stacked};
 ghost use Rattle.call_rules.specs.Layouts.{entryKind, toVisit, visitBytes, headBytes, threadBytes};
 ghost use Rattle.call_rules.specs.Openings.{AllStacked};
 
+// How many bytes a thread has, and where those of the rows still to visit begin.
+pub const THREAD: usize = 24;
+
+const VISIT: usize = 8;
+
 // ---- one thread
 
 fn one_if(b: bool) -> u8
@@ -24,7 +30,7 @@ fn one_if(b: bool) -> u8
     if b { 1 } else { 0 }
 }
 
-// 1 for a row still to visit.
+// 1 for a row still to visit, 0 for any other.
 fn flag_of(f: Frame, i: usize) -> u8
     requires { ⌜ i < 16 ⌝ }
     ensures { λ r. ⌜ r ≡ bit (among i (toVisit (entryOf f))) ⌝ }
@@ -47,7 +53,8 @@ fn put_visit(out: &mut [u8], f: Frame)
     }
 }
 
-fn kind_of(f: Frame) -> u8
+// 0 for a node to run, 1 for a loop.
+fn entry_kind(f: Frame) -> u8
     ensures { λ r. ⌜ r ≡ entryKind (entryOf f) ⌝ }
 {
     let e = f.entry;
@@ -61,14 +68,17 @@ fn put_head(out: &mut [u8], site: Site, depth: usize, f: Frame)
     requires { ⌜ (length (now out) ≡ 8) × (depth ≤ 8) ⌝ }
     ensures { λ _. ⌜ now (out .exit) ≡ headBytes (site .0) depth (entryOf f) ⌝ }
 {
-    out[0] = site.0;
-    out[1] = depth as u8;
-    out[2] = kind_of(f);
-    out[3] = node_of(f);
-    out[4] = 0;
-    out[5] = 0;
-    out[6] = 0;
-    out[7] = 0;
+    put_eight(
+        out,
+        site.0,
+        depth as u8,
+        entry_kind(f),
+        node_of(f),
+        0,
+        0,
+        0,
+        0,
+    );
 }
 
 fn put_thread(out: &mut [u8], t: Thread)
@@ -76,8 +86,8 @@ fn put_thread(out: &mut [u8], t: Thread)
     ensures { λ _. ⌜ now (out .exit) ≡ threadBytes (threadOf t) ⌝ }
 {
     let f = top_frame(t);
-    put_head(&mut out[0..8], t.site, t.depth, f);
-    put_visit(&mut out[8..24], f);
+    put_head(&mut out[0..VISIT], t.site, t.depth, f);
+    put_visit(&mut out[VISIT..THREAD], f);
 }
 
 // ---- all threads
@@ -88,7 +98,7 @@ pub fn put_threads(out: &mut [u8], threads: [Thread; 8], count: usize)
 {
     let mut i = 0;
     while i < count {
-        put_thread(&mut out[i * 24..i * 24 + 24], threads[i]);
+        put_thread(&mut out[i * THREAD..i * THREAD + THREAD], threads[i]);
         i += 1;
     }
 }

@@ -1,11 +1,12 @@
 // Reads a file of records on standard input, carries out its picks, and prints each pick's answer and then the tables left.
 use files::Verdict;
+use libc::STDIN_FILENO;
 use load::length_fault;
 use load::load;
 use nets::Net;
 use nets::Pick;
 use print_lines::faults::print_fault;
-use print_lines::input::read_input;
+use print_lines::input::count_rest;
 use print_lines::lines::put_picks;
 use print_lines::lines::put_tables;
 use print_lines::pages::at_most;
@@ -63,9 +64,9 @@ fn print_file(file: &[u8]) {
 
 fn main() {
     let mut file = io::large_buffer();
-    let n = read_input(&mut file);
-    if 65536 <= n {
-        let fault = length_fault(n);
+    let n = io::read_full(STDIN_FILENO, &mut file);
+    if n == 65536 {
+        let fault = length_fault(n + count_rest(&mut file));
         print_fault(fault.number, fault.place);
         return;
     }

@@ -1,12 +1,13 @@
 // Reads a file of records on standard input, runs its picks as one run, and prints the sums of the counts and then the tables left.
 use files::Loaded;
 use files::Verdict;
+use libc::STDIN_FILENO;
 use load::length_fault;
 use load::load;
 use nets::Net;
 use nets::Pick;
 use print_lines::faults::print_fault;
-use print_lines::input::read_input;
+use print_lines::input::count_rest;
 use print_lines::lines::put_tables;
 use print_lines::pages::at_most;
 use print_lines::pages::put_byte;
@@ -82,9 +83,9 @@ fn print_loaded(loaded: Loaded) {
 
 fn main() {
     let mut file = io::large_buffer();
-    let n = read_input(&mut file);
-    if 65536 <= n {
-        let fault = length_fault(n);
+    let n = io::read_full(STDIN_FILENO, &mut file);
+    if n == 65536 {
+        let fault = length_fault(n + count_rest(&mut file));
         print_fault(fault.number, fault.place);
         return;
     }

@@ -12,6 +12,9 @@ ghost use mathlib.Core.Path.{_≡_};
 ghost use Prim.Native.Nat.{_*_, _<_, _≤_};
 ghost use lib.ListN.{length};
 
+// How many bytes an answer has.
+const ANSWER: usize = 24;
+
 // "done" with the rows added and taken, or "no" with the number of the refusal; number 0 is done.
 fn put_said(page: &mut [u8; 4096], at: usize, number: u64, added: u64, taken: u64) -> usize
     requires { ⌜ at ≤ 4096 ⌝ }
@@ -63,7 +66,7 @@ fn put_pick(page: &mut [u8; 4096], at: usize, i: usize, answer: &[u8]) -> usize
 {
     let number = number_in(&answer[0..8]);
     let added = number_in(&answer[8..16]);
-    let taken = number_in(&answer[16..24]);
+    let taken = number_in(&answer[16..ANSWER]);
     let mut place = put_bytes(page, at, b"pick ");
     place = put_decimal(page, place, i as u64);
     place = put_byte(page, place, b' ');
@@ -79,7 +82,7 @@ pub fn put_picks(page: &mut [u8; 4096], at: usize, answers: &[u8], count: usize)
     let mut place = at;
     let mut i: usize = 0;
     while i < count {
-        place = put_pick(page, place, i, &answers[i * 24..i * 24 + 24]);
+        place = put_pick(page, place, i, &answers[i * ANSWER..i * ANSWER + ANSWER]);
         i += 1;
     }
     place

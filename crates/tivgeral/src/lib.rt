@@ -1,10 +1,10 @@
 // The engine for programs in C and Rust: a net file and picks in, bytes out. Every call answers every input.
 use call_each::answers::call_answers;
-use call_each::left::call_threads;
 use call_each::tables::call_tables;
+use call_each::threads::call_threads;
 ghost use Rattle.call_rules.specs.Calls.{TablesIs, AnswersIs, ThreadsIs};
 
-// The tables after all picks, as records that load again.
+// The tables left after all picks, as records that load again.
 #[no_mangle]
 pub extern "C" fn tivgeral_tables(
     file: &[u8],
@@ -34,7 +34,7 @@ pub extern "C" fn tivgeral_answers(
     reply.number
 }
 
-// The threads standing after all picks.
+// The threads left after all picks.
 #[no_mangle]
 pub extern "C" fn tivgeral_threads(
     file: &[u8],

@@ -1,6 +1,7 @@
 // All tables of a net, then their rows table by table, as records in a lent buffer that has room for them.
 use files::Written;
 use nets::Table;
+use record_bytes::RECORD;
 use write_puts::put_rows;
 use write_puts::put_table;
 ghost use mathlib.Core.Path.{_≡_};
@@ -42,7 +43,7 @@ fn put_tables(out: &mut [u8], tables: [Table; 8], count: usize)
     while i < count {
         let t = tables[i];
         let c = t.content;
-        put_table(&mut out[i * 104..i * 104 + 104], t.site, t.name, c);
+        put_table(&mut out[i * RECORD..i * RECORD + RECORD], t.site, t.name, c);
         i += 1;
     }
 }
@@ -57,7 +58,7 @@ fn put_contents(out: &mut [u8], tables: [Table; 8], count: usize)
     while i < count {
         let t = tables[i];
         let c = t.content;
-        let end = at + c.count * 104;
+        let end = at + c.count * RECORD;
         put_rows(&mut out[at..end], t.site, t.name, c);
         at = end;
         i += 1;
@@ -69,8 +70,8 @@ pub fn write_tables(out: &mut [u8], tables: [Table; 8], count: usize) -> Written
     requires { ⌜ (count ≤ 8) × T (all tableOk (tablesOf count tables)) ⌝ }
     ensures { λ r. ⌜ (saidWritten r ≡ writtenAnswer (ifRoom (written (tablesOf count tables)) (now (out .entry)))) × (now (out .exit) ≡ bufferAfter (now (out .entry)) (ifRoom (written (tablesOf count tables)) (now (out .entry)))) ⌝ }
 {
-    let heads = count * 104;
-    let size = heads + total_rows(tables, count) * 104;
+    let heads = count * RECORD;
+    let size = heads + total_rows(tables, count) * RECORD;
     if out.len() < size {
         return Written::Short;
     }

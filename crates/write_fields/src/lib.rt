@@ -1,4 +1,5 @@
-// Fields of records written, each into its bytes.
+// Fields of table and row records, each written into its own bytes.
+use record_bytes::OPERAND;
 use rows::Row;
 use values::Site;
 use values::Value;
@@ -22,7 +23,7 @@ fn bits(n: i32) -> u32
     }
 }
 
-// Zeros, `n` of them.
+// Fills the part, which has `n` bytes, with zeros.
 pub fn clear(out: &mut [u8], n: usize)
     requires { ⌜ length (now out) ≡ n ⌝ }
     ensures { λ _. ⌜ now (out .exit) ≡ replicate n 0 ⌝ }
@@ -34,21 +35,22 @@ pub fn clear(out: &mut [u8], n: usize)
     }
 }
 
-// A tag and four value bytes.
-fn put_eight(out: &mut [u8], tag: u8, a: u8, b: u8, c: u8, d: u8)
+// Eight bytes in their order.
+pub fn put_eight(out: &mut [u8], a: u8, b: u8, c: u8, d: u8, e: u8, f: u8, g: u8, h: u8)
     requires { ⌜ length (now out) ≡ 8 ⌝ }
-    ensures { λ _. ⌜ now (out .exit) ≡ tag ∷ 0 ∷ 0 ∷ 0 ∷ a ∷ b ∷ c ∷ d ∷ [] ⌝ }
+    ensures { λ _. ⌜ now (out .exit) ≡ a ∷ b ∷ c ∷ d ∷ e ∷ f ∷ g ∷ h ∷ [] ⌝ }
 {
-    out[0] = tag;
-    out[1] = 0;
-    out[2] = 0;
-    out[3] = 0;
-    out[4] = a;
-    out[5] = b;
-    out[6] = c;
-    out[7] = d;
+    out[0] = a;
+    out[1] = b;
+    out[2] = c;
+    out[3] = d;
+    out[4] = e;
+    out[5] = f;
+    out[6] = g;
+    out[7] = h;
 }
 
+// A value as an operand: its tag, three zeros, and four value bytes.
 fn put_value(out: &mut [u8], v: Value)
     requires { ⌜ length (now out) ≡ 8 ⌝ }
     ensures { λ _. ⌜ now (out .exit) ≡ operandBytes v ⌝ }
@@ -59,6 +61,9 @@ fn put_value(out: &mut [u8], v: Value)
             put_eight(
                 out,
                 1,
+                0,
+                0,
+                0,
                 (b % 256) as u8,
                 (b / 256 % 256) as u8,
                 (b / 65536 % 256) as u8,
@@ -69,6 +74,9 @@ fn put_value(out: &mut [u8], v: Value)
             put_eight(
                 out,
                 2,
+                0,
+                0,
+                0,
                 (t / 16777216 % 256) as u8,
                 (t / 65536 % 256) as u8,
                 (t / 256 % 256) as u8,
@@ -76,7 +84,7 @@ fn put_value(out: &mut [u8], v: Value)
             );
         }
         Value::Loc(l) => {
-            put_eight(out, 3, l.0, 0, 0, 0);
+            put_eight(out, 3, 0, 0, 0, l.0, 0, 0, 0);
         }
     }
 }
@@ -91,26 +99,29 @@ pub fn put_tuple(out: &mut [u8], row: Row, columns: usize)
     while i < columns {
         let c = row.cells[i];
         let v = c.value;
-        put_value(&mut out[i * 8..i * 8 + 8], v);
+        put_value(&mut out[i * OPERAND..i * OPERAND + OPERAND], v);
         i += 1;
     }
 }
 
 // ---- records
 
-// Kind, site, two zeros, name.
+// The first eight bytes of a record: kind, site, two zeros, name.
 pub fn put_start(out: &mut [u8], kind: u8, site: Site, name: u32)
     requires { ⌜ length (now out) ≡ 8 ⌝ }
     ensures { λ _. ⌜ now (out .exit) ≡ startBytes kind site name ⌝ }
 {
-    out[0] = kind;
-    out[1] = site.0;
-    out[2] = 0;
-    out[3] = 0;
-    out[4] = (name / 16777216 % 256) as u8;
-    out[5] = (name / 65536 % 256) as u8;
-    out[6] = (name / 256 % 256) as u8;
-    out[7] = (name % 256) as u8;
+    put_eight(
+        out,
+        kind,
+        site.0,
+        0,
+        0,
+        (name / 16777216 % 256) as u8,
+        (name / 65536 % 256) as u8,
+        (name / 256 % 256) as u8,
+        (name % 256) as u8,
+    );
 }
 
 // The kind of a column, 0 past the last one.

@@ -1,4 +1,9 @@
-// One table or row written as a 104-byte record, and the rows of one table.
+// A table or a row written as a record, and the rows of one table.
+use record_bytes::KINDS;
+use record_bytes::KINDS_END;
+use record_bytes::LEFT;
+use record_bytes::RECORD;
+use record_bytes::TUPLE;
 use rows::Relation;
 use rows::Row;
 use values::Site;
@@ -19,10 +24,10 @@ fn put_row(out: &mut [u8], site: Site, name: u32, row: Row, columns: usize)
     requires { ⌜ (length (now out) ≡ 104) × (columns ≤ 4) ⌝ }
     ensures { λ _. ⌜ now (out .exit) ≡ rowBytes site name (valuesOf columns row) ⌝ }
 {
-    put_start(&mut out[0..8], 3, site, name);
-    clear(&mut out[8..56], 48);
-    put_tuple(&mut out[56..88], row, columns);
-    clear(&mut out[88..104], 16);
+    put_start(&mut out[0..KINDS], 3, site, name);
+    clear(&mut out[KINDS..TUPLE], TUPLE - KINDS);
+    put_tuple(&mut out[TUPLE..LEFT], row, columns);
+    clear(&mut out[LEFT..RECORD], RECORD - LEFT);
 }
 
 // A table record, of the table's site, name and content.
@@ -31,9 +36,9 @@ pub fn put_table(out: &mut [u8], site: Site, name: u32, content: Relation)
     ensures { λ _. ⌜ now (out .exit) ≡ tableBytes (record { site = site; name = name; content = relationOf content }) ⌝ }
 {
     let kinds = content.kinds;
-    put_start(&mut out[0..8], 2, site, name);
-    put_columns(&mut out[8..12], content.columns, kinds);
-    clear(&mut out[12..104], 92);
+    put_start(&mut out[0..KINDS], 2, site, name);
+    put_columns(&mut out[KINDS..KINDS_END], content.columns, kinds);
+    clear(&mut out[KINDS_END..RECORD], RECORD - KINDS_END);
 }
 
 // The row records of a table.
@@ -45,7 +50,7 @@ pub fn put_rows(out: &mut [u8], site: Site, name: u32, content: Relation)
     let mut i = 0;
     while i < n {
         put_row(
-            &mut out[i * 104..i * 104 + 104],
+            &mut out[i * RECORD..i * RECORD + RECORD],
             site,
             name,
             content.rows[i],

@@ -13,8 +13,5 @@ use Rattle.call_open.proofs.opening_by.Tie as tie
 as-fault : (v : Verdict) (n i : ℕ) → v ≡ verdict.Fault n i → Refused (Fault n i) ≡ openingBy v
 as-fault v n i e = rw e
 
-returns-2 : tie.Need-returns-2
-returns-2 c = search as-fault
-
 pub opening-by-spec : {M : Type 1} → statement M
-opening-by-spec = tie.close (tie.spec (λ c. search needs) (λ c. search needs) (λ c. search needs) returns-2)
+opening-by-spec = tie.close (tie.spec (λ c. search needs) (λ c. search needs) (λ c. search needs) (λ c. search as-fault))

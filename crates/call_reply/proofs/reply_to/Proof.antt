@@ -17,15 +17,6 @@ as-unsound w e = rw e
 as-short : (w : Written) → w ≡ Short → record { number = 21; place = 0 } ≡ replyTo w
 as-short w e = rw e
 
-returns : tie.Need-returns
-returns c = search as-length
-
-returns-2 : tie.Need-returns-2
-returns-2 c = search as-unsound
-
-returns-3 : tie.Need-returns-3
-returns-3 c = search as-short
-
 pub reply-to-spec : {M : Type 1} → statement M
 reply-to-spec =
-    tie.close (tie.spec (λ c. search needs) (λ c. search needs) (λ c. search needs) returns returns-2 returns-3)
+    tie.close (tie.spec (λ c. search needs) (λ c. search needs) (λ c. search needs) (λ c. search as-length) (λ c. search as-unsound) (λ c. search as-short))

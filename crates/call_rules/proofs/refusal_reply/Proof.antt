@@ -15,11 +15,5 @@ as-fault why n i e = rw e
 as-odd : (why : NotOpened) → why ≡ OddPicks → record { number = oddPicksNumber; place = 0 } ≡ refusalReply why
 as-odd why e = rw e
 
-returns : tie.Need-returns
-returns c = search as-fault
-
-returns-2 : tie.Need-returns-2
-returns-2 c = search as-odd
-
 pub refusal-reply-spec : {M : Type 1} → statement M
-refusal-reply-spec = tie.close (tie.spec (λ c. search needs) (λ c. search needs) returns returns-2)
+refusal-reply-spec = tie.close (tie.spec (λ c. search needs) (λ c. search needs) (λ c. search as-fault) (λ c. search as-odd))

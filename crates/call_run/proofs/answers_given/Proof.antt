@@ -1,4 +1,4 @@
--- `call_run::answers::answers_given` meets its contract: too little room, or all answers and then the bytes that stood there. Assumes nothing.
+-- `call_run::answers_given` meets its contract: too little room, or all answers and then the bytes that stood there. Assumes nothing.
 use Prim.Native.Nat.{ℕ, _*_, _/_, _<_, _≤_, _^_}
 use mathlib.Core.Path.{_≡_, sym, ap, _∙_}
 use mathlib.Core.Bool.{true, false}
@@ -17,8 +17,8 @@ use Rattle.step_bytes.proofs.PickLaws.{picks-length}
 use Rattle.step_bytes.proofs.AnswerLaws.{answers-size}
 use Rattle.call_rules.specs.Calls.{ifRoom, Gives}
 use Rattle.call_rules.proofs.CallLaws.{gives-short, gives-all}
-use Rattle.call_run.proofs.answers.answers_given.Statement.{statement}
-use Rattle.call_run.proofs.answers.answers_given.Tie as tie
+use Rattle.call_run.proofs.answers_given.Statement.{statement}
+use Rattle.call_run.proofs.answers_given.Tie as tie
 
 module _ (m : Net) (picks o : List ℕ) where
   size : length (answersPut m (picksIn picks)) ≡ length picks / 2 * 24

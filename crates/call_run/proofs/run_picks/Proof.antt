@@ -1,4 +1,4 @@
--- `call_run::running::run_picks` meets its contract: all picks carried out. Assumes nothing.
+-- `call_run::run_picks` meets its contract: all picks carried out. Assumes nothing.
 use mathlib.Core.Path.{_≡_, sym, subst}
 use borrow.Author.Needs.{needs}
 use lib.Dec.{T}
@@ -7,8 +7,8 @@ use Rattle.nets.specs.Sound.{sound}
 use Rattle.nets.specs.Accounts.{after}
 use Rattle.nets.specs.View.{view}
 use Rattle.step_bytes.specs.PickBytes.{picksIn}
-use Rattle.call_run.proofs.running.run_picks.Statement.{statement}
-use Rattle.call_run.proofs.running.run_picks.Tie as tie
+use Rattle.call_run.proofs.run_picks.Statement.{statement}
+use Rattle.call_run.proofs.run_picks.Tie as tie
 
 returns : tie.Need-returns
 returns c =

@@ -4,10 +4,7 @@ use Rattle.call_thread.proofs.ThreadLaws.{flag-here}
 use Rattle.call_thread.proofs.flag_of.Statement.{statement}
 use Rattle.call_thread.proofs.flag_of.Tie as tie
 
-returns-2 : tie.Need-returns-2
-returns-2 c = search flag-here
-
 pub flag-of-spec : {M : Type 1} → statement M
 flag-of-spec =
     tie.close
-    (tie.spec (λ c. search needs) (λ c. search needs) (λ c. search needs) (λ c κs. search needs) (λ c. search needs) returns-2)
+    (tie.spec (λ c. search needs) (λ c. search needs) (λ c. search needs) (λ c κs. search needs) (λ c. search needs) (λ c. search flag-here))

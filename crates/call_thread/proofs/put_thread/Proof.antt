@@ -4,9 +4,6 @@ use Rattle.call_thread.proofs.ThreadLaws.{thread-parts}
 use Rattle.call_thread.proofs.put_thread.Statement.{statement}
 use Rattle.call_thread.proofs.put_thread.Tie as tie
 
-returns : tie.Need-returns
-returns c = search thread-parts
-
 pub put-thread-spec : {M : Type 1} → statement M
 put-thread-spec =
     tie.close
@@ -21,4 +18,4 @@ put-thread-spec =
     (λ c. search needs)
     (λ c κs. search needs)
     (λ c. search needs)
-    returns)
+    (λ c. search thread-parts))

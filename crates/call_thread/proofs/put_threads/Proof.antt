@@ -19,18 +19,9 @@ Inv-loop out₀ count threads i₀ out i = (i ≤ count) × (length out ≡ coun
 abbrev μ-loop : tie.MeasureT-loop
 μ-loop out₀ count threads i₀ out i = count - i
 
-loop-holds : tie.Need-loop-holds Inv-loop μ-loop
-loop-holds c = (omega arith, omega arith, refl)
-
 put-thread-requires : tie.Need-put-thread-requires Inv-loop μ-loop
 put-thread-requires c κs =
     (simp (length-take, length-drop) (omega arith), c .before .before .before .before .before .pre .1 (c .before .before .before .loop .i) (omega arith))
-
-loop-again : tie.Need-loop-again Inv-loop μ-loop
-loop-again c = (omega arith, search kept-length, search thread-more)
-
-returns : tie.Need-returns Inv-loop μ-loop
-returns c = search threads-over
 
 pub put-threads-spec : {M : Type 1} → statement M
 put-threads-spec =
@@ -38,7 +29,7 @@ put-threads-spec =
     (tie.spec
     Inv-loop
     μ-loop
-    loop-holds
+    (λ c. (omega arith, omega arith, refl))
     (λ c. search needs)
     (λ c. search needs)
     (λ c. search needs)
@@ -50,6 +41,6 @@ put-threads-spec =
     put-thread-requires
     (λ c. search needs)
     (λ c. search needs)
-    loop-again
+    (λ c. (omega arith, search kept-length, search thread-more))
     (λ c. search needs)
-    returns)
+    (λ c. search threads-over))

@@ -21,12 +21,6 @@ loop-holds : tie.Need-loop-holds Inv-loop μ-loop
 unfolding visited
 loop-holds c = (omega arith, omega arith, omega arith, refl)
 
-loop-again : tie.Need-loop-again Inv-loop μ-loop
-loop-again c = (omega arith, simp length-set (omega arith), omega arith, search visit-more)
-
-returns : tie.Need-returns Inv-loop μ-loop
-returns c = search visit-over
-
 pub put-visit-spec : {M : Type 1} → statement M
 put-visit-spec =
     tie.close
@@ -38,6 +32,6 @@ put-visit-spec =
     (λ c. search needs)
     (λ c. search needs)
     (λ c. search needs)
-    loop-again
+    (λ c. (omega arith, simp length-set (omega arith), omega arith, search visit-more))
     (λ c. search needs)
-    returns)
+    (λ c. search visit-over))

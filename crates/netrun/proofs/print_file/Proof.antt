@@ -17,16 +17,13 @@ use Rattle.netrun.proofs.print_file.Tie as tie
 loaded-sound : (file : List ℕ) (l : Loaded) → LoadIs file l → l .verdict ≡ Accepted → T (sound (view (l .net)))
 loaded-sound file l is e = rw (is .net) (file-loaded file (verdict-accepts file l is e) .isSound)
 
-print-run-requires : tie.Need-print-run-requires
-print-run-requires c κs = search loaded-sound
-
 pub print-file-spec : {M : Type 1} → statement M
 print-file-spec =
     tie.close
     (tie.spec
     (λ c κs. search needs)
     (λ c. search needs)
-    print-run-requires
+    (λ c κs. search loaded-sound)
     (λ c. search needs)
     (λ c κs. search needs)
     (λ c. search needs)

@@ -55,15 +55,6 @@ module _ (net : Net) (b : Bool) (e : b ≡ sound (view net)) where
   unsound-buffer : (o : List ℕ) → b ≡ false → o ≡ bufferAfter o (write (view net) o)
   unsound-buffer o h = rw (write-unsound (view net) o (sym e ∙ h))
 
-write-tables-requires : tie.Need-write-tables-requires
-write-tables-requires c κs = (search few, search ranged)
-
-returns : tie.Need-returns
-returns c = record { answer = search sound-answer; buffer = search sound-buffer }
-
-returns-2 : tie.Need-returns-2
-returns-2 c = record { answer = search unsound-answer; buffer = search unsound-buffer }
-
 pub write-spec : {M : Type 1} → statement M
 write-spec =
-    tie.close (tie.spec (λ c κs. search needs) write-tables-requires (λ c. search needs) returns returns-2)
+    tie.close (tie.spec (λ c κs. search needs) (λ c κs. (search few, search ranged)) (λ c. search needs) (λ c. record { answer = search sound-answer; buffer = search sound-buffer }) (λ c. record { answer = search unsound-answer; buffer = search unsound-buffer }))

@@ -25,25 +25,16 @@ Inv-loop out₀ n i₀ out i = (i ≤ n) × (length out ≡ n) × (length out₀
 abbrev μ-loop : tie.MeasureT-loop
 μ-loop out₀ n i₀ out i = n - i
 
-loop-holds : tie.Need-loop-holds Inv-loop μ-loop
-loop-holds c = (omega arith, omega arith, omega arith, refl)
-
-loop-again : tie.Need-loop-again Inv-loop μ-loop
-loop-again c = (omega arith, simp length-set (omega arith), omega arith, search one-more)
-
-returns : tie.Need-returns Inv-loop μ-loop
-returns c = search ended
-
 pub clear-spec : {M : Type 1} → statement M
 clear-spec =
     tie.close
     (tie.spec
     Inv-loop
     μ-loop
-    loop-holds
+    (λ c. (omega arith, omega arith, omega arith, refl))
     (λ c. search needs)
     (λ c. search needs)
     (λ c. search needs)
-    loop-again
+    (λ c. (omega arith, simp length-set (omega arith), omega arith, search one-more))
     (λ c. search needs)
-    returns)
+    (λ c. search ended))

@@ -16,11 +16,5 @@ inside n ks i h = sym (firsts-at (λ (k : ℕ). k) 0 n ks i 0 h)
 past : (n : ℕ) (ks : List ℕ) (i : ℕ) → n ≤ i → 0 ≡ getD (columnsOf n ks) i 0
 past n ks i h = sym (List·getD-eq-default (columnsOf n ks) 0 {n = i} (omega (arith, length-firsts (λ (k : ℕ). k) 0 n ks)))
 
-returns : tie.Need-returns
-returns c = search inside
-
-returns-2 : tie.Need-returns-2
-returns-2 c = search past
-
 pub kind-at-spec : {M : Type 1} → statement M
-kind-at-spec = tie.close (tie.spec (λ c. search needs) returns returns-2)
+kind-at-spec = tie.close (tie.spec (λ c. search needs) (λ c. search inside) (λ c. search past))

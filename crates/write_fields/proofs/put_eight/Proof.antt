@@ -9,7 +9,7 @@ use Rattle.write_fields.proofs.put_eight.Statement.{statement}
 use Rattle.write_fields.proofs.put_eight.Tie as tie
 
 returns : tie.Need-returns
-returns c = all-stored (now (c .args .out)) (c .args .tag ∷ 0 ∷ 0 ∷ 0 ∷ c .args .a ∷ c .args .b ∷ c .args .c ∷ c .args .d ∷ []) (c .pre)
+returns c = let a = c .args in all-stored (now (a .out)) (a .a ∷ a .b ∷ a .c ∷ a .d ∷ a .e ∷ a .f ∷ a .g ∷ a .h ∷ []) (c .pre)
 
 pub put-eight-spec : {M : Type 1} → statement M
 put-eight-spec =

@@ -31,17 +31,8 @@ Inv-loop out₀ columns row i₀ out i = (i ≤ columns) × (columns ≤ 4) × (
 abbrev μ-loop : tie.MeasureT-loop
 μ-loop out₀ columns row i₀ out i = columns - i
 
-loop-holds : tie.Need-loop-holds Inv-loop μ-loop
-loop-holds c = (omega arith, omega arith, omega arith, c .before .before .clear .ensures, refl)
-
-put-value-requires : tie.Need-put-value-requires Inv-loop μ-loop
-put-value-requires c κs = simp (length-take, length-drop) (omega arith)
-
 loop-again : tie.Need-loop-again Inv-loop μ-loop
 loop-again c = (omega arith, omega arith, search kept-length, c .before .before .before .before .before .before .loop .inv .3, search one-more)
-
-returns : tie.Need-returns Inv-loop μ-loop
-returns c = search ended
 
 pub put-tuple-spec : {M : Type 1} → statement M
 put-tuple-spec =
@@ -50,7 +41,7 @@ put-tuple-spec =
     Inv-loop
     μ-loop
     (λ c κs. search needs)
-    loop-holds
+    (λ c. (omega arith, omega arith, omega arith, c .before .before .clear .ensures, refl))
     (λ c. search needs)
     (λ c. search needs)
     (λ c. search needs)
@@ -59,9 +50,9 @@ put-tuple-spec =
     (λ c. search needs)
     (λ c. search needs)
     (λ c. search needs)
-    put-value-requires
+    (λ c κs. simp (length-take, length-drop) (omega arith))
     (λ c. search needs)
     (λ c. search needs)
     loop-again
     (λ c. search needs)
-    returns)
+    (λ c. search ended))

@@ -26,15 +26,6 @@ as-text v t out e o = rw (e, o)
 as-loc : (v : Value) (l : Locality) (out : List ℕ) → v ≡ Loc l → out ≡ 3 ∷ 0 ∷ 0 ∷ 0 ∷ l .0 ∷ 0 ∷ 0 ∷ 0 ∷ [] → out ≡ operandBytes v
 as-loc v l out e o = rw (e, o)
 
-returns : tie.Need-returns
-returns c = search (as-int, sfits-of)
-
-returns-2 : tie.Need-returns-2
-returns-2 c = search as-text
-
-returns-3 : tie.Need-returns-3
-returns-3 c = search as-loc
-
 pub put-value-spec : {M : Type 1} → statement M
 put-value-spec =
     tie.close
@@ -55,8 +46,8 @@ put-value-spec =
     (λ c. search needs)
     (λ c κs. search needs)
     (λ c. search needs)
-    returns
+    (λ c. search (as-int, sfits-of))
     (λ c. search needs)
-    returns-2
+    (λ c. search as-text)
     (λ c. search needs)
-    returns-3)
+    (λ c. search as-loc))

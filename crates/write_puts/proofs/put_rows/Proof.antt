@@ -39,25 +39,13 @@ Inv-loop out₀ site name content n i₀ out i = (i ≤ n) × (n ≡ content .co
 abbrev μ-loop : tie.MeasureT-loop
 μ-loop out₀ site name content n i₀ out i = n - i
 
-loop-holds : tie.Need-loop-holds Inv-loop μ-loop
-loop-holds c = (omega arith, refl, omega arith, refl)
-
-put-row-requires : tie.Need-put-row-requires Inv-loop μ-loop
-put-row-requires c κs = (simp (length-take, length-drop) (omega arith), omega arith)
-
-loop-again : tie.Need-loop-again Inv-loop μ-loop
-loop-again c = (omega arith, refl, search kept-length, search one-more)
-
-returns : tie.Need-returns Inv-loop μ-loop
-returns c = search ended
-
 pub put-rows-spec : {M : Type 1} → statement M
 put-rows-spec =
     tie.close
     (tie.spec
     Inv-loop
     μ-loop
-    loop-holds
+    (λ c. (omega arith, refl, omega arith, refl))
     (λ c. search needs)
     (λ c. search needs)
     (λ c. search needs)
@@ -66,9 +54,9 @@ put-rows-spec =
     (λ c. search needs)
     (λ c. search needs)
     (λ c. search needs)
-    put-row-requires
+    (λ c κs. (simp (length-take, length-drop) (omega arith), omega arith))
     (λ c. search needs)
     (λ c. search needs)
-    loop-again
+    (λ c. (omega arith, refl, search kept-length, search one-more))
     (λ c. search needs)
-    returns)
+    (λ c. search ended))

@@ -4,15 +4,6 @@ use Rattle.call_rules.proofs.CallLaws.{call-sound, call-refused, call-given}
 use Rattle.call_each.proofs.answers.call_answers.Statement.{statement}
 use Rattle.call_each.proofs.answers.call_answers.Tie as tie
 
-answers-given-requires : tie.Need-answers-given-requires
-answers-given-requires c κs = search call-sound
-
-returns : tie.Need-returns
-returns c = search call-refused
-
-returns-2 : tie.Need-returns-2
-returns-2 c = search call-given
-
 pub call-answers-spec : {M : Type 1} → statement M
 call-answers-spec =
     tie.close
@@ -21,7 +12,7 @@ call-answers-spec =
     (λ c. search needs)
     (λ c κs. search needs)
     (λ c. search needs)
-    answers-given-requires
-    returns
+    (λ c κs. search call-sound)
+    (λ c. search call-refused)
     (λ c. search needs)
-    returns-2)
+    (λ c. search call-given))

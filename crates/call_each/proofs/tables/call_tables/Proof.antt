@@ -4,15 +4,6 @@ use Rattle.call_rules.proofs.CallLaws.{call-sound, call-refused, call-given}
 use Rattle.call_each.proofs.tables.call_tables.Statement.{statement}
 use Rattle.call_each.proofs.tables.call_tables.Tie as tie
 
-tables-left-requires : tie.Need-tables-left-requires
-tables-left-requires c κs = search call-sound
-
-returns : tie.Need-returns
-returns c = search call-refused
-
-returns-2 : tie.Need-returns-2
-returns-2 c = search call-given
-
 pub call-tables-spec : {M : Type 1} → statement M
 call-tables-spec =
     tie.close
@@ -21,7 +12,7 @@ call-tables-spec =
     (λ c. search needs)
     (λ c κs. search needs)
     (λ c. search needs)
-    tables-left-requires
-    returns
+    (λ c κs. search call-sound)
+    (λ c. search call-refused)
     (λ c. search needs)
-    returns-2)
+    (λ c. search call-given))

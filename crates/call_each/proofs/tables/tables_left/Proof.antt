@@ -25,10 +25,7 @@ left : (net : Net) (ps : List Pick) (n : Code.Net) (w : Written) (r : Reply) (o 
 unfolding tablesPut
 left net ps n w r o out h is e = rw (e, sym (h .0)) (wrote-all w (view n) o out (h .1) (is .answer) (is .buffer))
 
-returns : tie.Need-returns
-returns c = search left
-
 pub tables-left-spec : {M : Type 1} → statement M
 tables-left-spec =
     tie.close
-    (tie.spec (λ c κs. search needs) (λ c κs. search needs) (λ c κs. search needs) (λ c. search needs) returns)
+    (tie.spec (λ c κs. search needs) (λ c κs. search needs) (λ c κs. search needs) (λ c. search needs) (λ c. search left))

@@ -1,4 +1,4 @@
--- `call_each::left::threads_left` meets its contract: too little room, or all threads that the run left and then the bytes that stood there. Assumes nothing.
+-- `call_each::threads::threads_left` meets its contract: too little room, or all threads that the run left and then the bytes that stood there. Assumes nothing.
 use Prim.Native.Nat.{ℕ, _*_, _-_, _≤_, _<_}
 use mathlib.Core.Path.{_≡_, sym, _∙_}
 use mathlib.Core.List.{List, _++_, map}
@@ -16,9 +16,9 @@ use Rattle.value_bytes.specs.Bytes.{endToEnd}
 use Rattle.call_rules.specs.Layouts.{threadBytes, threadsPut}
 use Rattle.call_rules.specs.Calls.{ifRoom, Gives}
 use Rattle.call_rules.proofs.CallLaws.{gives-short, gives-put}
-use Rattle.call_each.proofs.LeftLaws.{few-threads, all-stacked, threads-put, threads-size}
-use Rattle.call_each.proofs.left.threads_left.Statement.{statement}
-use Rattle.call_each.proofs.left.threads_left.Tie as tie
+use Rattle.call_each.proofs.ThreadsLeft.{few-threads, all-stacked, threads-put, threads-size}
+use Rattle.call_each.proofs.threads.threads_left.Statement.{statement}
+use Rattle.call_each.proofs.threads.threads_left.Tie as tie
 
 module _ (m : Net) (ps : List Pick) (net : Code.Net) (e : (view net ≡ after m ps) × T (sound (view net))) (o : List ℕ) where
   short : length o < net .threadcount * 24 → Gives (ifRoom (threadsPut m ps) o) o o 21 0
@@ -28,30 +28,21 @@ module _ (m : Net) (ps : List Pick) (net : Code.Net) (e : (view net ≡ after m 
       Gives (ifRoom (threadsPut m ps) o) o (ys ++ drop (net .threadcount * 24 - 0) o) 0 (net .threadcount * 24)
   given ys h q = gives-put (threadsPut m ps) o (net .threadcount * 24) (threads-size m ps net (e .0)) ys h (q ∙ sym (threads-put m ps net (e .0)))
 
-mul-size : tie.Need-mul-size
-mul-size c = omega (arith, few-threads (c .run-picks .result) (c .run-picks .ensures .1))
-
-returns : tie.Need-returns
-returns c = search short
-
 put-threads-requires : tie.Need-put-threads-requires
 put-threads-requires c κs =
     let r = c .before .before .before .run-picks in
     (few-threads (r .result) (r .ensures .1), all-stacked (r .result) (r .ensures .1), simp (length-take, length-drop) (omega arith))
-
-returns-2 : tie.Need-returns-2
-returns-2 c = search given
 
 pub threads-left-spec : {M : Type 1} → statement M
 threads-left-spec =
     tie.close
     (tie.spec
     (λ c κs. search needs)
-    mul-size
-    returns
+    (λ c. omega (arith, few-threads (c .run-picks .result) (c .run-picks .ensures .1)))
+    (λ c. search short)
     (λ c. search needs)
     (λ c. search needs)
     (λ c. search needs)
     put-threads-requires
     (λ c. search needs)
-    returns-2)
+    (λ c. search given))

@@ -4,23 +4,5 @@ use Rattle.print_lines.proofs.Numbers.{less-fits, below-cast, below-is,
 use Rattle.print_lines.proofs.cells.magnitude.Statement.{statement}
 use Rattle.print_lines.proofs.cells.magnitude.Tie as tie
 
-cast-m : tie.Need-cast-m
-cast-m c = cast-fits (c .before .args .i) (c .before .fits .i)
-
-sub-m : tie.Need-sub-m
-sub-m c = less-fits (c .before .args .i) (c .before .fits .i)
-
-cast-result : tie.Need-cast-result
-cast-result c = below-cast (c .before .args .i) (c .before .fits .i) (c .if1 .taken)
-
-returns : tie.Need-returns
-returns c = below-is (c .before .args .i) (c .before .fits .i) (c .if1 .taken)
-
-cast-result-2 : tie.Need-cast-result-2
-cast-result-2 c = above-cast (c .before .args .i) (c .before .fits .i) (c .if1 .left)
-
-returns-2 : tie.Need-returns-2
-returns-2 c = above-is (c .before .args .i) (c .before .fits .i)
-
 pub magnitude-spec : {M : Type 1} → statement M
-magnitude-spec = tie.close (tie.spec cast-m sub-m cast-result returns cast-result-2 returns-2)
+magnitude-spec = tie.close (tie.spec (λ c. cast-fits (c .before .args .i) (c .before .fits .i)) (λ c. less-fits (c .before .args .i) (c .before .fits .i)) (λ c. below-cast (c .before .args .i) (c .before .fits .i) (c .if1 .taken)) (λ c. below-is (c .before .args .i) (c .before .fits .i) (c .if1 .taken)) (λ c. above-cast (c .before .args .i) (c .before .fits .i) (c .if1 .left)) (λ c. above-is (c .before .args .i) (c .before .fits .i)))

@@ -12,9 +12,6 @@ Inv-loop page₀ at answers count place₀ i₀ page place i = (place ≤ 4096) 
 abbrev μ-loop : tie.MeasureT-loop
 μ-loop page₀ at answers count place₀ i₀ page place i = count - i
 
-put-pick-requires : tie.Need-put-pick-requires Inv-loop μ-loop
-put-pick-requires c κs = (search needs, simp (length-take, length-drop) (omega arith))
-
 pub put-picks-spec : {M : Type 1} → statement M
 put-picks-spec =
     tie.close
@@ -28,7 +25,7 @@ put-picks-spec =
     (λ c. search needs)
     (λ c. search needs)
     (λ c. search needs)
-    put-pick-requires
+    (λ c κs. (search needs, simp (length-take, length-drop) (omega arith)))
     (λ c. search needs)
     (λ c. search needs)
     (λ c. search needs)

@@ -5,13 +5,10 @@ use borrow.Author.Needs.{needs}
 use Rattle.print_lines.proofs.pages.write_start.Statement.{statement}
 use Rattle.print_lines.proofs.pages.write_start.Tie as tie
 
-slice-aggregate-write-all : tie.Need-slice-aggregate-write-all
-slice-aggregate-write-all c = simp length-take (omega arith)
-
 pub write-start-spec : {M : Type 1} → statement M
 write-start-spec =
     tie.close
     (tie.spec
-    slice-aggregate-write-all
+    (λ c. simp length-take (omega arith))
     (λ c κs. search needs)
     (λ c. search needs))

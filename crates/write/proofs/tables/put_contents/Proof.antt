@@ -44,18 +44,6 @@ roomy c =
     let a = c .before .before .before .args in
     bodies-room (c .before .loop .i) (a .count) (a .t2) (omega arith) (kept c)
 
-loop-holds : tie.Need-loop-holds Inv-loop μ-loop
-loop-holds c = (omega arith, omega arith, omega arith, refl, refl)
-
-mul-end : tie.Need-mul-end Inv-loop μ-loop
-mul-end c = let k = kept (c .before .before .before) in omega (arith, k)
-
-add-end : tie.Need-add-end Inv-loop μ-loop
-add-end c = let k = kept (c .before .before .before) in omega (arith, k)
-
-part-put-rows-end : tie.Need-part-put-rows-end Inv-loop μ-loop
-part-put-rows-end c = let r = roomy (c .before .before .before) in omega (arith, r)
-
 put-rows-requires : tie.Need-put-rows-requires Inv-loop μ-loop
 put-rows-requires c κs =
     let k = kept (c .before .before .before .before) in
@@ -70,26 +58,23 @@ loop-again c =
     let ts = m .before .before .before .args .t2 in
     (omega arith, search kept-length, omega (arith, k), longer ts (l .i) (l .at) k (l .inv .3), one-more ts (l .i) (l .at) _ _ _ (l .inv .3) (l .inv .4) (c .before .before .put-rows .ensures))
 
-returns : tie.Need-returns Inv-loop μ-loop
-returns c = search ended
-
 pub put-contents-spec : {M : Type 1} → statement M
 put-contents-spec =
     tie.close
     (tie.spec
     Inv-loop
     μ-loop
-    loop-holds
+    (λ c. (omega arith, omega arith, omega arith, refl, refl))
     (λ c. search needs)
     (λ c. search needs)
-    mul-end
-    add-end
+    (λ c. let k = kept (c .before .before .before) in omega (arith, k))
+    (λ c. let k = kept (c .before .before .before) in omega (arith, k))
     (λ c. search needs)
     (λ c. search needs)
-    part-put-rows-end
+    (λ c. let r = roomy (c .before .before .before) in omega (arith, r))
     put-rows-requires
     (λ c. search needs)
     (λ c. search needs)
     loop-again
     (λ c. search needs)
-    returns)
+    (λ c. search ended))

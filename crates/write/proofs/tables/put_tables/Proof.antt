@@ -34,25 +34,13 @@ Inv-loop out₀ count tables i₀ out i = (i ≤ count) × (length out ≡ count
 abbrev μ-loop : tie.MeasureT-loop
 μ-loop out₀ count tables i₀ out i = count - i
 
-loop-holds : tie.Need-loop-holds Inv-loop μ-loop
-loop-holds c = (omega arith, omega arith, refl)
-
-put-table-requires : tie.Need-put-table-requires Inv-loop μ-loop
-put-table-requires c κs = simp (length-take, length-drop) (omega arith)
-
-loop-again : tie.Need-loop-again Inv-loop μ-loop
-loop-again c = (omega arith, search kept-length, search one-more)
-
-returns : tie.Need-returns Inv-loop μ-loop
-returns c = search ended
-
 pub put-tables-spec : {M : Type 1} → statement M
 put-tables-spec =
     tie.close
     (tie.spec
     Inv-loop
     μ-loop
-    loop-holds
+    (λ c. (omega arith, omega arith, refl))
     (λ c. search needs)
     (λ c. search needs)
     (λ c. search needs)
@@ -61,9 +49,9 @@ put-tables-spec =
     (λ c. search needs)
     (λ c. search needs)
     (λ c. search needs)
-    put-table-requires
+    (λ c κs. simp (length-take, length-drop) (omega arith))
     (λ c. search needs)
     (λ c. search needs)
-    loop-again
+    (λ c. (omega arith, search kept-length, search one-more))
     (λ c. search needs)
-    returns)
+    (λ c. search ended))

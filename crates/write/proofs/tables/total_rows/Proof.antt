@@ -31,12 +31,6 @@ kept c =
     let a = c .before .before .args in
     shaped-at (a .t1) (a .count) (c .before .loop .i) (omega arith) (c .before .before .pre .1)
 
-loop-holds : tie.Need-loop-holds Inv-loop μ-loop
-loop-holds c = (omega arith, refl, omega arith)
-
-add-total : tie.Need-add-total Inv-loop μ-loop
-add-total c = let k = kept (c .before .before .before) in omega (arith, k)
-
 loop-again : tie.Need-loop-again Inv-loop μ-loop
 loop-again c =
     let m = c .before .before .before in
@@ -44,20 +38,17 @@ loop-again c =
     let l = m .before .loop in
     (omega arith, one-more (m .before .before .args .t1) (l .i) (l .total) k (l .inv .1), omega (arith, k))
 
-returns : tie.Need-returns Inv-loop μ-loop
-returns c = (search ended, omega arith)
-
 pub total-rows-spec : {M : Type 1} → statement M
 total-rows-spec =
     tie.close
     (tie.spec
     Inv-loop
     μ-loop
-    loop-holds
+    (λ c. (omega arith, refl, omega arith))
     (λ c. search needs)
     (λ c. search needs)
-    add-total
+    (λ c. let k = kept (c .before .before .before) in omega (arith, k))
     (λ c. search needs)
     (λ c. search needs)
     loop-again
-    returns)
+    (λ c. (search ended, omega arith)))

@@ -39,12 +39,6 @@ module _ (ts : List Table) (n r : ℕ) (o : List ℕ) (rows : length (bodies n t
       let lh : length h ≡ n * 104 = ap length hh ∙ heads-length n ts in
       rw (size, le-leb (n * 104 + r * 104) (length o) l, size, part-size, sub-zero, part-written h o t (n * 104) (r * 104) lh, hh, ht, written-is n ts)
 
-returns : tie.Need-returns
-returns c = (search short-answer, search short-buffer)
-
-returns-2 : tie.Need-returns-2
-returns-2 c = (search done-answer, search done-buffer)
-
 pub write-tables-spec : {M : Type 1} → statement M
 write-tables-spec =
     tie.close
@@ -53,7 +47,7 @@ write-tables-spec =
     (λ c κs. search needs)
     (λ c. search needs)
     (λ c. search needs)
-    returns
+    (λ c. (search short-answer, search short-buffer))
     (λ c. search needs)
     (λ c. search needs)
     (λ c. search needs)
@@ -63,4 +57,4 @@ write-tables-spec =
     (λ c. search needs)
     (λ c κs. search needs)
     (λ c. search needs)
-    returns-2)
+    (λ c. (search done-answer, search done-buffer)))
