@@ -30,7 +30,7 @@ returns c =
     (sym (ap (λ t. t || eqb (d .body) 0) (f isLoop false tt)))
     (cond-yes refl _ placed (c .before .before .before .before .before .before .before .before .before .before .before .before .before .before .is-text .ensures))
     (cond-no refl _ (f bindsRelation false tt) refl)
-    (either-is (c .before .before .before .before .before .before .before .before .before .either .ensures) (c .before .before .before .before .before .before .before .before .before .before .before .before .reads-relation .ensures) refl refl)
+    (either-is (c .before .before .before .before .before .before .before .before .before .ok-if-used .ensures) (c .before .before .before .before .before .before .before .before .before .before .before .before .reads-relation .ensures) refl refl)
     (c .before .before .before .before .before .before .before .before .function-ok .ensures ∙ ap (λ u. functionOk u (d .function) (d .column)) (sym (f isAggregate false tt)))
     (either-is (c .before .before .before .before .before .before .columns-used .ensures) (c .before .before .before .before .before .before .before .is-create .ensures) refl refl)
     (cond-yes refl _ placed (c .before .before .before .before .before .place-ok .ensures))
