@@ -1,20 +1,13 @@
 -- Which tables a done step leaves, by the byte of its kind. Assumes nothing.
-use Prim.Native.Nat.{ℕ, _≤_, _<_}
-use mathlib.Core.Path.{_≡_, refl, sym, ap, subst, _∙_}
-use mathlib.Core.Bool.{Bool, true, false, not, _||_}
+use Prim.Native.Nat.{ℕ}
+use mathlib.Core.Path.{_≡_, sym, ap, _∙_}
 use mathlib.Core.List.{List, [], _∷_, _++_}
 use mathlib.Core.Logic.{_⊎_, inl, inr}
-use native.Mathlib.Omega.{arith}
-use borrow.Author.Tests.{ltb-true, ltb-false, ne-eqb}
-use lib.Dec.{T, eqb, ltb}
 use Rattle.values.specs.declared.Site.{Site}
-use Rattle.values.specs.Lists.{all, find, first, orElse, removeAt}
-use Rattle.values.proofs.Bools.{and-l, and-r, not-T→false}
+use Rattle.values.specs.Lists.{removeAt}
 use Rattle.rows.specs.Relations.{Relation}
 use Rattle.nets.specs.Nets as M
-use Rattle.nets.specs.Nets.{other, badKind, code}
-use Rattle.nets.specs.View.{kinds, kindAt}
-use Rattle.step_effect.specs.Contracts.{putsRows}
+use Rattle.nets.specs.View.{kindAt}
 use Rattle.step_effect.specs.TableContracts.{tablesWith}
 
 pub either : {A B C : Type 0} → A ⊎ B → (A → C) → (B → C) → C

@@ -1,6 +1,6 @@
 -- `net_parts::nodes::plain_ok` meets its contract: each test is a clause of `fieldsOkAs` for the four kinds with a place and no T.
 use mathlib.Core.Path.{_≡_, refl, sym, ap, _∙_}
-use mathlib.Core.Bool.{true, false, not, cond, _&&_, _||_}
+use mathlib.Core.Bool.{true, false, not, _&&_, _||_}
 use lib.Dec.{eqb}
 use Rattle.rows.specs.View.{operandsOf}
 use Rattle.values.proofs.Bools.{cond-yes, cond-no}
