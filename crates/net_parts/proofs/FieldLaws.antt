@@ -1,6 +1,6 @@
 -- What a node's kind says of its fields, and the clauses of check 4 put together. Assumes nothing.
 use mathlib.Core.Path.{_≡_, refl, sym}
-use mathlib.Core.Bool.{Bool, true, false, not, cond, _&&_, _||_}
+use mathlib.Core.Bool.{Bool, false, not, cond, _&&_, _||_}
 use lib.Dec.{eqb, ltb}
 use Rattle.values.specs.Values.{isText}
 use Rattle.rows.specs.declared.Test.the-variants.{Always}

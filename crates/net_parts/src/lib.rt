@@ -7,7 +7,7 @@ pub mod operands;
 pub mod ranges;
 pub mod relations;
 
-// Whether a table variable is bound, and how many rows it has.
+// Whether a table variable is bound, and how many rows it has; 17, which is more than any has, where what it holds is not right.
 pub struct Extent {
     pub bound: bool,
     pub rows: usize,
@@ -19,8 +19,9 @@ pub struct Label {
     pub name: u32,
 }
 
-// The test of the nodes, and what each asks of a loop entry.
-pub struct Judged {
+// Whether the nodes are right, and of each its shape: the table variable that a loop reads, 0 or 1, and 2 of a node that is no loop.
+// A shape is a number and no enum, since an array of 128 numbers is filled and read with no struct around each.
+pub struct NodesJudged {
     pub right: bool,
     pub shapes: [u8; 128],
 }

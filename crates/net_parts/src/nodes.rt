@@ -1,5 +1,5 @@
 // Nodes: their fields by kind (check 4) and their links (check 9).
-use crate::Judged;
+use crate::NodesJudged;
 use crate::operands::function_ok;
 use crate::operands::is_absent;
 use crate::operands::no_test;
@@ -33,10 +33,13 @@ ghost use Rattle.nets.specs.View.{kindAt, nodeOf, nodesOf};
 ghost use Rattle.net_parts.specs.SoundParts.{linksAt, shapeOf, ShapesOf};
 
 // A field that is used is as its rule says, and else zero.
-fn either(used: bool, ok: bool, zeroed: bool) -> bool
-    ensures { λ r. ⌜ r ≡ cond used ok zeroed ⌝ }
+fn ok_if_used(used: bool, ok: bool, zero: bool) -> bool
+    ensures { λ r. ⌜ r ≡ cond used ok zero ⌝ }
 {
-    (used & ok) | (!used & zeroed)
+    if used {
+        return ok;
+    }
+    zero
 }
 
 fn tuple_ok(kind: u8, t: Operands) -> bool
@@ -112,7 +115,7 @@ fn plain_ok(d: Node) -> bool
     (d.body == 0)
         & is_text(d.name)
         & (d.bound == 0)
-        & either(reads_relation(kind), d.read < 2, d.read == 0)
+        & ok_if_used(reads_relation(kind), d.read < 2, d.read == 0)
         & function_ok(false, function, d.column)
         & columns_used(is_create(kind), d.columns, kinds)
         & place_ok(place)
@@ -138,8 +141,8 @@ fn choosing_ok(d: Node) -> bool
     let placed = has_place(kind);
     (d.body == 0)
         & name_used(placed, d.name)
-        & either(binds_relation(kind), d.bound < 2, d.bound == 0)
-        & either(reads_relation(kind), d.read < 2, d.read == 0)
+        & ok_if_used(binds_relation(kind), d.bound < 2, d.bound == 0)
+        & ok_if_used(reads_relation(kind), d.read < 2, d.read == 0)
         & function_ok(aggregate, function, d.column)
         & (d.columns == 0)
         & place_used(placed, place)
@@ -217,12 +220,12 @@ fn shape_of(d: Node) -> u8
 }
 
 // Each node is judged and its shape noted in one pass.
-pub fn nodes_ok(nodes: [Node; 128], count: usize) -> Judged
+pub fn nodes_ok(nodes: [Node; 128], count: usize) -> NodesJudged
     ensures { λ r. ⌜ (r .right ≡ (leb count 128 && nodesOk count 0 (nodesOf count nodes))) × (r .right ≡ true → ShapesOf (r .shapes) count (nodesOf count nodes)) ⌝ }
 {
     let mut shapes: [u8; 128] = [2; 128];
     if 128 < count {
-        return Judged {
+        return NodesJudged {
             right: false,
             shapes,
         };
@@ -234,13 +237,13 @@ pub fn nodes_ok(nodes: [Node; 128], count: usize) -> Judged
         if fields_ok(d) & links_ok(d, i, count) {
             i += 1;
         } else {
-            return Judged {
+            return NodesJudged {
                 right: false,
                 shapes,
             };
         }
     }
-    Judged {
+    NodesJudged {
         right: true,
         shapes,
     }

@@ -20,12 +20,7 @@ pub fn is_absent(op: Operand) -> bool
 {
     match op {
         Operand::Absent => true,
-        Operand::ConstInt(_) => false,
-        Operand::ConstText(_) => false,
-        Operand::ConstLoc(_) => false,
-        Operand::Var(_) => false,
-        Operand::Plus(_, _) => false,
-        Operand::Formal(_) => false,
+        _ => false,
     }
 }
 
@@ -48,13 +43,9 @@ pub fn place_ok(op: Operand) -> bool
     ensures { λ r. ⌜ r ≡ placeOk op ⌝ }
 {
     match op {
-        Operand::Absent => false,
-        Operand::ConstInt(_) => false,
-        Operand::ConstText(_) => false,
         Operand::ConstLoc(l) => locality_ok(l),
         Operand::Var(i) => i < 16,
-        Operand::Plus(_, _) => false,
-        Operand::Formal(_) => false,
+        _ => false,
     }
 }
 
@@ -88,13 +79,8 @@ fn formal_place(op: Operand) -> usize
     ensures { λ r. ⌜ r ≡ formalPlace op ⌝ }
 {
     match op {
-        Operand::Absent => 16,
-        Operand::ConstInt(_) => 16,
-        Operand::ConstText(_) => 16,
-        Operand::ConstLoc(_) => 16,
-        Operand::Var(_) => 16,
-        Operand::Plus(_, _) => 16,
         Operand::Formal(i) => i as usize,
+        _ => 16,
     }
 }
 

@@ -31,7 +31,7 @@ pub fn is_text(t: u32) -> bool
 }
 
 // Any i32 is in range; its arm binds it so that the proof has its bounds.
-fn in_range(v: Value) -> bool
+pub fn in_range(v: Value) -> bool
     ensures { λ r. ⌜ r ≡ inRange v ⌝ }
 {
     match v {

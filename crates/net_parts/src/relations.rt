@@ -1,14 +1,16 @@
 // Relations in their ranges, and the tables and table variables that hold them.
 use crate::Extent;
+use crate::ranges::in_range;
 use crate::ranges::is_text;
-use crate::ranges::locality_ok;
 use crate::ranges::site_ok;
 use nets::Table;
 use nets::TableVariable;
 use rows::Cell;
 use rows::Relation;
 use rows::Row;
-use values::Value;
+use rows::fits_column;
+use values::kinds::INT;
+use values::kinds::LOC;
 ghost use mathlib.Core.Path.{_≡_};
 ghost use mathlib.Core.Bool.{_&&_};
 ghost use mathlib.Core.List.{List};
@@ -25,7 +27,7 @@ ghost use Rattle.net_parts.specs.SoundParts.{cellOk, rowOk, holdsPlaces}
 fn kind_ok(k: u8) -> bool
     ensures { λ r. ⌜ r ≡ (leb 1 k && leb k 3) ⌝ }
 {
-    (1 <= k) & (k <= 3)
+    (INT <= k) & (k <= LOC)
 }
 
 pub fn columns_ok(columns: usize, kinds: [u8; 4]) -> bool
@@ -49,16 +51,12 @@ pub fn columns_ok(columns: usize, kinds: [u8; 4]) -> bool
     true
 }
 
-// A value of its column's kind, in range. Any i32 is in range; its arm binds it so that the proof has its bounds.
+// A value of its column's kind, in range.
 fn cell_ok(kind: u8, c: Cell) -> bool
     ensures { λ r. ⌜ r ≡ cellOk kind (c .value) ⌝ }
 {
     let v = c.value;
-    match v {
-        Value::Int(_i) => kind == 1,
-        Value::Text(t) => (kind == 2) & is_text(t),
-        Value::Loc(l) => (kind == 3) & locality_ok(l),
-    }
+    fits_column(kind, v) & in_range(v)
 }
 
 // Fixed places, so that the row is read where it stands.

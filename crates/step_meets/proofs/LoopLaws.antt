@@ -8,7 +8,6 @@ use lib.ListN.{length}
 use Rattle.values.specs.Operands.{varsOf}
 use Rattle.rows.specs.declared.Relation as Code
 use Rattle.nets.specs.declared.Answer.the-variants.{Done}
-use Rattle.nets.specs.Nets as M
 use Rattle.nets.specs.Nets.{isParallel, toRun, visiting}
 use Rattle.nets.specs.Sound.{entryNode}
 use Rattle.nets.specs.Scenes.{Scene, below}

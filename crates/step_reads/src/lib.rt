@@ -71,27 +71,26 @@ fn is_formal_in(i: u8, template: Operands) -> bool
     false
 }
 
-// The variable that an operand reads; 256, which is none, where it reads none.
+// No variable: past every u8. It is a number and no enum so that `all_known` may read the variable at `k % 16` before it is known whether k is one.
+const NO_VARIABLE: usize = 256;
+
+// The variable that an operand reads, if it reads one.
 fn variable_of(op: Operand) -> usize
     ensures { λ r. ⌜ reads op ≡ cond (ltb r 256) (r ∷ []) [] ⌝ }
 {
     match op {
-        Operand::Absent => 256,
-        Operand::ConstInt(_) => 256,
-        Operand::ConstText(_) => 256,
-        Operand::ConstLoc(_) => 256,
         Operand::Var(i) => i as usize,
         Operand::Plus(i, _) => i as usize,
-        Operand::Formal(_) => 256,
+        _ => NO_VARIABLE,
     }
 }
 
-// Variable k, where g is what it holds if it is one of the 16: it is bound, or, where `also` says so, a formal of T. No variable is known.
+// Variable k, where g is what it holds if it is one of the 16: it is bound, or, where `also` says so, a formal of T. An operand that reads no variable passes.
 fn is_known(k: usize, g: Got, also: bool, template: Operands) -> bool
     requires { ⌜ Short template ⌝ }
     ensures { λ r. ⌜ r ≡ all (λ (i : ℕ). (ltb i 16 && isGot g) || (also && among i (formals (operandsOf template)))) (cond (ltb k 256) (k ∷ []) []) ⌝ }
 {
-    if 256 <= k {
+    if NO_VARIABLE <= k {
         return true;
     }
     if (k < 16) & is_got(g) {
@@ -112,7 +111,10 @@ fn field_in(t: Operands, i: usize) -> Field
     t.fields[i]
 }
 
-// The operands that a node reads: for the first six only bound variables count, for the others also formals of T.
+// Of the operands that a node reads, L, the result and T come first; the predicate and t, from this place on, may also read formals of T.
+const FIRST_AFTER_TEMPLATE: usize = 6;
+
+// What each operand reads is bound, or a formal of T where those count.
 fn all_known(ops: [Field; 12], template: Operands, vars: [Slot; 16]) -> bool
     requires { ⌜ Short template ⌝ }
     ensures { λ r. ⌜ r ≡ knownFrom (isBound (varsOf vars)) (operandsOf template) 0 ops ⌝ }
@@ -125,7 +127,7 @@ fn all_known(ops: [Field; 12], template: Operands, vars: [Slot; 16]) -> bool
         let at = k % 16;
         let s = vars[at];
         let g = s.held;
-        if is_known(k, g, 6 <= i, template) {
+        if is_known(k, g, FIRST_AFTER_TEMPLATE <= i, template) {
             i += 1;
         } else {
             return false;

@@ -1,6 +1,5 @@
 -- The arm of a match on an operand that names no variant: it is for the variants that no other arm names. Assumes nothing.
 use Prim.Native.Nat.{ℕ}
-use mathlib.Core.Path.{_≡_, refl}
 use mathlib.Core.Bool.{Bool, true, false, not}
 use mathlib.Core.List.{List}
 use lib.Dec.{T}

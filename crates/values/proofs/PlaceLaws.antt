@@ -2,7 +2,7 @@
 -- element answered, `b` or `w` what the whole comes to. Assumes nothing.
 use Prim.Native.Nat.{ℕ, zero, suc, _+_, _<_, _≤_}
 use mathlib.Core.Path.{_≡_, refl, ap, sym, _∙_, subst}
-use mathlib.Core.Bool.{Bool, true, false, not}
+use mathlib.Core.Bool.{Bool, true, false}
 use mathlib.Core.List.{List, [], _∷_}
 use mathlib.Core.Option.{Option, none, some}
 use native.Mathlib.Omega.{arith}
@@ -65,15 +65,6 @@ module _ {A : Type 0} (p : A → Bool) where
           first b a (find p l) ≡ some (getD (a ∷ l) (nextPlace b (placeOf p l)) d)
       go true h ih = refl
       go false h ih = ih (omega arith)
-
-  -- where none passes, none is found
-  pub find-none : (l : List A) → T (all (λ a. not (p a)) l) → find p l ≡ none
-  find-none [] h = refl
-  find-none (a ∷ l) h = go (p a) (and-l (not (p a)) (all (λ x. not (p x)) l) h) (find-none l (and-r (not (p a)) (all (λ x. not (p x)) l) h))
-    where
-      go : (b : Bool) → T (not b) → find p l ≡ none → first b a (find p l) ≡ none
-      go true h ih = absurd h
-      go false h ih = ih
 
 -- ── tests ──
 

@@ -1,6 +1,6 @@
 -- `step_decide::decide_loop` meets its contract: the round's turn is the step's, and a done one changes the threads as the step does. Assumes nothing.
 use Prim.Native.Nat.{_<_}
-use mathlib.Core.Path.{_≡_, refl, ap, sym, _∙_}
+use mathlib.Core.Path.{refl, ap, sym, _∙_}
 use mathlib.Core.Bool.{Bool, cond}
 use lib.Dec.{ltb}
 use borrow.Author.Needs.{needs}

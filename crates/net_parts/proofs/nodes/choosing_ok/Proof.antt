@@ -1,6 +1,6 @@
 -- `net_parts::nodes::choosing_ok` meets its contract: each test is a clause of `fieldsOkAs` for the five kinds with a predicate.
 use mathlib.Core.Path.{_≡_, refl, sym, ap, _∙_}
-use mathlib.Core.Bool.{true, false, not, cond, _||_}
+use mathlib.Core.Bool.{true, false, not, _||_}
 use lib.Dec.{eqb}
 use Rattle.values.proofs.Bools.{T-of, cond-yes, cond-no}
 use Rattle.nets.specs.Nets.{code, isCreate, hasTemplate, hasTest, isLoop}
@@ -25,8 +25,8 @@ returns c =
     fields-are (kindAt (d .kind)) (nodeOf d) (sym (f (λ k. not (eqb (code k) 0)) true tt))
     (sym (ap (λ t. t || eqb (d .body) 0) (f isLoop false tt)))
     (either-is (c .before .before .before .before .before .before .before .before .before .before .before .before .before .before .before .name-used .ensures) (c .before .before .before .before .before .before .before .before .before .before .before .before .before .before .before .before .before .has-place .ensures) refl refl)
-    (either-is (c .before .before .before .before .before .before .before .before .before .before .before .either .ensures) (c .before .before .before .before .before .before .before .before .before .before .before .before .before .before .binds-relation .ensures) refl refl)
-    (either-is (c .before .before .before .before .before .before .before .either2 .ensures) (c .before .before .before .before .before .before .before .before .before .before .reads-relation .ensures) refl refl)
+    (either-is (c .before .before .before .before .before .before .before .before .before .before .before .ok-if-used .ensures) (c .before .before .before .before .before .before .before .before .before .before .before .before .before .before .binds-relation .ensures) refl refl)
+    (either-is (c .before .before .before .before .before .before .before .ok-if-used2 .ensures) (c .before .before .before .before .before .before .before .before .before .before .reads-relation .ensures) refl refl)
     (c .before .before .before .before .before .before .function-ok .ensures ∙ ap (λ u. functionOk u (d .function) (d .column)) aggregates)
     (cond-no refl _ (f isCreate false tt) (ap (λ n. eqb n 0) (sym (columns-count (d .columns) (d .kinds)))))
     (either-is (c .before .before .before .before .place-used .ensures) (c .before .before .before .before .before .before .before .before .before .before .before .before .before .before .before .before .before .has-place .ensures) refl refl)

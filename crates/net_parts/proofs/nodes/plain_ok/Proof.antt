@@ -1,6 +1,6 @@
 -- `net_parts::nodes::plain_ok` meets its contract: each test is a clause of `fieldsOkAs` for the four kinds with a place and no T.
 use mathlib.Core.Path.{_≡_, refl, sym, ap, _∙_}
-use mathlib.Core.Bool.{true, false, not, cond, _&&_, _||_}
+use mathlib.Core.Bool.{true, false, not, _&&_, _||_}
 use lib.Dec.{eqb}
 use Rattle.rows.specs.View.{operandsOf}
 use Rattle.values.proofs.Bools.{cond-yes, cond-no}
@@ -30,7 +30,7 @@ returns c =
     (sym (ap (λ t. t || eqb (d .body) 0) (f isLoop false tt)))
     (cond-yes refl _ placed (c .before .before .before .before .before .before .before .before .before .before .before .before .before .before .is-text .ensures))
     (cond-no refl _ (f bindsRelation false tt) refl)
-    (either-is (c .before .before .before .before .before .before .before .before .before .either .ensures) (c .before .before .before .before .before .before .before .before .before .before .before .before .reads-relation .ensures) refl refl)
+    (either-is (c .before .before .before .before .before .before .before .before .before .ok-if-used .ensures) (c .before .before .before .before .before .before .before .before .before .before .before .before .reads-relation .ensures) refl refl)
     (c .before .before .before .before .before .before .before .before .function-ok .ensures ∙ ap (λ u. functionOk u (d .function) (d .column)) (sym (f isAggregate false tt)))
     (either-is (c .before .before .before .before .before .before .columns-used .ensures) (c .before .before .before .before .before .before .before .is-create .ensures) refl refl)
     (cond-yes refl _ placed (c .before .before .before .before .before .place-ok .ensures))

@@ -1,6 +1,6 @@
 -- `net_parts::nodes::visiting_ok` meets its contract: each test is a clause of `fieldsOkAs` for the two loops.
 use mathlib.Core.Path.{_≡_, refl, sym, ap, _∙_}
-use mathlib.Core.Bool.{true, false, not, cond, _||_}
+use mathlib.Core.Bool.{true, false, not, _||_}
 use lib.Dec.{eqb}
 use Rattle.values.proofs.Bools.{T-of, cond-yes, cond-no}
 use Rattle.nets.specs.Nets.{code, hasPlace, isCreate, hasTemplate, hasTest, hasTuple, isSelect, readsRelation, bindsRelation, isAggregate, isLoop}

@@ -1,32 +1,21 @@
--- `net_parts::operands::place_ok` meets its contract, operand by operand.
-use mathlib.Core.Path.{sym, ap, _∙_}
+-- `net_parts::operands::place_ok` meets its contract: a locality, a variable, and no other operand.
+use mathlib.Core.Path.{_≡_, refl, sym, ap, _∙_}
+use mathlib.Core.Bool.{false}
+use mathlib.Core.List.{[], _∷_}
+use Rattle.values.proofs.OperandArms.{other-arm}
 use Rattle.nets.specs.Sound.{placeOk}
 use borrow.Author.Needs.{needs}
 use Rattle.net_parts.proofs.operands.place_ok.Statement.{statement}
 use Rattle.net_parts.proofs.operands.place_ok.Tie as tie
 
-returns-4 : tie.Need-returns-4
-returns-4 c = c .locality-ok .ensures ∙ sym (ap placeOk (c .before .before .op .given .1))
+returns : tie.Need-returns
+returns c = c .locality-ok .ensures ∙ sym (ap placeOk (c .before .before .op .given .1))
 
-returns-5 : tie.Need-returns-5
-returns-5 c = sym (ap placeOk (c .before .op2 .given .1))
+returns-2 : tie.Need-returns-2
+returns-2 c = sym (ap placeOk (c .before .op2 .given .1))
+
+returns-3 : tie.Need-returns-3
+returns-3 c = other-arm (λ o. false ≡ placeOk o) (0 ∷ 1 ∷ 2 ∷ 5 ∷ 6 ∷ []) refl (λ i. refl) (λ t. refl) tt tt (λ i k. refl) (λ i. refl) (c .before .args .op) (c .match .keys3)
 
 pub place-ok-spec : {M : Type 1} → statement M
-place-ok-spec =
-    tie.close
-    (tie.spec
-    (λ c. search needs)
-    (λ c. search needs)
-    (λ c. search needs)
-    (λ c. search needs)
-    (λ c κs. search needs)
-    (λ c. search needs)
-    (λ c. search needs)
-    (λ c. search needs)
-    (λ c. search needs)
-    (λ c. search needs)
-    (λ c. search needs)
-    returns-4
-    returns-5
-    (λ c. search needs)
-    (λ c. search needs))
+place-ok-spec = tie.close (tie.spec (λ c. search needs) (λ c κs. search needs) (λ c. search needs) returns returns-2 returns-3)
