@@ -8,7 +8,7 @@ use print_lines::pages::write_page;
 use row_aggregate::aggregate;
 use row_change::Swept;
 use row_change::appending::push;
-use row_change::sifting::number_of;
+use row_change::sifting::count_marks;
 use row_change::sifting::sifted;
 use row_columns::selected_kinds;
 use row_plan::plan_of;
@@ -304,7 +304,7 @@ fn sold(r: Relation)
         count: r.count,
     };
     io::write_all(STDOUT_FILENO, b"two red 37 sold, rows replaced ");
-    io::print_decimal(STDOUT_FILENO, number_of(flags) as u64);
+    io::print_decimal(STDOUT_FILENO, count_marks(flags) as u64);
     io::write_all(STDOUT_FILENO, b"\n");
     print_rows(next);
 }

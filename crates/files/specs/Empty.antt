@@ -42,7 +42,7 @@ blankNode =
       column = 0;
       columns = 0;
       kinds = replicate 4 0;
-      place = Absent;
+      locality = Absent;
       selector = record { template = blankOperands; test = Always; left = Absent; right = Absent };
       tuple = blankOperands;
       result = Absent;

@@ -31,17 +31,17 @@ isFault verdict.Accepted = false
 isFault (verdict.Fault n i) = true
 
 -- as many picks as the count says
-abbrev pub picksOf : ℕ → List Pick → List Pick
-picksOf n ps = firsts (λ (p : Pick). p) noPick n ps
+abbrev pub firstPicks : ℕ → List Pick → List Pick
+firstPicks n ps = firsts (λ (p : Pick). p) noPick n ps
 
-abbrev pub picksIn : Loaded → List Pick
-picksIn l = picksOf (l .pickcount) (l .picks)
+abbrev pub ownPicks : Loaded → List Pick
+ownPicks l = firstPicks (l .pickcount) (l .picks)
 
 -- the verdict, the net and the picks are the rule's; after a fault the net is the one empty net
 pub record LoadIs (file : List ℕ) (l : Loaded) : Type 0 where
   pub fault : faultIn (l .verdict) ≡ faultOf (loadBytes file)
   pub net : view (l .net) ≡ netLoaded (loadBytes file)
-  pub picks : picksIn l ≡ picksLoaded (loadBytes file)
+  pub picks : ownPicks l ≡ picksLoaded (loadBytes file)
   pub empty : T (isFault (l .verdict)) → l .net ≡ blankNet
 
 -- ── writing ──

@@ -11,7 +11,7 @@ use Rattle.nets.specs.Sound.{sound}
 use Rattle.nets.specs.View.{view}
 use Rattle.files.specs.declared.Loaded.{Loaded}
 use Rattle.files.specs.declared.Written.the-variants.{Length}
-use Rattle.files.specs.Engine.{faultIn, picksIn, LoadIs, WriteIs}
+use Rattle.files.specs.Engine.{faultIn, ownPicks, LoadIs, WriteIs}
 use Rattle.files.specs.Loading.{accepted, loadBytes}
 use Rattle.files.specs.Writing.{written}
 
@@ -29,7 +29,7 @@ WrittenIsRead = (ts : List Table) → T (sound (tablesOnly ts)) → loadBytes (w
 pub record ReadBack (net : Code.Net) (l : Loaded) : Type 0 where
   pub fault : faultIn (l .verdict) ≡ none
   pub tables : view (l .net) ≡ tablesOnly (view net .tables)
-  pub picks : picksIn l ≡ []
+  pub picks : ownPicks l ≡ []
 
 -- `write` answered with a length: `load` of so many bytes from the buffer's start gives the tables back
 abbrev pub EveryWriteIsRead : Type 0

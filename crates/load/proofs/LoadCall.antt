@@ -19,7 +19,7 @@ use Rattle.load.specs.declared.FileRead.{FileRead}
 use Rattle.load.specs.Lengths.{LengthIs}
 use Rattle.files.specs.declared.Verdict.the-variants as verdict
 use Rattle.files.specs.Empty.{blankNet}
-use Rattle.files.specs.Engine.{faultIn, picksOf, LoadIs}
+use Rattle.files.specs.Engine.{faultIn, firstPicks, LoadIs}
 use Rattle.files.specs.Loading.{Progress, nothingRead, loadChecks, advance, failing, Reading, stopped, finished, proceed, readAll, linkOk, numberAfter, badLink, firstBadLink, rejected, accepted, linked, finish, load, loadBytes, faultOf, netLoaded, picksLoaded}
 use Rattle.load_walk.specs.Walking.{byEnd, ending, isGood, placeOr}
 use Rattle.files.proofs.EngineLaws.{blank-empty}
@@ -32,11 +32,11 @@ refused-is file l n i e v h p =
     record {
       fault = ap faultIn v ∙ sym (ap faultOf e);
       net = ap view h ∙ blank-empty ∙ sym (ap netLoaded e);
-      picks = ap (λ (k : ℕ). picksOf k (l .picks)) p ∙ sym (ap picksLoaded e);
+      picks = ap (λ (k : ℕ). firstPicks k (l .picks)) p ∙ sym (ap picksLoaded e);
       empty = λ t. h;
     }
 
-pub accepted-is : (file : List ℕ) (net : Net) (ps : List Pick) (n : ℕ) → loadBytes file ≡ accepted (view net) (picksOf n ps) →
+pub accepted-is : (file : List ℕ) (net : Net) (ps : List Pick) (n : ℕ) → loadBytes file ≡ accepted (view net) (firstPicks n ps) →
     LoadIs file (record { verdict = verdict.Accepted; net = net; picks = ps; pickcount = n })
 accepted-is file net ps n e = record { fault = sym (ap faultOf e); net = sym (ap netLoaded e); picks = sym (ap picksLoaded e); empty = λ t. absurd t }
 
@@ -130,9 +130,9 @@ module _ (file : List ℕ) (n k : ℕ) (e : k ≡ placeOr (wholeRecords file) (f
 -- ── the answer ──
 
 module _ (file : List ℕ) (e : loadBytes file ≡ load (recordsIn file)) (d : FileRead)
-    (q : readAll 0 nothingRead (recordsIn file) ≡ ending (d .reach) (record { net = view (d .net); picks = picksOf (d .pickcount) (d .picks); group = 0 })) where
+    (q : readAll 0 nothingRead (recordsIn file) ≡ ending (d .reach) (record { net = view (d .net); picks = firstPicks (d .pickcount) (d .picks); group = 0 })) where
   abbrev got : Progress
-  got = record { net = view (d .net); picks = picksOf (d .pickcount) (d .picks); group = d .reach .group }
+  got = record { net = view (d .net); picks = firstPicks (d .pickcount) (d .picks); group = d .reach .group }
 
   loaded : loadBytes file ≡ finish (recordsIn file) (byEnd (d .reach .fault) (d .reach .place) got)
   unfolding load
@@ -163,5 +163,5 @@ module _ (file : List ℕ) (e : loadBytes file ≡ load (recordsIn file)) (d : F
       pub bad-linked : k < wholeRecords file → loadBytes file ≡ rejected 9 k
       bad-linked h = linked-as ∙ ap (λ (o : Option ℕ). linked o got) (link-at file (d .net .nodecount) k b h)
 
-      pub well-linked : wholeRecords file ≤ k → loadBytes file ≡ accepted (view (d .net)) (picksOf (d .pickcount) (d .picks))
+      pub well-linked : wholeRecords file ≤ k → loadBytes file ≡ accepted (view (d .net)) (firstPicks (d .pickcount) (d .picks))
       well-linked h = linked-as ∙ ap (λ (o : Option ℕ). linked o got) (link-none file (d .net .nodecount) k b h)

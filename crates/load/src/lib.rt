@@ -18,7 +18,7 @@ ghost use mathlib.Core.Path.{_≡_};
 ghost use Rattle.nets.specs.View.{view};
 ghost use Rattle.record_bytes.specs.Decoding.{recordsIn};
 ghost use Rattle.files.specs.Empty.{blankNet};
-ghost use Rattle.files.specs.Engine.{LoadIs, picksOf};
+ghost use Rattle.files.specs.Engine.{LoadIs, firstPicks};
 ghost use Rattle.files.specs.Loading.{nothingRead, readAll};
 ghost use Rattle.load_walk.specs.Walking.{Whole, ending};
 ghost use Rattle.load.specs.Lengths.{LengthIs};
@@ -63,7 +63,7 @@ pub fn length_fault(length: usize) -> LengthFault
 // Checks 3 to 8, group after group.
 fn read_all(file: &[u8]) -> FileRead
     requires { ⌜ Whole (now file) ⌝ }
-    ensures { λ r. ⌜ readAll 0 nothingRead (recordsIn (now (file .entry))) ≡ ending (r .reach) (record { net = view (r .net); picks = picksOf (r .pickcount) (r .picks); group = 0 }) ⌝ }
+    ensures { λ r. ⌜ readAll 0 nothingRead (recordsIn (now (file .entry))) ≡ ending (r .reach) (record { net = view (r .net); picks = firstPicks (r .pickcount) (r .picks); group = 0 }) ⌝ }
 {
     let start = Reach {
         place: 0,

@@ -59,7 +59,7 @@ pub fn blank_node() -> Node
         column: 0,
         columns: 0,
         kinds: [0; 4],
-        place: Operand::Absent,
+        locality: Operand::Absent,
         selector: Selector {
             template: none,
             test: Test::Always,

@@ -8,12 +8,12 @@ use nets::Pick;
 use record_forms::pick_form;
 use record_forms::pick_in;
 ghost use mathlib.Core.List.{[]};
-ghost use Rattle.files.specs.Engine.{picksOf};
+ghost use Rattle.files.specs.Engine.{firstPicks};
 ghost use Rattle.load_walk.specs.Walking.{putPicks, Leads, Going};
 
 pub fn picks_from(file: &[u8], from: Reach) -> PicksRead
     requires { ⌜ Going (now file) 6 from ⌝ }
-    ensures { λ r. ⌜ Leads (now (file .entry)) from (r .reach) (putPicks []) (putPicks (picksOf (r .count) (r .picks))) × Going (now (file .entry)) 7 (r .reach) ⌝ }
+    ensures { λ r. ⌜ Leads (now (file .entry)) from (r .reach) (putPicks []) (putPicks (firstPicks (r .count) (r .picks))) × Going (now (file .entry)) 7 (r .reach) ⌝ }
 {
     let mut picks = [Pick { thread: 0, row: 0 }; 256];
     let mut count: usize = 0;

@@ -2,9 +2,9 @@
 use crate::NodesJudged;
 use crate::operands::function_ok;
 use crate::operands::is_absent;
+use crate::operands::locality_operand_ok;
 use crate::operands::no_test;
 use crate::operands::operands_ok;
-use crate::operands::place_ok;
 use crate::operands::tagged;
 use crate::operands::template_ok;
 use crate::operands::test_ok;
@@ -12,7 +12,7 @@ use crate::ranges::is_text;
 use crate::relations::columns_ok;
 use nets::Node;
 use nets::kinds::binds_relation;
-use nets::kinds::has_place;
+use nets::kinds::has_locality;
 use nets::kinds::has_test;
 use nets::kinds::has_tuple;
 use nets::kinds::is_aggregate;
@@ -27,8 +27,8 @@ ghost use mathlib.Core.Bool.{true, false, cond, _&&_};
 ghost use lib.Dec.{eqb, leb};
 ghost use Rattle.values.specs.Values.{isText};
 ghost use Rattle.rows.specs.View.{columnsOf, operandsOf};
-ghost use Rattle.nets.specs.Nets.{hasPlace, hasTemplate, hasTest, hasTuple, isSelect, isLoop};
-ghost use Rattle.nets.specs.Sound.{columnsOk, tagged, isAbsent, placeOk, operandsOk, isEmpty, fieldsOkAs, linksOkAs, nodesOk};
+ghost use Rattle.nets.specs.Nets.{hasLocality, hasTemplate, hasTest, hasTuple, isSelect, isLoop};
+ghost use Rattle.nets.specs.Sound.{columnsOk, tagged, isAbsent, localityOperandOk, operandsOk, isEmpty, fieldsOkAs, linksOkAs, nodesOk};
 ghost use Rattle.nets.specs.View.{kindAt, nodeOf, nodesOf};
 ghost use Rattle.net_parts.specs.SoundParts.{linksAt, shapeOf, ShapesOf};
 
@@ -81,11 +81,11 @@ fn columns_used(used: bool, columns: usize, kinds: [u8; 4]) -> bool
     columns == 0
 }
 
-fn place_used(used: bool, op: Operand) -> bool
-    ensures { λ r. ⌜ r ≡ cond used (placeOk op) (isAbsent op) ⌝ }
+fn locality_used(used: bool, op: Operand) -> bool
+    ensures { λ r. ⌜ r ≡ cond used (localityOperandOk op) (isAbsent op) ⌝ }
 {
     if used {
-        return place_ok(op);
+        return locality_operand_ok(op);
     }
     is_absent(op)
 }
@@ -101,14 +101,14 @@ fn result_used(used: bool, op: Operand) -> bool
 
 // A node of an insert, insert-table, create or drop.
 fn plain_ok(d: Node) -> bool
-    requires { ⌜ (hasTemplate (kindAt (d .kind)) ≡ false) × (hasPlace (kindAt (d .kind)) ≡ true) ⌝ }
+    requires { ⌜ (hasTemplate (kindAt (d .kind)) ≡ false) × (hasLocality (kindAt (d .kind)) ≡ true) ⌝ }
     ensures { λ r. ⌜ r ≡ fieldsOkAs (kindAt (d .kind)) (nodeOf d) ⌝ }
 {
     let kind = d.kind;
     let selector = d.selector;
     let template = selector.template;
     let kinds = d.kinds;
-    let place = d.place;
+    let place = d.locality;
     let result = d.result;
     let tuple = d.tuple;
     let function = d.function;
@@ -118,7 +118,7 @@ fn plain_ok(d: Node) -> bool
         & ok_if_used(reads_relation(kind), d.read < 2, d.read == 0)
         & function_ok(false, function, d.column)
         & columns_used(is_create(kind), d.columns, kinds)
-        & place_ok(place)
+        & locality_operand_ok(place)
         & (template.count == 0)
         & no_test(selector)
         & tuple_used(has_tuple(kind), tuple)
@@ -133,19 +133,19 @@ fn choosing_ok(d: Node) -> bool
     let kind = d.kind;
     let selector = d.selector;
     let template = selector.template;
-    let place = d.place;
+    let place = d.locality;
     let result = d.result;
     let tuple = d.tuple;
     let function = d.function;
     let aggregate = is_aggregate(kind);
-    let placed = has_place(kind);
+    let placed = has_locality(kind);
     (d.body == 0)
         & name_used(placed, d.name)
         & ok_if_used(binds_relation(kind), d.bound < 2, d.bound == 0)
         & ok_if_used(reads_relation(kind), d.read < 2, d.read == 0)
         & function_ok(aggregate, function, d.column)
         & (d.columns == 0)
-        & place_used(placed, place)
+        & locality_used(placed, place)
         & template_ok(template)
         & test_ok(selector)
         & tuple_ok(kind, tuple)
@@ -159,7 +159,7 @@ fn visiting_ok(d: Node) -> bool
 {
     let selector = d.selector;
     let template = selector.template;
-    let place = d.place;
+    let place = d.locality;
     let result = d.result;
     let tuple = d.tuple;
     let function = d.function;
@@ -186,7 +186,7 @@ pub fn fields_ok(d: Node) -> bool
     if is_loop(kind) {
         return visiting_ok(d);
     }
-    if has_place(kind) {
+    if has_locality(kind) {
         return plain_ok(d);
     }
     false

@@ -10,7 +10,7 @@ ghost use mathlib.Core.Path.{_≡_};
 ghost use mathlib.Core.Bool.{_&&_};
 ghost use Rattle.rows.specs.declared.Test.the-variants.{Always};
 ghost use Rattle.rows.specs.View.{operandsOf};
-ghost use Rattle.nets.specs.Sound.{tagged, isAbsent, placeOk, operandsOk, templateOk, testOk, isAlways, functionOk};
+ghost use Rattle.nets.specs.Sound.{tagged, isAbsent, localityOperandOk, operandsOk, templateOk, testOk, isAlways, functionOk};
 ghost use Rattle.net_parts.specs.SoundParts.{formalPlace};
 
 // ---- operands
@@ -39,8 +39,8 @@ pub fn tagged(hi: u8, op: Operand) -> bool
     }
 }
 
-pub fn place_ok(op: Operand) -> bool
-    ensures { λ r. ⌜ r ≡ placeOk op ⌝ }
+pub fn locality_operand_ok(op: Operand) -> bool
+    ensures { λ r. ⌜ r ≡ localityOperandOk op ⌝ }
 {
     match op {
         Operand::ConstLoc(l) => locality_ok(l),

@@ -12,7 +12,7 @@ use print_lines::lines::put_tables;
 use print_lines::pages::at_most;
 use print_lines::pages::write_page;
 use step_bytes::picks::pick_bytes;
-use step_left::Gone;
+use step_left::Carried;
 use step_picks::carry_out;
 ghost use mathlib.Core.Path.{_≡_};
 ghost use Prim.Native.Nat.{_*_, _≤_};
@@ -25,7 +25,7 @@ ghost use Rattle.step_bytes.specs.AnswerBytes.{answersPut};
 ghost use Rattle.step_left.specs.Leaving.{leftBy};
 
 // What the first `count` picks leave, and all their answers.
-fn run(start: Net, picks: [Pick; 256], count: usize, answers: &mut [u8]) -> Gone
+fn run(start: Net, picks: [Pick; 256], count: usize, answers: &mut [u8]) -> Carried
     requires { ⌜ T (sound (view start)) × (count ≤ 256) × (length (now answers) ≡ 6144) ⌝ }
     ensures { λ r. ⌜ (view (leftBy start r) ≡ after (view start) (take count picks)) × (take (count * 24) (now (answers .exit)) ≡ answersPut (view start) (take count picks)) ⌝ }
 {

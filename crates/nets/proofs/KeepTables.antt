@@ -56,7 +56,7 @@ or-zero (some s) h = h
 
 site-ok : {k : Kind} {c : Scene} → Sure k c → T (all aliasOk (c .net .aliases)) → T (siteOk (site c))
 unfolding site siteOfL
-site-ok {k} {c} s h = or-zero (siteOfL c) (got-ok (c .net .aliases) (c .thread .site) (eval (vars c) (c .node .place)) h (s .siteFine))
+site-ok {k} {c} s h = or-zero (siteOfL c) (got-ok (c .net .aliases) (c .thread .site) (eval (vars c) (c .node .locality)) h (s .siteFine))
 
 -- ── the tables ──
 

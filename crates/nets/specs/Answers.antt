@@ -6,7 +6,7 @@ use mathlib.Core.List.{List, []}
 use lib.Dec.{T}
 use Rattle.nets.specs.declared.Pick.{Pick}
 use Rattle.nets.specs.declared.Refusal.{Refusal}
-use Rattle.nets.specs.declared.Refusal.the-variants.{Unsound, NoThread, Unbound, NoPlace, NoTable, TableThere, Misfit, Held, NoResult, NotReady, Full}
+use Rattle.nets.specs.declared.Refusal.the-variants.{Unsound, NoThread, Unbound, NoSite, NoTable, TableThere, Misfit, Held, NoResult, NotReady, Full}
 use Rattle.nets.specs.declared.Answer.{Answer}
 use Rattle.nets.specs.declared.Answer.the-variants.{Done, Refused}
 use Rattle.nets.specs.declared.Net.{Net}
@@ -48,7 +48,7 @@ abbrev pub numberOf : Refusal → ℕ
 numberOf Unsound = 10
 numberOf NoThread = 11
 numberOf Unbound = 12
-numberOf NoPlace = 13
+numberOf NoSite = 13
 numberOf NoTable = 14
 numberOf TableThere = 15
 numberOf Misfit = 16

@@ -52,7 +52,7 @@ node k f t u r next =
       function = f;
       column = 0;
       columns = [];
-      place = ConstLoc (record { 0 = 0 });
+      locality = ConstLoc (record { 0 = 0 });
       selector = record { template = t; test = Always; left = Absent; right = Absent };
       tuple = u;
       result = r;

@@ -51,8 +51,8 @@ acts (acting a) = true
 acts (other o) = false
 
 -- the step has an L and a name; the table must be there; it must not
-abbrev pub hasPlace : Kind → Bool
-hasPlace k = among (code k) (16 ∷ 17 ∷ 18 ∷ 19 ∷ 21 ∷ 22 ∷ 23 ∷ 24 ∷ [])
+abbrev pub hasLocality : Kind → Bool
+hasLocality k = among (code k) (16 ∷ 17 ∷ 18 ∷ 19 ∷ 21 ∷ 22 ∷ 23 ∷ 24 ∷ [])
 
 abbrev pub needsTable : Kind → Bool
 needsTable k = among (code k) (16 ∷ 17 ∷ 18 ∷ 19 ∷ 21 ∷ 22 ∷ 24 ∷ [])
@@ -106,7 +106,7 @@ pub record Node : Type 0 where
   -- columns of a create
   pub columns : Columns
   -- L
-  pub place : Operand
+  pub locality : Operand
   -- T and the predicate
   pub selector : Selector
   -- t

@@ -83,7 +83,7 @@ siteOfGot ls s (One (Loc l)) = siteMeant ls s l
 
 -- the site that L means at the thread's site, if any
 unfoldable pub siteOfL : Scene → Option Site
-siteOfL c = siteOfGot (c .net .aliases) (c .thread .site) (eval (vars c) (c .node .place))
+siteOfL c = siteOfGot (c .net .aliases) (c .thread .site) (eval (vars c) (c .node .locality))
 
 unfoldable pub site : Scene → Site
 site c = orElse (record { 0 = 0 }) (siteOfL c)

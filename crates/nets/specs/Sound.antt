@@ -19,7 +19,7 @@ use Rattle.rows.specs.declared.Function.the-variants.{Unused, Count, Sum, Least
 use Rattle.rows.specs.Relations.{Row, Columns, Relation}
 use Rattle.rows.specs.Fit.{relationFits}
 use Rattle.nets.specs.declared.Alias.{Alias}
-use Rattle.nets.specs.Nets.{Table, Kind, other, badKind, code, hasPlace, isCreate, hasTemplate, hasTest, hasTuple, isSelect, readsRelation, bindsRelation, isAggregate, isLoop, Node, Entry, toRun, visiting, Bindings, Thread, Net}
+use Rattle.nets.specs.Nets.{Table, Kind, other, badKind, code, hasLocality, isCreate, hasTemplate, hasTest, hasTuple, isSelect, readsRelation, bindsRelation, isAggregate, isLoop, Node, Entry, toRun, visiting, Bindings, Thread, Net}
 use Rattle.nets.specs.Tables.{rowsFit, distinct}
 
 -- ── what stands where nothing is ──
@@ -36,7 +36,7 @@ noNode =
       function = Unused;
       column = 0;
       columns = [];
-      place = Absent;
+      locality = Absent;
       selector = record { template = []; test = Always; left = Absent; right = Absent };
       tuple = [];
       result = Absent;
@@ -109,14 +109,14 @@ isAbsent (Plus i k) = false
 isAbsent (Formal i) = false
 
 -- L has tag 3 or 4
-abbrev pub placeOk : Operand → Bool
-placeOk Absent = false
-placeOk (ConstInt i) = false
-placeOk (ConstText t) = false
-placeOk (ConstLoc l) = localityOk l
-placeOk (Var i) = ltb i 16
-placeOk (Plus i k) = false
-placeOk (Formal i) = false
+abbrev pub localityOperandOk : Operand → Bool
+localityOperandOk Absent = false
+localityOperandOk (ConstInt i) = false
+localityOperandOk (ConstText t) = false
+localityOperandOk (ConstLoc l) = localityOk l
+localityOperandOk (Var i) = ltb i 16
+localityOperandOk (Plus i k) = false
+localityOperandOk (Formal i) = false
 
 -- 1..4 operands with tags 1..hi
 abbrev pub operandsOk : ℕ → List Operand → Bool
@@ -161,12 +161,12 @@ unfoldable pub fieldsOkAs : Kind → Node → Bool
 fieldsOkAs k d =
     not (eqb (code k) 0)
     && (isLoop k || eqb (d .body) 0)
-    && cond (hasPlace k) (isText (d .name)) (eqb (d .name) 0)
+    && cond (hasLocality k) (isText (d .name)) (eqb (d .name) 0)
     && cond (bindsRelation k) (ltb (d .bound) 2) (eqb (d .bound) 0)
     && cond (readsRelation k) (ltb (d .read) 2) (eqb (d .read) 0)
     && functionOk (isAggregate k) (d .function) (d .column)
     && cond (isCreate k) (columnsOk (d .columns)) (isEmpty (d .columns))
-    && cond (hasPlace k) (placeOk (d .place)) (isAbsent (d .place))
+    && cond (hasLocality k) (localityOperandOk (d .locality)) (isAbsent (d .locality))
     && cond (hasTemplate k) (templateOk (d .selector .template)) (isEmpty (d .selector .template))
     && cond (hasTest k) (testOk (d .selector .test) (d .selector .left) (d .selector .right)) (isAlways (d .selector .test) && testOk Always (d .selector .left) (d .selector .right))
     && cond (hasTuple k) (operandsOk 5 (d .tuple)) (cond (isSelect k) (operandsOk 4 (d .tuple)) (isEmpty (d .tuple)))

@@ -15,7 +15,7 @@ use Rattle.rows.specs.Fit.{fits, sameColumns}
 use Rattle.row_change.specs.Changes.{changes, updated, selection}
 use Rattle.row_change.specs.Aggregates.{columnFits}
 use Rattle.nets.specs.declared.Pick.{Pick}
-use Rattle.nets.specs.Nets.{Table, Kind, acting, other, insert, insertTable, delete, update, create, drop, hasPlace, needsTable, isCreate, hasTemplate, readsRelation, bindsRelation, isAggregate, isParallel, Node, Entry, toRun, visiting, Bindings, Thread, Net, Outcome, refused, done}
+use Rattle.nets.specs.Nets.{Table, Kind, acting, other, insert, insertTable, delete, update, create, drop, hasLocality, needsTable, isCreate, hasTemplate, readsRelation, bindsRelation, isAggregate, isParallel, Node, Entry, toRun, visiting, Bindings, Thread, Net, Outcome, refused, done}
 use Rattle.nets.specs.Tables.{change, remove}
 use Rattle.nets.specs.Sound.{sound, noNode, entryNode}
 use Rattle.nets.specs.Scenes.{Scene, below, sceneOf, vars, template, siteOfL, site, table, Parts, parts, hitRows, ownDraft, result, visit, rowAt, pickReady, opens}
@@ -37,7 +37,7 @@ known v os = all (λ o. all v (reads o)) os
 -- with the variables `v` and the table variables `r` bound: L, T and T' read bound ones; the predicate and t also formals of T
 unfoldable pub readsOk : (ℕ → Bool) → (ℕ → Bool) → Node → Bool
 readsOk v r d =
-    known v (d .place ∷ d .result ∷ d .selector .template)
+    known v (d .locality ∷ d .result ∷ d .selector .template)
     && known (λ i. v i || among i (formals (d .selector .template))) (d .selector .left ∷ d .selector .right ∷ d .tuple)
     && (not (readsRelation (d .kind)) || r (d .read))
 
@@ -45,7 +45,7 @@ unfoldable pub check12 : Scene → Bool
 check12 c = readsOk (isBound (vars c)) (isBoundTable (c .thread .bindings .relations)) (c .node)
 
 unfoldable pub check13 : Scene → Bool
-check13 c = not (hasPlace (c .node .kind)) || isSome (siteOfL c)
+check13 c = not (hasLocality (c .node .kind)) || isSome (siteOfL c)
 
 unfoldable pub check14 : Scene → Bool
 check14 c = not (needsTable (c .node .kind)) || isSome (table c)

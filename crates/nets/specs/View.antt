@@ -61,7 +61,7 @@ noNode =
       column = 0;
       columns = 0;
       kinds = [];
-      place = Absent;
+      locality = Absent;
       selector = record { template = noOperands; test = Always; left = Absent; right = Absent };
       tuple = noOperands;
       result = Absent;
@@ -116,7 +116,7 @@ nodeOf d =
       function = d .function;
       column = d .column;
       columns = columnsOf (d .columns) (d .kinds);
-      place = d .place;
+      locality = d .locality;
       selector = selectorOf (d .selector);
       tuple = operandsOf (d .tuple);
       result = d .result;

@@ -1,11 +1,11 @@
 // Classes of node kinds, by the kind byte.
 ghost use mathlib.Core.Path.{_≡_};
-ghost use Rattle.nets.specs.Nets.{hasPlace, needsTable, hasTest, hasTuple, isSelect, readsRelation, bindsRelation, isLoop, isUpdate, isAggregate, isCreate, isParallel};
+ghost use Rattle.nets.specs.Nets.{hasLocality, needsTable, hasTest, hasTuple, isSelect, readsRelation, bindsRelation, isLoop, isUpdate, isAggregate, isCreate, isParallel};
 ghost use Rattle.nets.specs.View.{kindAt};
 
 // The step has an L and a name.
-pub fn has_place(kind: u8) -> bool
-    ensures { λ r. ⌜ r ≡ hasPlace (kindAt kind) ⌝ }
+pub fn has_locality(kind: u8) -> bool
+    ensures { λ r. ⌜ r ≡ hasLocality (kindAt kind) ⌝ }
 {
     match kind {
         16 | 17 | 18 | 19 | 21 | 22 | 23 | 24 => true,

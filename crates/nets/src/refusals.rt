@@ -12,7 +12,7 @@ pub fn number_of(why: Refusal) -> usize
         Refusal::Unsound => 10,
         Refusal::NoThread => 11,
         Refusal::Unbound => 12,
-        Refusal::NoPlace => 13,
+        Refusal::NoSite => 13,
         Refusal::NoTable => 14,
         Refusal::TableThere => 15,
         Refusal::Misfit => 16,

@@ -63,7 +63,7 @@ nodeIn r =
       function = cond (isCreate k) Unused (functionAt (at r 10));
       column = cond (isCreate k) 0 (at r 11);
       columns = cond (isCreate k) (columnsIn (part 8 12 r)) [];
-      place = operandIn (part 16 24 r);
+      locality = operandIn (part 16 24 r);
       selector = record { template = operandsIn (part 24 56 r); test = testAt (at r 3); left = operandIn (part 88 96 r); right = operandIn (part 96 104 r) };
       tuple = cond (isAggregate k) [] (operandsIn (part 56 88 r));
       result = cond (isAggregate k) (operandIn (part 56 64 r)) Absent;

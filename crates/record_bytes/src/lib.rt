@@ -21,7 +21,7 @@ pub const KINDS: usize = 8;
 
 pub const KINDS_END: usize = 12;
 
-pub const PLACE: usize = 16;
+pub const LOCALITY: usize = 16;
 
 pub const TEMPLATE: usize = 24;
 

@@ -10,7 +10,7 @@ use nets::kinds::is_create;
 use record_bytes::KINDS;
 use record_bytes::KINDS_END;
 use record_bytes::LEFT;
-use record_bytes::PLACE;
+use record_bytes::LOCALITY;
 use record_bytes::RECORD;
 use record_bytes::RIGHT;
 use record_bytes::TEMPLATE;
@@ -158,7 +158,7 @@ fn node_in(r: &[u8]) -> Node
         column: byte_in(create, r[11]),
         columns: column_count(create, columns),
         kinds: kinds_in(columns),
-        place: operand_in(&r[PLACE..TEMPLATE]),
+        locality: operand_in(&r[LOCALITY..TEMPLATE]),
         selector: selector_in(r),
         tuple: tuple_in(aggregate, &r[TUPLE..LEFT]),
         result,
@@ -197,8 +197,8 @@ fn node_bytes(r: &[u8]) -> bool
     let aggregate = is_aggregate(kind);
     (r[3] <= 4)
         & middle_form(create, r[10], &r[KINDS..KINDS_END])
-        & (text_in(&r[KINDS_END..PLACE]) == 0)
-        & operand_form(&r[PLACE..TEMPLATE])
+        & (text_in(&r[KINDS_END..LOCALITY]) == 0)
+        & operand_form(&r[LOCALITY..TEMPLATE])
         & operands_form(&r[TEMPLATE..TUPLE])
         & tuple_form(aggregate, r)
         & operand_form(&r[LEFT..RIGHT])

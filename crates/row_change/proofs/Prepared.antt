@@ -23,7 +23,7 @@ use Rattle.rows.specs.declared.Relation.{Relation}
 use Rattle.rows.specs.declared.Field.{Field}
 use Rattle.rows.specs.declared.Operands.{Operands}
 use Rattle.rows.specs.declared.Selector.{Selector}
-use Rattle.rows.specs.declared.Place.{Place}
+use Rattle.rows.specs.declared.Component.{Component}
 use Rattle.rows.specs.declared.Term.{Term}
 use Rattle.rows.specs.declared.Terms.{Terms}
 use Rattle.rows.specs.declared.Plan.{Plan}
@@ -32,7 +32,7 @@ use Rattle.rows.specs.Relations as M
 use Rattle.rows.specs.Matching.{hits}
 use Rattle.rows.specs.Fit.{draft, ofKind, fits}
 use Rattle.rows.specs.View.{noCell, noRow, noField, valuesOf, columnsOf, relationOf, operandsOf, selectorOf, draftOf, Ready}
-use Rattle.rows.specs.Plans.{sourceOf, termOf, termGot, sourceKind, noPlace, termsIn, planHits}
+use Rattle.rows.specs.Plans.{sourceOf, termOf, termGot, sourceKind, noComponent, termsIn, planHits}
 use Rattle.rows.proofs.Relation as R
 use Rattle.rows.proofs.Lengths.{cells-long}
 use Rattle.rows.proofs.PlanLaws.{source-read, term-got}
@@ -204,7 +204,7 @@ module _ {r : Relation} {s : Selector} {e : Vars} {plan : Plan} (p : Planned r s
           at i low true h =
               let f = fits-there i low h in
               let long : terms .count ≡ r .columns =
-              sym (length-map (termsIn terms) (λ (x : Term). termGot x (rowAt i .cells)) ∙ length-firsts (λ (q : Place). q .term) noPlace (terms .count) (terms .places))
+              sym (length-map (termsIn terms) (λ (x : Term). termGot x (rowAt i .cells)) ∙ length-firsts (λ (q : Component). q .term) noComponent (terms .count) (terms .components))
               ∙ sym (fits-long (columnsOf (r .columns) (r .kinds)) (givenBy terms (rowAt i)) f) ∙ length-firsts (λ (k : ℕ). k) 0 (r .columns) (r .kinds) in
               ap (λ (m : ℕ). valuesOf m (getD (o .rows) i noRow)) (sym long)
               ∙ is .made i (subst T (sym (flag-is changed changes-marked i low ∙ h)) tt) (T-of d drafts) (fits-got (columnsOf (r .columns) (r .kinds)) (givenBy terms (rowAt i)) f)

@@ -34,7 +34,7 @@ pub fn sifted(r: Relation, flags: [bool; 16], want: bool) -> Relation
     }
 }
 
-pub fn number_of(flags: [bool; 16]) -> usize
+pub fn count_marks(flags: [bool; 16]) -> usize
     ensures { λ r. ⌜ r ≡ count (λ (b : Bool). b) flags ⌝ }
 {
     let mut n: usize = 0;

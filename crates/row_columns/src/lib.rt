@@ -1,5 +1,5 @@
 // The columns that a select makes: a kind for each component of t.
-use row_terms::source_of;
+use row_terms::variable_source;
 use rows::Operands;
 use rows::Source;
 use values::Operand;
@@ -40,7 +40,7 @@ fn column_kind(op: Operand, template: Operands, kinds: [u8; 4], vars: [Slot; 16]
         Operand::ConstInt(_) => INT,
         Operand::ConstText(_) => TEXT,
         Operand::ConstLoc(_) => LOC,
-        Operand::Var(i) => source_kind(source_of(i, template, vars), kinds),
+        Operand::Var(i) => source_kind(variable_source(i, template, vars), kinds),
         Operand::Plus(_, _) => INT,
         _ => 0,
     }

@@ -14,13 +14,13 @@ use Rattle.values.specs.Operands.{valueIn}
 use Rattle.values.proofs.Firsts.{map-firsts}
 use Rattle.rows.specs.declared.Cell.{Cell}
 use Rattle.rows.specs.declared.Row.{Row}
-use Rattle.rows.specs.declared.Place.{Place}
+use Rattle.rows.specs.declared.Component.{Component}
 use Rattle.rows.specs.declared.Term.{Term}
 use Rattle.rows.specs.declared.Terms.{Terms}
 use Rattle.rows.specs.declared.Plan.{Plan}
 use Rattle.rows.specs.Fit.{ofKind, fits}
 use Rattle.rows.specs.View.{noCell, columnsOf}
-use Rattle.rows.specs.Plans.{gotAt, termGot, noPlace, termsIn, planHits}
+use Rattle.rows.specs.Plans.{gotAt, termGot, noComponent, termsIn, planHits}
 use Rattle.rows.proofs.FitLaws.{all-there}
 use Rattle.rows.proofs.Fours.{fours}
 use Rattle.row_change.specs.declared.Made.{Made}
@@ -52,7 +52,7 @@ module _ (cs : List Cell) (i : ℕ) where
 
 module _ (t : Terms) (n : ℕ) (ks : List ℕ) (r : Row) (short : t .count ≤ 4) (low : n ≤ 4) (a b c d : Made) where
   abbrev given : ℕ → Got
-  given i = termGot (getD (t .places) i noPlace .term) (r .cells)
+  given i = termGot (getD (t .components) i noComponent .term) (r .cells)
 
   pub renewed-is : MadeIs (getD ks 0 0) (given 0) a → MadeIs (getD ks 1 0) (given 1) b → MadeIs (getD ks 2 0) (given 2) c → MadeIs (getD ks 3 0) (given 3) d →
       RenewedIs t n ks r (record {
@@ -62,11 +62,11 @@ module _ (t : Terms) (n : ℕ) (ks : List ℕ) (r : Row) (short : t .count ≤ 4
   renewed-is pa pb pc pd =
       record {
         fits =
-            four-agree ofKind (λ (k : ℕ). k) 0 (λ (p : Place). termGot (p .term) (r .cells)) noPlace n ks (t .places) (t .count) low (pa .fits) (pb .fits) (pc .fits) (pd .fits)
-            ∙ ap (fits (columnsOf n ks)) (sym (map-firsts (λ (x : Term). termGot x (r .cells)) (λ (p : Place). p .term) noPlace (t .count) (t .places)));
+            four-agree ofKind (λ (k : ℕ). k) 0 (λ (p : Component). termGot (p .term) (r .cells)) noComponent n ks (t .components) (t .count) low (pa .fits) (pb .fits) (pc .fits) (pd .fits)
+            ∙ ap (fits (columnsOf n ks)) (sym (map-firsts (λ (x : Term). termGot x (r .cells)) (λ (p : Component). p .term) noComponent (t .count) (t .components)));
         row =
             λ got.
-            fours (λ (x : Cell). x .value) noCell (λ (x : Term). valueIn (termGot x (r .cells))) (λ (p : Place). p .term) noPlace (t .count) (t .places) short
+            fours (λ (x : Cell). x .value) noCell (λ (x : Term). valueIn (termGot x (r .cells))) (λ (p : Component). p .term) noComponent (t .count) (t .components) short
             (pa .value) (pb .value) (pc .value) (pd .value)
             ∙ sym (map-map valueIn (λ (x : Term). termGot x (r .cells)) (termsIn t)) ∙ all-there (givenBy t r) got;
       }

@@ -75,10 +75,10 @@ fn renewed(terms: Terms, columns: usize, kinds: [u8; 4], row: Row) -> Renewed
     requires { ⌜ (columns ≤ 4) × (terms .count ≤ 4) ⌝ }
     ensures { λ o. ⌜ RenewedIs terms columns kinds row o ⌝ }
 {
-    let place0 = terms.places[0];
-    let place1 = terms.places[1];
-    let place2 = terms.places[2];
-    let place3 = terms.places[3];
+    let place0 = terms.components[0];
+    let place1 = terms.components[1];
+    let place2 = terms.components[2];
+    let place3 = terms.components[3];
     let term0 = place0.term;
     let term1 = place1.term;
     let term2 = place2.term;

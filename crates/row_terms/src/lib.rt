@@ -1,6 +1,6 @@
 // Operands prepared for one relation: where their values come from, and what they give for a row.
+use rows::Component;
 use rows::Operands;
-use rows::Place;
 use rows::Row;
 use rows::Source;
 use rows::Term;
@@ -60,7 +60,7 @@ fn formal_place(i: u8, template: Operands) -> usize
     4
 }
 
-pub fn source_of(i: u8, template: Operands, vars: [Slot; 16]) -> Source
+pub fn variable_source(i: u8, template: Operands, vars: [Slot; 16]) -> Source
     requires { ⌜ Short template ⌝ }
     ensures { λ r. ⌜ r ≡ sourceOf (varsOf vars) (operandsOf template) i ⌝ }
 {
@@ -82,8 +82,8 @@ pub fn term_of(op: Operand, template: Operands, vars: [Slot; 16]) -> Term
         Operand::ConstInt(i) => Term::Plain(Source::Fixed(Got::One(Value::Int(i)))),
         Operand::ConstText(t) => Term::Plain(Source::Fixed(Got::One(Value::Text(t)))),
         Operand::ConstLoc(l) => Term::Plain(Source::Fixed(Got::One(Value::Loc(l)))),
-        Operand::Var(i) => Term::Plain(source_of(i, template, vars)),
-        Operand::Plus(i, k) => Term::Shifted(source_of(i, template, vars), k),
+        Operand::Var(i) => Term::Plain(variable_source(i, template, vars)),
+        Operand::Plus(i, k) => Term::Shifted(variable_source(i, template, vars), k),
         _ => Term::Plain(Source::Fixed(Got::Nothing)),
     }
 }
@@ -120,26 +120,26 @@ pub fn term_got(t: Term, row: Row) -> Got
 
 // ---- tuples prepared for rows that match T
 
-fn place_of(t: Operands, i: usize, template: Operands, vars: [Slot; 16]) -> Place
+fn component_of(t: Operands, i: usize, template: Operands, vars: [Slot; 16]) -> Component
     requires { ⌜ Short template × (i < 4) ⌝ }
     ensures { λ r. ⌜ r .term ≡ termOf (varsOf vars) (operandsOf template) (getD (t .fields) i noField .operand) ⌝ }
 {
     let f = t.fields[i];
     let op = f.operand;
     let term = term_of(op, template, vars);
-    Place { term }
+    Component { term }
 }
 
 pub fn terms_of(t: Operands, template: Operands, vars: [Slot; 16]) -> Terms
     requires { ⌜ Short t × Short template ⌝ }
     ensures { λ r. ⌜ (termsIn r ≡ map (termOf (varsOf vars) (operandsOf template)) (operandsOf t)) × (r .count ≡ t .count) ⌝ }
 {
-    let a = place_of(t, 0, template, vars);
-    let b = place_of(t, 1, template, vars);
-    let c = place_of(t, 2, template, vars);
-    let d = place_of(t, 3, template, vars);
+    let a = component_of(t, 0, template, vars);
+    let b = component_of(t, 1, template, vars);
+    let c = component_of(t, 2, template, vars);
+    let d = component_of(t, 3, template, vars);
     Terms {
-        places: [a, b, c, d],
+        components: [a, b, c, d],
         count: t.count,
     }
 }

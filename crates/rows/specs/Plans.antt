@@ -19,7 +19,7 @@ use Rattle.rows.specs.declared.Source.{Source}
 use Rattle.rows.specs.declared.Source.the-variants.{Fixed, Column}
 use Rattle.rows.specs.declared.Term.{Term}
 use Rattle.rows.specs.declared.Term.the-variants.{Plain, Shifted}
-use Rattle.rows.specs.declared.Place.{Place}
+use Rattle.rows.specs.declared.Component.{Component}
 use Rattle.rows.specs.declared.Terms.{Terms}
 use Rattle.rows.specs.declared.Want.{Want}
 use Rattle.rows.specs.declared.Want.the-variants.{Anything, Like}
@@ -104,9 +104,9 @@ planHits p r = (p .free || wantsMet (p .wants) (r .cells)) && agrees (p .test) (
 
 -- ── tuples ──
 
-abbrev pub noPlace : Place
-noPlace = record { term = Plain (Fixed Nothing) }
+abbrev pub noComponent : Component
+noComponent = record { term = Plain (Fixed Nothing) }
 
 -- the terms in use
 abbrev pub termsIn : Terms → List Term
-termsIn t = firsts (λ (p : Place). p .term) noPlace (t .count) (t .places)
+termsIn t = firsts (λ (p : Component). p .term) noComponent (t .count) (t .components)

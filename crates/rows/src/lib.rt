@@ -73,13 +73,13 @@ pub enum Term {
     Shifted(Source, i32),
 }
 
-pub struct Place {
+pub struct Component {
     pub term: Term,
 }
 
 // A tuple t prepared for one relation.
 pub struct Terms {
-    pub places: [Place; 4],
+    pub components: [Component; 4],
     pub count: usize,
 }
 

@@ -4,7 +4,7 @@ use nets::Answer;
 use nets::Net;
 use nets::Stepped;
 use value_totals::Total;
-use value_totals::plus;
+use value_totals::add_count;
 use value_totals::zero;
 ghost use mathlib.Core.Path.{_≡_};
 ghost use Prim.Native.Nat.{_<_, _^_};
@@ -61,7 +61,7 @@ pub fn tally(s: Ran, stepped: Stepped) -> Ran
     Ran {
         net,
         sound: s.sound,
-        added: plus(added, added_in(answer)),
-        taken: plus(taken, taken_in(answer)),
+        added: add_count(added, added_in(answer)),
+        taken: add_count(taken, taken_in(answer)),
     }
 }

@@ -17,7 +17,7 @@ use Rattle.nets.specs.View.{view}
 use Rattle.values.proofs.Bools.{T-of, is-true}
 use Rattle.nets.proofs.AnswerLaws.{refuses-10}
 use Rattle.step_bytes.specs.PickBytes.{picksIn}
-use Rattle.step_left.specs.Turns.{Stood, GoneIs}
+use Rattle.step_left.specs.Carried.{Reached, CarriedIs}
 use Rattle.runs.specs.Runs.{RunIs}
 use Rattle.runs.proofs.FurtherLaws.{run-made}
 
@@ -58,15 +58,15 @@ unsound-all net e (p ∷ ps) =
 -- ── the run ──
 
 pub run-gone :
-    (net : Net) (ps qs : List Pick) (g : Stood) (b : Bool) → b ≡ sound (view net) → qs ≡ cond b ps [] → GoneIs net qs g → RunIs net ps (record { net = g .net; sound = b; added = g .added; taken = g .taken })
+    (net : Net) (ps qs : List Pick) (g : Reached) (b : Bool) → b ≡ sound (view net) → qs ≡ cond b ps [] → CarriedIs net qs g → RunIs net ps (record { net = g .net; sound = b; added = g .added; taken = g .taken })
 unfolding after answers
-run-gone net ps qs g true e f h = go (subst (λ (rs : List Pick). GoneIs net rs g) f h)
+run-gone net ps qs g true e f h = go (subst (λ (rs : List Pick). CarriedIs net rs g) f h)
   where
-    go : GoneIs net ps g → RunIs net ps (record { net = g .net; sound = true; added = g .added; taken = g .taken })
+    go : CarriedIs net ps g → RunIs net ps (record { net = g .net; sound = true; added = g .added; taken = g .taken })
     go k = run-made net ps _ (k .left) (k .added) (k .taken) (k .kept) (sym (is-true (sound (view (g .net))) (k .sound (T-of (sound (view net)) (sym e)))))
-run-gone net ps qs g false e f h = go (subst (λ (rs : List Pick). GoneIs net rs g) f h)
+run-gone net ps qs g false e f h = go (subst (λ (rs : List Pick). CarriedIs net rs g) f h)
   where
-    go : GoneIs net [] g → RunIs net ps (record { net = g .net; sound = false; added = g .added; taken = g .taken })
+    go : CarriedIs net [] g → RunIs net ps (record { net = g .net; sound = false; added = g .added; taken = g .taken })
     go k =
         let same : g .net ≡ net = k .kept tt in
         let all = unsound-all (view net) (sym e) ps in

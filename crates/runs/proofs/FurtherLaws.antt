@@ -25,7 +25,7 @@ use Rattle.nets.proofs.AnswerLaws.{refuses-10}
 use Rattle.files.proofs.EngineLaws.{said-added, said-taken, demand3-of, verdict-accepts}
 use Rattle.value_totals.specs.declared.Total.{Total}
 use Rattle.value_totals.specs.Totals.{totalOf}
-use Rattle.step_left.specs.Turns.{allRefused}
+use Rattle.step_left.specs.Carried.{allRefused}
 use Rattle.run_state.specs.declared.Ran.{Ran}
 use Rattle.run_state.specs.States.{Begun, Tallied}
 use Rattle.runs.specs.Runs.{RunIs}

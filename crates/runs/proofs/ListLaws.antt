@@ -10,7 +10,7 @@ use Rattle.nets.specs.declared.Pick.{Pick}
 use Rattle.nets.specs.Nets.{Net}
 use Rattle.nets.specs.Steps.{step}
 use Rattle.nets.specs.Accounts.{nextNet, after, answers, addedIn, takenIn, isDone, reportedAdded, reportedTaken}
-use Rattle.step_left.specs.Turns.{allRefused}
+use Rattle.step_left.specs.Carried.{allRefused}
 
 pub after-both : (net : Net) (ps qs : List Pick) → after net (ps ++ qs) ≡ after (after net ps) qs
 unfolding after

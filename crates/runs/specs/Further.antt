@@ -10,7 +10,7 @@ use Rattle.nets.specs.Accounts.{after, reportedAdded, reportedTaken}
 use Rattle.nets.specs.View.{view}
 use Rattle.run_state.specs.declared.Ran.{Ran}
 use Rattle.value_totals.specs.Totals.{totalOf}
-use Rattle.step_left.specs.Turns.{allRefused}
+use Rattle.step_left.specs.Carried.{allRefused}
 
 -- the flag is right, and the sums have room for a pick
 pub record Ready (s : Ran) : Type 0 where

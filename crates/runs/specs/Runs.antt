@@ -12,7 +12,7 @@ use Rattle.files.specs.declared.Verdict.the-variants.{Accepted}
 use Rattle.files.specs.declared.Loaded.{Loaded}
 use Rattle.files.specs.FileDemand3.{FileDemand3}
 use Rattle.files.specs.Engine.{LoadIs}
-use Rattle.step_left.specs.Turns.{allRefused}
+use Rattle.step_left.specs.Carried.{allRefused}
 use Rattle.run_state.specs.declared.Ran.{Ran}
 use Rattle.value_totals.specs.Totals.{totalOf}
 

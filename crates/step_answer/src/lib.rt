@@ -2,7 +2,7 @@
 use nets::Answer;
 use nets::Node;
 use nets::Refusal;
-use row_change::sifting::number_of;
+use row_change::sifting::count_marks;
 use rows::Relation;
 use step_effect::Judged;
 use step_effect::saying::checked;
@@ -41,7 +41,7 @@ pub fn says(
         16 => said_insert(node, content, vars),
         17 => said_append(node, content, source, vars),
         18 => {
-            let done = Answer::Done(0, number_of(flags));
+            let done = Answer::Done(0, count_marks(flags));
             checked(long, Refusal::Misfit, checked(!held, Refusal::Held, done))
         }
         19 | 20 => {
@@ -49,7 +49,7 @@ pub fn says(
             checked(long, Refusal::Misfit, checked(!held, Refusal::Held, bound))
         }
         21 => {
-            let n = number_of(flags);
+            let n = count_marks(flags);
             checked(long, Refusal::Misfit, Answer::Done(n, n))
         }
         22 => {

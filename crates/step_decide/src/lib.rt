@@ -4,7 +4,7 @@ use nets::Entry;
 use nets::Frame;
 use nets::Node;
 use nets::Refusal;
-use nets::kinds::has_place;
+use nets::kinds::has_locality;
 use nets::kinds::is_create;
 use nets::kinds::is_loop;
 use nets::kinds::is_parallel;
@@ -20,7 +20,7 @@ use step_meets::parts::is_located;
 use step_meets::parts::onward;
 use step_meets::parts::refuses;
 use step_reads::reads_ok;
-use step_thread::Turn;
+use step_thread::RoundAnswer;
 use step_thread::node_of;
 use values::Slot;
 ghost use mathlib.Core.Path.{_≡_};
@@ -63,11 +63,11 @@ fn decide_loop(
     let parallel = is_parallel(node.kind);
     let room = room_for_round(parallel, s.threads, depth);
     let r = round(template, source, frame, vars, s.row, room);
-    let turn = r.turn;
-    match turn {
-        Turn::Stopped(why) => refuses(why, vars, depth, frame),
-        Turn::Over => onward(depth, frame, node.next, vars, 0, 0),
-        Turn::Opened => {
+    let answer = r.answer;
+    match answer {
+        RoundAnswer::Stopped(why) => refuses(why, vars, depth, frame),
+        RoundAnswer::Over => onward(depth, frame, node.next, vars, 0, 0),
+        RoundAnswer::Opened => {
             let visit = r.visit;
             let inner = r.vars;
             let entry = Entry::Loop(node_of(frame));
@@ -138,8 +138,8 @@ pub fn decide(
     if !reads_ok(node, vars, bound) {
         return refuses(Refusal::Unbound, vars, depth, frame);
     }
-    if has_place(kind) & !is_located(located) {
-        return refuses(Refusal::NoPlace, vars, depth, frame);
+    if has_locality(kind) & !is_located(located) {
+        return refuses(Refusal::NoSite, vars, depth, frame);
     }
     if needs_table(kind) & !found {
         return refuses(Refusal::NoTable, vars, depth, frame);

@@ -1,9 +1,9 @@
--- The net that picks in turn leave.
+-- The net that picks leave.
 use Rattle.nets.specs.declared.Net.{Net}
-use Rattle.step_left.specs.declared.Gone.{Gone}
+use Rattle.step_left.specs.declared.Carried.{Carried}
 
 -- a net with other tables and threads
-abbrev pub leftBy : Net → Gone → Net
+abbrev pub leftBy : Net → Carried → Net
 leftBy net g =
     record {
       aliases = net .aliases;

@@ -1,3 +1,3 @@
--- What picks in turn leave, and what they come to.
+-- What picks leave, and what they come to.
 pub mod Leaving
-pub mod Turns
+pub mod Carried

@@ -1,4 +1,4 @@
-// What picks in turn leave. Aliases and nodes stay as they are, so that only tables and threads are handed on.
+// What picks leave of a net. Aliases and nodes stay as they are, so that only tables and threads are handed on.
 use nets::Answer;
 use nets::Net;
 use nets::Table;
@@ -8,7 +8,7 @@ ghost use mathlib.Core.Path.{_≡_};
 ghost use Rattle.step_left.specs.Leaving.{leftBy};
 
 // Tables and threads after some picks, the answer to the last of them, and the sums of rows added and taken.
-pub struct Gone {
+pub struct Carried {
     pub tables: [Table; 8],
     pub tablecount: usize,
     pub threads: [Thread; 8],
@@ -19,7 +19,7 @@ pub struct Gone {
 }
 
 // The net after them.
-pub fn left_by(net: Net, g: Gone) -> Net
+pub fn left_by(net: Net, g: Carried) -> Net
     ensures { λ r. ⌜ r ≡ leftBy net g ⌝ }
 {
     let aliases = net.aliases;

@@ -9,7 +9,7 @@ use rows::Operands;
 use rows::Relation;
 use step_reads::flag_in;
 use step_thread::Round;
-use step_thread::Turn;
+use step_thread::RoundAnswer;
 use values::Slot;
 ghost use mathlib.Core.Path.{_≡_};
 ghost use mathlib.Core.Bool.{Bool, _&&_};
@@ -102,7 +102,7 @@ fn opened(
     left[at] = false;
     let next = bind_row(template, picked, vars);
     Round {
-        turn: Turn::Opened,
+        answer: RoundAnswer::Opened,
         visit: left,
         vars: next,
     }
@@ -124,7 +124,7 @@ pub fn round(
     let visit = to_visit(frame, count);
     if template.count != source.columns {
         return Round {
-            turn: Turn::Stopped(Refusal::Misfit),
+            answer: RoundAnswer::Stopped(Refusal::Misfit),
             visit,
             vars,
         };
@@ -132,21 +132,21 @@ pub fn round(
     let ready = ready_places(template, source, visit, vars);
     if !any_place(ready) {
         return Round {
-            turn: Turn::Over,
+            answer: RoundAnswer::Over,
             visit,
             vars,
         };
     }
     if !flag_in(ready, row) {
         return Round {
-            turn: Turn::Stopped(Refusal::NotReady),
+            answer: RoundAnswer::Stopped(Refusal::NotReady),
             visit,
             vars,
         };
     }
     if !room {
         return Round {
-            turn: Turn::Stopped(Refusal::Full),
+            answer: RoundAnswer::Stopped(Refusal::Full),
             visit,
             vars,
         };

@@ -22,14 +22,14 @@ use Rattle.step_meets.specs.declared.Decided.{Decided}
 use Rattle.nets.specs.declared.Thread.{Thread}
 use Rattle.step_meets.specs.Situations.{Situation, moved}
 use Rattle.nets.specs.Nets as M
-use Rattle.nets.specs.Nets.{Kind, code, isLoop, hasPlace, needsTable, isCreate, bindsRelation}
+use Rattle.nets.specs.Nets.{Kind, code, isLoop, hasLocality, needsTable, isCreate, bindsRelation}
 use Rattle.nets.specs.Tables.{rowsOf, columnsOf, tableAt}
 use Rattle.nets.specs.Scenes.{Scene, below, Parts, parts, site, table, source}
 use Rattle.nets.specs.Steps.{held, check12, check13, check14, check15, check17, rowsBy, tablesBy, boundBy, varsBy, bindingsBy, withBindings, goOn, settle, threadsAfter, judge, checks, partChecks}
 use Rattle.nets.specs.Answers.{refusing, isDoing, stepSaid, answerOf, saidOf}
 use Rattle.nets.specs.View.{kindAt, bindingsOf, threadOf}
 use Rattle.step_effect.specs.Contracts.{isStep, putsRows, partsOf, Doing}
-use Rattle.step_thread.specs.Contracts.{standing, forksOf}
+use Rattle.step_thread.specs.Contracts.{goesOn, forksOf}
 use Rattle.step_meets.specs.Contracts.{locatedOf, outcomeAt, Meets, partsIn, Made, changed, DecidedAt, DecidedIs, ChangeIs}
 use Rattle.nets.proofs.AnswerLaws.{said-passed}
 use Rattle.nets.proofs.KindLaws.{at-one}
@@ -88,10 +88,10 @@ deny-both true b = refl
 deny-both false b = refl
 
 module _ (s : Situation) (c : Scene) (m : Meets s c) where
-  pub tested-13 : {p l : Bool} → p ≡ hasPlace (kindAt (s .node .kind)) → l ≡ isSome (locatedOf (s .located)) → check13 c ≡ not (p && not l)
+  pub tested-13 : {p l : Bool} → p ≡ hasLocality (kindAt (s .node .kind)) → l ≡ isSome (locatedOf (s .located)) → check13 c ≡ not (p && not l)
   unfolding check13
   tested-13 {p} {l} e f =
-      ap₂ (λ (a b : Bool). not a || b) (ap hasPlace (met-kind s c m) ∙ sym e) (ap isSome (m .located) ∙ sym f) ∙ deny p l
+      ap₂ (λ (a b : Bool). not a || b) (ap hasLocality (met-kind s c m) ∙ sym e) (ap isSome (m .located) ∙ sym f) ∙ deny p l
 
   pub tested-14 : {p : Bool} → p ≡ needsTable (kindAt (s .node .kind)) → check14 c ≡ not (p && not (s .found))
   unfolding check14
@@ -164,7 +164,7 @@ module _ (s : Situation) (c : Scene) (m : Meets s c) (step : T (isStep (kindAt (
 
       pub act-change :
           {a t : ℕ} → r .answer ≡ Done a t → saidOf (r .answer) ≡ stepSaid (partsIn s q) (s .held) (s .tables) → r .forks ≡ false → varsOf (r .vars) ≡ varsBy kind (partsIn s q) →
-          standing (threadOf (moved (s .thread) r (x .above) (x .body) (x .relations))) ≡ goOn (s .node .next) (withBindings (threadOf (s .thread)) (bindingsOf (r .vars) (x .relations))) (below (threadOf (s .thread) .stack)) →
+          goesOn (threadOf (moved (s .thread) r (x .above) (x .body) (x .relations))) ≡ goOn (s .node .next) (withBindings (threadOf (s .thread)) (bindingsOf (r .vars) (x .relations))) (below (threadOf (s .thread) .stack)) →
           ChangeIs c (changed s q r x)
       act-change e said f v goes-on =
           record {
@@ -172,11 +172,11 @@ module _ (s : Situation) (c : Scene) (m : Meets s c) (step : T (isStep (kindAt (
             content = λ h k. act-content k;
             room = λ h. absurd (subst T f h);
             threads = λ h.
-                threads ∙ sym (append-nil (settle (c .at) (standing (threadOf (moved (s .thread) r (x .above) (x .body) (x .relations)))) (c .net .threads)))
-                ∙ ap (λ (b : Bool). settle (c .at) (standing (threadOf (moved (s .thread) r (x .above) (x .body) (x .relations)))) (c .net .threads) ++ forksOf b (x .fork)) (sym f);
+                threads ∙ sym (append-nil (settle (c .at) (goesOn (threadOf (moved (s .thread) r (x .above) (x .body) (x .relations)))) (c .net .threads)))
+                ∙ ap (λ (b : Bool). settle (c .at) (goesOn (threadOf (moved (s .thread) r (x .above) (x .body) (x .relations)))) (c .net .threads) ++ forksOf b (x .fork)) (sym f);
           }
         where
-          threads : threadsAfter c ≡ settle (c .at) (standing (threadOf (moved (s .thread) r (x .above) (x .body) (x .relations)))) (c .net .threads)
+          threads : threadsAfter c ≡ settle (c .at) (goesOn (threadOf (moved (s .thread) r (x .above) (x .body) (x .relations)))) (c .net .threads)
           threads =
               effect-threads c scene-step
               ∙ ap₂ (λ (b : M.Bindings) (y : M.Thread). settle (c .at) (goOn (c .node .next) (withBindings y b) (below (y .stack))) (c .net .threads)) (bindings-are v) (m .thread)

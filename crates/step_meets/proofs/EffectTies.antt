@@ -3,11 +3,11 @@ use mathlib.Core.Path.{_≡_, refl, ap, _∙_}
 use mathlib.Core.Bool.{true, false, not, and-true}
 use mathlib.Core.Option.{some}
 use lib.Dec.{T, eqb}
-use lib.ListN.{length, drop as without}
+use lib.ListN.{length, drop}
 use Rattle.values.specs.Lists.{isSome}
 use Rattle.values.proofs.Bools.{and-r, is-true, T-of, not-T→false}
 use Rattle.rows.specs.Relations.{Relation}
-use Rattle.nets.specs.Nets.{Kind, acting, other, insert, insertTable, delete, update, create, drop, select, selectRelation, aggregate, sequential, parallel, badKind, code, needsTable, readsRelation, isLoop}
+use Rattle.nets.specs.Nets.{Kind, code, needsTable, readsRelation, isLoop}
 use Rattle.nets.specs.Tables.{tableAt, contentOf, rowsOf}
 use Rattle.nets.specs.Scenes.{Scene, below, parts, site, table, relation, source, opens}
 use Rattle.nets.specs.Steps.{held, check12, check13, check14, check15, check19, check20, rowsBy, withRowsBy, tablesBy, addedBy, takenBy, bindingsBy, withBindings, goOn, settle, threadsAfter, performed, judge, checks}
@@ -15,6 +15,7 @@ use Rattle.nets.specs.Answers.{Said, refusing, doing, stepSaid, answerOf}
 use Rattle.step_effect.specs.Contracts.{isStep, putsRows}
 use Rattle.step_meets.specs.Contracts.{laterChecks, outcomeAt}
 use Rattle.nets.proofs.AnswerLaws.{judge-said}
+use Rattle.nets.proofs.KindClasses.{_▸_, of-class}
 use Rattle.nets.proofs.StepLaws.{given}
 use Rattle.nets.proofs.TableLaws.{change-same}
 use Rattle.step_effect.proofs.KindTies.{puts-needs}
@@ -23,7 +24,7 @@ use Rattle.step_effect.proofs.KindTies.{puts-needs}
 
 -- by the checks from 16 on
 abbrev pub laterSaid : Scene → Said
-laterSaid c = judge refusing (without 6 (checks c)) (doing (addedBy (c .node .kind) (parts c)) (takenBy (c .node .kind) (parts c)))
+laterSaid c = judge refusing (drop 6 (checks c)) (doing (addedBy (c .node .kind) (parts c)) (takenBy (c .node .kind) (parts c)))
 
 pub later-said : (c : Scene) → check12 c ≡ true → check13 c ≡ true → check14 c ≡ true → check15 c ≡ true → answerOf (outcomeAt c) ≡ laterSaid c
 unfolding judge checks performed
@@ -46,18 +47,7 @@ own-source c h = rw h
 -- a kind that changes the rows of a table that stays
 pub puts-tables : (k : Kind) (c : Scene) → T (putsRows k) → tablesBy k c ≡ withRowsBy k c
 unfolding tablesBy
-puts-tables (acting insert) c s = refl
-puts-tables (acting insertTable) c s = refl
-puts-tables (acting delete) c s = refl
-puts-tables (acting update) c s = refl
-puts-tables (acting create) c s = absurd s
-puts-tables (acting drop) c s = absurd s
-puts-tables (other select) c s = absurd s
-puts-tables (other selectRelation) c s = absurd s
-puts-tables (other aggregate) c s = absurd s
-puts-tables (other sequential) c s = absurd s
-puts-tables (other parallel) c s = absurd s
-puts-tables (other badKind) c s = absurd s
+puts-tables k c = of-class (λ j. tablesBy j c ≡ withRowsBy j c) putsRows (refl ▸ refl ▸ refl ▸ refl ▸ tt) k
 
 -- check 14 saw that table, and its rows are those that the rule makes
 pub puts-rows : (c : Scene) → T (putsRows (c .node .kind)) → check14 c ≡ true → rowsOf (tableAt (site c) (c .node .name) (tablesBy (c .node .kind) c)) ≡ rowsBy (c .node .kind) (parts c) (rowsOf (table c))

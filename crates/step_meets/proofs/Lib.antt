@@ -7,4 +7,4 @@ pub mod MeetTies
 pub mod MovedLaws
 pub mod RoundTies
 pub mod SituationLaws
-pub mod TurnLaws
+pub mod LoopChangeLaws

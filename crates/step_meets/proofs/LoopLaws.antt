@@ -14,28 +14,28 @@ use Rattle.nets.specs.Scenes.{Scene, below}
 use Rattle.nets.specs.Answers.{saidOf}
 use Rattle.nets.specs.View.{kindAt, marked, entryOf, threadOf}
 use Rattle.step_thread.specs.declared.Round.{Round}
-use Rattle.step_thread.specs.declared.Turn.the-variants.{Over, Opened}
+use Rattle.step_thread.specs.declared.RoundAnswer.the-variants.{Over, Opened}
 use Rattle.step_thread.specs.Contracts.{Stacked}
 use Rattle.step_meets.specs.declared.Decided.{Decided}
 use Rattle.step_meets.specs.Situations.{Situation, moved, Onward}
 use Rattle.step_meets.specs.Contracts.{DecidedAt}
 use Rattle.step_meets.proofs.DecideLaws.{change-as}
 use Rattle.step_meets.proofs.MovedLaws.{moved-top, moved-over, goes-on}
-use Rattle.step_meets.proofs.TurnLaws.{loop-relations, same-bindings, RoundAt, turn-says, turn-over, turn-runs, turn-forks}
+use Rattle.step_meets.proofs.LoopChangeLaws.{loop-relations, same-bindings, RoundAt, round-says, round-over, round-runs, round-forks}
 
 module _ (s : Situation) (q : Code.Relation) (c : Scene) (o : Round) (at : RoundAt s c o) (ok : Stacked (s .thread)) (eight : length (s .thread .stack) ≡ 8) (r : Decided) (done : r .answer ≡ Done 0 0) where
   -- the loop is over
-  pub over-at : o .turn ≡ Over → r .forks ≡ false → r .vars ≡ s .thread .vars → Onward (s .thread .depth) (s .node .next) r → DecidedAt s q c r
+  pub over-at : o .answer ≡ Over → r .forks ≡ false → r .vars ≡ s .thread .vars → Onward (s .thread .depth) (s .node .next) r → DecidedAt s q c r
   over-at e f v g =
       record {
-        answer = ap saidOf done ∙ turn-says s c o at e;
+        answer = ap saidOf done ∙ round-says s c o at e;
         change = λ h x.
             change-as c s q r x done f
-            (turn-over s c o at e (x .content) (moved (s .thread) r (x .above) (x .body) (x .relations)) (x .fork)
+            (round-over s c o at e (x .content) (moved (s .thread) r (x .above) (x .body) (x .relations)) (x .fork)
             (goes-on (s .thread) r (x .above) (x .over) (x .body) (x .relations) ok eight (s .node .next) g ∙ same-bindings s q r x (at .loop) v));
       }
 
-  module _ (e : o .turn ≡ Opened) {i : ℕ} (number : i ≡ entryNode (entryOf (s .frame))) (waits : entryOf (r .frame) ≡ visiting i (marked 0 (o .visit))) where
+  module _ (e : o .answer ≡ Opened) {i : ℕ} (number : i ≡ entryNode (entryOf (s .frame))) (waits : entryOf (r .frame) ≡ visiting i (marked 0 (o .visit))) where
     waiting : entryOf (r .frame) ≡ visiting (entryNode (entryOf (s .frame))) (marked 0 (o .visit))
     waiting = waits ∙ ap (λ (j : ℕ). visiting j (marked 0 (o .visit))) number
 
@@ -43,10 +43,10 @@ module _ (s : Situation) (q : Code.Relation) (c : Scene) (o : Round) (at : Round
     pub runs-at : isParallel (kindAt (s .node .kind)) ≡ false → s .thread .depth < 8 → r .forks ≡ false → r .vars ≡ o .vars → r .depth ≡ s .thread .depth + 1 → DecidedAt s q c r
     runs-at k deep f v d =
         record {
-          answer = ap saidOf done ∙ turn-says s c o at e;
+          answer = ap saidOf done ∙ round-says s c o at e;
           change = λ h x.
               change-as c s q r x done f
-              (turn-runs s c o at e k (x .content) (moved (s .thread) r (x .above) (x .body) (x .relations)) (x .fork)
+              (round-runs s c o at e k (x .content) (moved (s .thread) r (x .above) (x .body) (x .relations)) (x .fork)
               (moved-over (s .thread) r (x .above) (x .over) (x .body) (x .relations) ok eight deep d
               ∙ (λ j.
               record {
@@ -60,10 +60,10 @@ module _ (s : Situation) (q : Code.Relation) (c : Scene) (o : Round) (at : Round
     pub forks-at : isParallel (kindAt (s .node .kind)) ≡ true → r .forks ≡ true → r .vars ≡ s .thread .vars → r .inner ≡ o .vars → r .depth ≡ s .thread .depth → DecidedAt s q c r
     forks-at k f v n d =
         record {
-          answer = ap saidOf done ∙ turn-says s c o at e;
+          answer = ap saidOf done ∙ round-says s c o at e;
           change = λ h x.
               change-as c s q r x done f
-              (turn-forks s c o at e k (x .content) (moved (s .thread) r (x .above) (x .body) (x .relations)) (x .fork) (subst (λ (m : ℕ). 1 ≤ m) (sym d) (ok .some))
+              (round-forks s c o at e k (x .content) (moved (s .thread) r (x .above) (x .body) (x .relations)) (x .fork) (subst (λ (m : ℕ). 1 ≤ m) (sym d) (ok .some))
               (moved-top (s .thread) r (x .above) (x .over) (x .body) (x .relations) ok eight d
               ∙ (λ j.
               record {

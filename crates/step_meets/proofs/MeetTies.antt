@@ -16,7 +16,7 @@ use Rattle.nets.specs.Steps.{roomForRound}
 use Rattle.nets.specs.View.{kindAt}
 use Rattle.step_thread.specs.Contracts.{visitOf}
 use Rattle.step_meets.specs.Contracts.{Meets, relationRead, partsIn}
-use Rattle.step_meets.proofs.RoundTies.{turnAt, turnIn, loop-turn}
+use Rattle.step_meets.proofs.RoundTies.{roundHere, roundWith, loop-round}
 use Rattle.step_thread.proofs.ThreadLaws.{length-stack}
 
 module _ (s : Situation) (c : Scene) (m : Meets s c) where
@@ -38,11 +38,11 @@ module _ (s : Situation) (c : Scene) (m : Meets s c) where
   met-parts q e = λ i. record { node = sym (m .node) i; content = m .content i; source = e i; vars = sym met-vars i }
 
   -- a loop's round, with the table variable read `r`
-  pub met-turn :
+  pub met-round :
       T (isLoop (kindAt (s .node .kind))) → (r : Relation) → relationRead s ≡ some r →
-      turnAt c ≡ turnIn (varsOf (s .thread .vars)) (operandsOf (s .node .selector .template)) r (visitOf (s .frame) r) (s .row) (roomForRound c)
-  met-turn l r e =
-      loop-turn c (subst (λ (k : Kind). T (isLoop k)) (sym met-kind) l) r (met-relation ∙ e)
+      roundHere c ≡ roundWith (varsOf (s .thread .vars)) (operandsOf (s .node .selector .template)) r (visitOf (s .frame) r) (s .row) (roomForRound c)
+  met-round l r e =
+      loop-round c (subst (λ (k : Kind). T (isLoop k)) (sym met-kind) l) r (met-relation ∙ e)
       ∙ rw (met-vars, met-template, m .entry, ← m .row)
 
   pub met-room : roomForRound c ≡ cond (isParallel (kindAt (s .node .kind))) (ltb (s .threads) 8) (ltb (s .thread .depth) 8)

@@ -17,7 +17,7 @@ use Rattle.nets.specs.Nets.{toRun}
 use Rattle.nets.specs.Scenes.{below}
 use Rattle.nets.specs.Steps.{withStack, withBindings, goOn}
 use Rattle.nets.specs.View.{noFrame, entryOf, stackOf, bindingsOf, threadOf}
-use Rattle.step_thread.specs.Contracts.{Stacked, standing}
+use Rattle.step_thread.specs.Contracts.{Stacked, goesOn}
 use Rattle.step_thread.proofs.ThreadLaws.{stack-past, stack-set, standing-with}
 use Rattle.step_meets.specs.declared.Decided.{Decided}
 use Rattle.step_meets.specs.Situations.{overOf, moved, Onward}
@@ -85,15 +85,15 @@ module _ (t : Thread) (r : Decided) (above : ℕ) (over : above ≡ overOf (t .d
   moved-ends e = moved-as e ∙ ap (movedTo t r vs) (stack-ends (t .stack) f (r .frame) eight (t .depth) (ok .some))
 
   -- on to next
-  pub goes-on : (next : ℕ) → Onward (t .depth) next r → standing (threadOf (moved t r above f vs)) ≡ goOn next (withBindings (threadOf t) (bindingsOf (r .vars) vs)) (below (threadOf t .stack))
+  pub goes-on : (next : ℕ) → Onward (t .depth) next r → goesOn (threadOf (moved t r above f vs)) ≡ goOn next (withBindings (threadOf t) (bindingsOf (r .vars) vs)) (below (threadOf t .stack))
   goes-on next o = go (eqb next 255) refl
     where
       u : M.Thread
       u = withBindings (threadOf t) (bindingsOf (r .vars) vs)
 
-      go : (b : Bool) → eqb next 255 ≡ b → standing (threadOf (moved t r above f vs)) ≡ goOn next u (below (threadOf t .stack))
-      go true e = ap standing (moved-ends (o .ends e)) ∙ standing-with u (below (threadOf t .stack)) ∙ rw e
-      go false e = ap standing (moved-top (o .stays e)) ∙ ap (λ (x : M.Entry). standing (withStack u (x ∷ below (threadOf t .stack)))) (o .goes e) ∙ rw e
+      go : (b : Bool) → eqb next 255 ≡ b → goesOn (threadOf (moved t r above f vs)) ≡ goOn next u (below (threadOf t .stack))
+      go true e = ap goesOn (moved-ends (o .ends e)) ∙ standing-with u (below (threadOf t .stack)) ∙ rw e
+      go false e = ap goesOn (moved-top (o .stays e)) ∙ ap (λ (x : M.Entry). goesOn (withStack u (x ∷ below (threadOf t .stack)))) (o .goes e) ∙ rw e
 
 -- ── what going on stores ──
 

@@ -29,7 +29,7 @@ use Rattle.nets.specs.View.{kindAt, nodeOf, entryOf, variableOf, bindingsOf, th
 use Rattle.nets.specs.Answers.{isDoing, answerOf, saidOf}
 use Rattle.step_reads.specs.Contracts.{flagAt}
 use Rattle.step_effect.specs.Contracts.{isStep, putsRows, partsOf, Doing}
-use Rattle.step_thread.specs.Contracts.{visitOf, Stacked, standing, forksOf}
+use Rattle.step_thread.specs.Contracts.{visitOf, Stacked, goesOn, forksOf}
 
 -- ── places ──
 
@@ -100,7 +100,7 @@ pub record ChangeIs (c : Scene) (r : Change) : Type 0 where
   -- a fork has room, and the thread that forks goes on
   pub room : T (r .forks) → (length (c .net .threads) < 8) × (1 ≤ r .thread .depth)
   -- what becomes of the thread, and the new thread of a parallel round
-  pub threads : T (isDoing (saidOf (r .answer))) → threadsAfter c ≡ settle (c .at) (standing (threadOf (r .thread))) (c .net .threads) ++ forksOf (r .forks) (r .fork)
+  pub threads : T (isDoing (saidOf (r .answer))) → threadsAfter c ≡ settle (c .at) (goesOn (threadOf (r .thread))) (c .net .threads) ++ forksOf (r .forks) (r .fork)
 
 -- ── what is decided ──
 

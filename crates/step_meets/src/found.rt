@@ -12,7 +12,7 @@ ghost use Rattle.nets.specs.View.{noSite};
 ghost use Rattle.step_meets.specs.Contracts.{locatedOf};
 
 // Where L leads nowhere any site will do: check 13 refuses the step, whatever table is found there.
-pub fn site_in(l: Located) -> Site
+pub fn site_or_any(l: Located) -> Site
     ensures { λ r. ⌜ r ≡ orElse noSite (locatedOf l) ⌝ }
 {
     match l {
@@ -22,7 +22,7 @@ pub fn site_in(l: Located) -> Site
 }
 
 // The place found; where none is, the first place of the array.
-pub fn slot_at(at: usize, count: usize) -> usize
+pub fn place_or_first(at: usize, count: usize) -> usize
     ensures { λ r. ⌜ r ≡ cond (ltb at count) at 0 ⌝ }
 {
     if at < count {

@@ -26,7 +26,7 @@ use Rattle.nets.specs.Nets.{Kind, code, needsTable, bindsRelation, isCreate}
 use Rattle.nets.specs.Steps.{settle}
 use Rattle.nets.specs.View.{noTable, noThread, kindAt, tableOf, variableOf, threadOf, tablesOf, threadsOf}
 use Rattle.step_effect.specs.Contracts.{isStep, putsRows}
-use Rattle.step_thread.specs.Contracts.{standing, forksOf}
+use Rattle.step_thread.specs.Contracts.{goesOn, forksOf}
 use Rattle.step_thread.proofs.ThreadLaws.{standing-gone, standing-there, settle-none, settle-one}
 use Rattle.step_effect.specs.TableContracts.{withContent, putContent, tablesWith}
 use Rattle.step_effect.proofs.KindTies.{puts-needs, with-create, with-drop}
@@ -98,30 +98,30 @@ module _ (n : ℕ) (l : List Thread) (at : ℕ) (t fork : Thread) (low : at < n)
   -- without an entry it is removed
   pub thread-gone :
       {new : List Thread} {x : ℕ} → Closing noThread l at x new → n - 1 ≤ x → t .depth ≡ 0 → (f : Bool) → (T f → 1 ≤ t .depth) →
-      threadsOf (n - 1) new ≡ settle at (standing (threadOf t)) (threadsOf n l) ++ forksOf f fork
+      threadsOf (n - 1) new ≡ settle at (goesOn (threadOf t)) (threadsOf n l) ++ forksOf f fork
   thread-gone c h e true k = absurd (omega (arith, k tt))
   thread-gone c h e false k =
       closing-ends threadOf noThread n c low h
       ∙ sym (append-nil _ ∙ ap (λ (us : List M.Thread). settle at us (threadsOf n l)) (standing-gone t e) ∙ settle-none at (threadsOf n l))
 
   module _ (eight : length l ≡ 8) (few : n ≤ 8) (deep : 1 ≤ t .depth) where
-    put : threadsOf n (set l at t) ≡ settle at (standing (threadOf t)) (threadsOf n l)
+    put : threadsOf n (set l at t) ≡ settle at (goesOn (threadOf t)) (threadsOf n l)
     put =
         firsts-set threadOf noThread n l at t (omega (arith, eight, low, few))
         ∙ sym (settle-one at (threadOf t) (threadsOf n l))
         ∙ ap (λ (us : List M.Thread). settle at us (threadsOf n l)) (sym (standing-there t deep))
 
-    pub thread-stays : {f : Bool} → f ≡ false → threadsOf n (set l at t) ≡ settle at (standing (threadOf t)) (threadsOf n l) ++ forksOf f fork
+    pub thread-stays : {f : Bool} → f ≡ false → threadsOf n (set l at t) ≡ settle at (goesOn (threadOf t)) (threadsOf n l) ++ forksOf f fork
     thread-stays e =
-        put ∙ sym (append-nil (settle at (standing (threadOf t)) (threadsOf n l)))
-        ∙ ap (λ (b : Bool). settle at (standing (threadOf t)) (threadsOf n l) ++ forksOf b fork) (sym e)
+        put ∙ sym (append-nil (settle at (goesOn (threadOf t)) (threadsOf n l)))
+        ∙ ap (λ (b : Bool). settle at (goesOn (threadOf t)) (threadsOf n l) ++ forksOf b fork) (sym e)
 
     -- and a fork goes last
-    pub thread-forks : {f : Bool} → f ≡ true → n < 8 → threadsOf (n + 1) (set (set l at t) n fork) ≡ settle at (standing (threadOf t)) (threadsOf n l) ++ forksOf f fork
+    pub thread-forks : {f : Bool} → f ≡ true → n < 8 → threadsOf (n + 1) (set (set l at t) n fork) ≡ settle at (goesOn (threadOf t)) (threadsOf n l) ++ forksOf f fork
     thread-forks e room =
         firsts-push threadOf noThread n (set l at t) fork (omega (arith, length-set l at t, eight, room))
         ∙ ap (_++ (threadOf fork ∷ [])) put
-        ∙ ap (λ (b : Bool). settle at (standing (threadOf t)) (threadsOf n l) ++ forksOf b fork) (sym e)
+        ∙ ap (λ (b : Bool). settle at (goesOn (threadOf t)) (threadsOf n l) ++ forksOf b fork) (sym e)
 
 -- ── what is stored in the thread ──
 

@@ -47,7 +47,7 @@ pub record Read (net : Net) (p : Pick) (f : Frame) (k : ℕ) (h : Bool) (g : Got
   pub frame : entryOf f ≡ top (threadOf (threadAt net (p .thread)) .stack)
   pub number : k ≡ entryNode (entryOf f)
   pub held : T (bindsRelation (kindAt (nodeRead net k .kind))) → h ≡ any (holds (nodesOf (net .nodecount) (net .nodes)) (nodeRead net k .bound)) (threadOf (threadAt net (p .thread)) .stack)
-  pub got : g ≡ eval (varsOf (threadAt net (p .thread) .vars)) (nodeRead net k .place)
+  pub got : g ≡ eval (varsOf (threadAt net (p .thread) .vars)) (nodeRead net k .locality)
   pub located : locatedOf l ≡ siteOfGot (aliasesOf (net .aliascount) (net .aliases)) (threadAt net (p .thread) .site) g
   pub site : s ≡ orElse noSite (locatedOf l)
   pub place : at ≡ placeAt s (nodeRead net k .name) (tablesOf (net .tablecount) (net .tables))
@@ -120,7 +120,7 @@ module _ (net : Net) (p : Pick) (ok : T (sound (view net))) (there : p .thread <
     located-read : siteOfL (sceneOf (view net) p) ≡ locatedOf l
     unfolding siteOfL sceneOf view
     located-read =
-        ap₂ (λ (t : M.Thread) (d : M.Node). siteOfGot (aliasesOf (net .aliascount) (net .aliases)) (t .site) (eval (t .bindings .vars) (d .place))) (scene-thread net p ok there) node-read
+        ap₂ (λ (t : M.Thread) (d : M.Node). siteOfGot (aliasesOf (net .aliascount) (net .aliases)) (t .site) (eval (t .bindings .vars) (d .locality))) (scene-thread net p ok there) node-read
         ∙ ap (siteOfGot (aliasesOf (net .aliascount) (net .aliases)) (threadAt net (p .thread) .site)) (sym (r .got))
         ∙ sym (r .located)
 

@@ -35,7 +35,7 @@ use Rattle.nets.specs.Accounts.{netLeft}
 use Rattle.nets.specs.View.{noTable, noThread, kindAt, tableOf, nodeOf, threadOf, tablesOf, threadsOf, view}
 use Rattle.nets.specs.Answers.{Said, isDoing, answerOf, saidOf, isRefused, StepIs}
 use Rattle.step_effect.specs.Contracts.{putsRows}
-use Rattle.step_thread.specs.Contracts.{standing, forksOf}
+use Rattle.step_thread.specs.Contracts.{goesOn, forksOf}
 use Rattle.step_meets.specs.Contracts.{laterChecks, outcomeAt, ChangeIs}
 use Rattle.step_effect.specs.TableContracts.{putContent, tablesWith}
 use Rattle.nets.proofs.KindClasses.{_▸_, of-class}
@@ -150,7 +150,7 @@ module _
     module _
         (ts : List Table) (n : ℕ) (hs : List Thread) (m : ℕ)
         (tables : tablesOf n ts ≡ tablesWith (kindAt (nodeRead net k .kind)) at (tablesOf (net .tablecount) (net .tables)) s (nodeOf (nodeRead net k)) (relationOf (d .content)))
-        (threads : threadsOf m hs ≡ settle (p .thread) (standing (threadOf (d .thread))) (threadsOf (net .threadcount) (net .threads)) ++ forksOf (d .forks) (d .fork)) where
+        (threads : threadsOf m hs ≡ settle (p .thread) (goesOn (threadOf (d .thread))) (threadsOf (net .threadcount) (net .threads)) ++ forksOf (d .forks) (d .fork)) where
       tables-stored : tablesOf n ts ≡ tablesBy (sceneOf (view net) p .node .kind) (sceneOf (view net) p)
       unfolding sceneOf view
       tables-stored =

@@ -15,12 +15,12 @@ use step_effect::effects::bound_after;
 use step_effect::effects::content_after;
 use step_effect::tables::created;
 use step_effect::tables::puts_rows;
-use step_left::Gone;
+use step_left::Carried;
 use step_meets::Setting;
 use step_meets::found::over;
+use step_meets::found::place_or_first;
 use step_meets::found::shown;
-use step_meets::found::site_in;
-use step_meets::found::slot_at;
+use step_meets::found::site_or_any;
 use step_meets::parts::bound_tables;
 use step_meets::parts::source_of;
 use step_meets::sites::site_of;
@@ -29,7 +29,7 @@ use step_thread::forked;
 use step_thread::node_of;
 use step_thread::run_frame;
 use value_eval::eval_in;
-use value_totals::plus;
+use value_totals::add_count;
 use value_totals::zero;
 ghost use mathlib.Core.Path.{_≡_};
 ghost use Prim.Native.Nat.{_≤_};
@@ -40,12 +40,12 @@ ghost use Rattle.nets.specs.Sound.{sound};
 ghost use Rattle.nets.specs.View.{view};
 ghost use Rattle.step_bytes.specs.PickBytes.{picksIn};
 ghost use Rattle.step_bytes.specs.AnswerBytes.{answersPut};
-ghost use Rattle.step_left.specs.Turns.{GoneIs, stoodBy};
+ghost use Rattle.step_left.specs.Carried.{CarriedIs, reachedBy};
 
 // Requires a sound net unless the list is empty; an empty list answers 10. All answers go to the start of `out` if it has room for all of them; else `out` stays as it is.
-pub fn carry_out(from: Net, picks: &[u8], out: &mut [u8]) -> Gone
+pub fn carry_out(from: Net, picks: &[u8], out: &mut [u8]) -> Carried
     requires { ⌜ (2 ≤ length (now picks) → T (sound (view from))) ⌝ }
-    ensures { λ r. ⌜ GoneIs from (picksIn (now (picks .entry))) (stoodBy from r) × (now (out .exit) ≡ putAll (answersPut (view from) (picksIn (now (picks .entry)))) (now (out .entry))) ⌝ }
+    ensures { λ r. ⌜ CarriedIs from (picksIn (now (picks .entry))) (reachedBy from r) × (now (out .exit) ≡ putAll (answersPut (view from) (picksIn (now (picks .entry)))) (now (out .entry))) ⌝ }
 {
     let count = picks.len() / 2;
     let room = has_room(out.len(), count);
@@ -97,14 +97,14 @@ pub fn carry_out(from: Net, picks: &[u8], out: &mut [u8]) -> Gone
         // ---- for checks 13 to 15: the site that L means, and the table there
         let vars = thread.vars;
         let home = thread.site;
-        let place = node.place;
+        let locality = node.locality;
         let aliases = net.aliases;
-        let located = site_of(aliases, net.aliascount, home, eval_in(place, vars));
-        let site = site_in(located);
+        let located = site_of(aliases, net.aliascount, home, eval_in(locality, vars));
+        let site = site_or_any(located);
         let tables = net.tables;
         let tablecount = net.tablecount;
         let at = find_table(tables, tablecount, site, node.name);
-        let slot = slot_at(at, tablecount);
+        let slot = place_or_first(at, tablecount);
         let table = net.tables[slot];
         let inside = table.content;
         let found = at < tablecount;
@@ -140,8 +140,8 @@ pub fn carry_out(from: Net, picks: &[u8], out: &mut [u8]) -> Gone
         let Answer::Done(rows_added, rows_taken) = answer else {
             continue;
         };
-        added = plus(added, rows_added);
-        taken = plus(taken, rows_taken);
+        added = add_count(added, rows_added);
+        taken = add_count(taken, rows_taken);
 
         // ---- the thread after it: its variables, its top frame with the body above it, and the table variable bound
         let vars_after = decided.vars;
@@ -212,7 +212,7 @@ pub fn carry_out(from: Net, picks: &[u8], out: &mut [u8]) -> Gone
     }
     let contents = net.tables;
     let processes = net.threads;
-    Gone {
+    Carried {
         tables: contents,
         tablecount: net.tablecount,
         threads: processes,

@@ -158,14 +158,14 @@ module _ (v r : ℕ → Bool) (n : Node) (short : length (n .selector .template)
     also-four = ap₂ _&&_ (ap also q₀) (ap₂ _&&_ (ap also q₁) (ap₂ _&&_ (ap also q₂) (ap (_&& true) (ap also q₃)))) ∙ four also refl (n .tuple) few true
 
     pub reads-ok : {a x y : Bool} →
-        a ≡ knownFrom v (n .selector .template) 0 (record { operand = n .place } ∷ record { operand = n .result } ∷ f₀ ∷ f₁ ∷ f₂ ∷ f₃ ∷ record { operand = n .selector .left } ∷ record { operand = n .selector .right } ∷ g₀ ∷ g₁ ∷ g₂ ∷ g₃ ∷ []) →
+        a ≡ knownFrom v (n .selector .template) 0 (record { operand = n .locality } ∷ record { operand = n .result } ∷ f₀ ∷ f₁ ∷ f₂ ∷ f₃ ∷ record { operand = n .selector .left } ∷ record { operand = n .selector .right } ∷ g₀ ∷ g₁ ∷ g₂ ∷ g₃ ∷ []) →
         x ≡ readsRelation (n .kind) → y ≡ r (n .read) → (a && (not x || y)) ≡ readsOk v r n
     unfolding readsOk
     reads-ok pa px py =
         rw (pa, px, py)
         (ap (_&& (not (readsRelation (n .kind)) || r (n .read)))
-        (ap₂ _&&_ (own-at (n .place)) (ap₂ _&&_ (own-at (n .result))
+        (ap₂ _&&_ (own-at (n .locality)) (ap₂ _&&_ (own-at (n .result))
         (ap₂ _&&_ (own-at (f₀ .operand)) (ap₂ _&&_ (own-at (f₁ .operand)) (ap₂ _&&_ (own-at (f₂ .operand)) (ap₂ _&&_ (own-at (f₃ .operand))
         (ap (also (n .selector .left) &&_) (ap (also (n .selector .right) &&_) also-four)))))
         ∙ own-four (also (n .selector .left) && (also (n .selector .right) && (all also (n .tuple) && true)))))
-        ∙ parts (own (n .place)) (own (n .result)) (all own (n .selector .template)) (also (n .selector .left)) (also (n .selector .right)) (all also (n .tuple))))
+        ∙ parts (own (n .locality)) (own (n .result)) (all own (n .selector .template)) (also (n .selector .left)) (also (n .selector .right)) (all also (n .tuple))))

@@ -146,7 +146,7 @@ pub fn reads_ok(node: Node, vars: [Slot; 16], tables: [bool; 2]) -> bool
     let selector = node.selector;
     let template = selector.template;
     let tuple = node.tuple;
-    let place = node.place;
+    let place = node.locality;
     let result = node.result;
     let left = selector.left;
     let right = selector.right;

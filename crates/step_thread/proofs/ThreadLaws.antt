@@ -13,7 +13,7 @@ use Rattle.nets.specs.Nets as M
 use Rattle.nets.specs.Scenes.{below}
 use Rattle.nets.specs.Steps.{withStack, keepThread, settle}
 use Rattle.nets.specs.View.{noFrame, entryOf, stackOf, threadOf}
-use Rattle.step_thread.specs.Contracts.{standing}
+use Rattle.step_thread.specs.Contracts.{goesOn}
 
 -- ── stacks ──
 
@@ -44,17 +44,17 @@ stack-set (suc n) l f h k =
 
 -- ── what becomes of a thread ──
 
-pub standing-with : (t : M.Thread) (s : List M.Entry) → standing (withStack t s) ≡ keepThread t s
+pub standing-with : (t : M.Thread) (s : List M.Entry) → goesOn (withStack t s) ≡ keepThread t s
 standing-with t [] = refl
 standing-with t (x ∷ s) = refl
 
-pub standing-gone : (t : Thread) → t .depth ≡ 0 → standing (threadOf t) ≡ []
+pub standing-gone : (t : Thread) → t .depth ≡ 0 → goesOn (threadOf t) ≡ []
 standing-gone t e = rw e refl
 
-pub standing-there : (t : Thread) → 1 ≤ t .depth → standing (threadOf t) ≡ threadOf t ∷ []
+pub standing-there : (t : Thread) → 1 ≤ t .depth → goesOn (threadOf t) ≡ threadOf t ∷ []
 standing-there t h = go (t .depth) h
   where
-    go : (n : ℕ) → 1 ≤ n → standing (record { site = threadOf t .site; bindings = threadOf t .bindings; stack = stackOf n (t .stack) }) ≡ record { site = threadOf t .site; bindings = threadOf t .bindings; stack = stackOf n (t .stack) } ∷ []
+    go : (n : ℕ) → 1 ≤ n → goesOn (record { site = threadOf t .site; bindings = threadOf t .bindings; stack = stackOf n (t .stack) }) ≡ record { site = threadOf t .site; bindings = threadOf t .bindings; stack = stackOf n (t .stack) } ∷ []
     go zero h = absurd (omega arith)
     go (suc n) h = refl
 

@@ -12,8 +12,8 @@ use Rattle.rows.specs.Relations.{Relation}
 use Rattle.rows.specs.Matching.{matches, rowVars}
 use Rattle.nets.specs.declared.Frame.{Frame}
 use Rattle.nets.specs.declared.Thread.{Thread}
-use Rattle.step_thread.specs.declared.Turn.{Turn}
-use Rattle.step_thread.specs.declared.Turn.the-variants.{Over, Opened, Stopped}
+use Rattle.step_thread.specs.declared.RoundAnswer.{RoundAnswer}
+use Rattle.step_thread.specs.declared.RoundAnswer.the-variants.{Over, Opened, Stopped}
 use Rattle.step_thread.specs.declared.Round.{Round}
 use Rattle.nets.specs.Nets as M
 use Rattle.nets.specs.Scenes.{stillToVisit}
@@ -24,22 +24,22 @@ use Rattle.nets.specs.Answers.{numberOf}
 -- ── rounds of loops ──
 
 -- over, a round, or refused with a number
-pub data Turned : Type 0 where
-  over opened : Turned
-  stopped : ℕ → Turned
+pub data RoundSaid : Type 0 where
+  over opened : RoundSaid
+  stopped : ℕ → RoundSaid
 
-abbrev pub turnOf : Turn → Turned
-turnOf Over = over
-turnOf Opened = opened
-turnOf (Stopped r) = stopped (numberOf r)
+abbrev pub roundSaid : RoundAnswer → RoundSaid
+roundSaid Over = over
+roundSaid Opened = opened
+roundSaid (Stopped r) = stopped (numberOf r)
 
 -- from the tests: T is as long as the columns, a row still to visit matches, the row picked is one, there is room
-abbrev pub turnBy : Bool → Bool → Bool → Bool → Turned
-turnBy false a q r = stopped 16
-turnBy true false q r = over
-turnBy true true false r = stopped 19
-turnBy true true true false = stopped 20
-turnBy true true true true = opened
+abbrev pub roundBy : Bool → Bool → Bool → Bool → RoundSaid
+roundBy false a q r = stopped 16
+roundBy true false q r = over
+roundBy true true false r = stopped 19
+roundBy true true true false = stopped 20
+roundBy true true true true = opened
 
 -- the places still to visit in a relation
 abbrev pub visitOf : Frame → Relation → List ℕ
@@ -50,16 +50,16 @@ readyAt e t r i = matches e t (getD (r .rows) i [])
 
 -- a round on a row: its place leaves the set, and T's formals bind to it
 pub record OpenedIs (e : Vars) (t : List Operand) (r : Relation) (v : List ℕ) (row : ℕ) (o : Round) : Type 0 where
-  pub turn : o .turn ≡ Opened
+  pub answer : o .answer ≡ Opened
   pub visit : marked 0 (o .visit) ≡ filter (λ i. not (eqb i row)) v
   pub vars : varsOf (o .vars) ≡ rowVars e t (getD (r .rows) row [])
 
 pub record RoundIs (e : Vars) (t : List Operand) (r : Relation) (f : Frame) (row : ℕ) (room : Bool) (o : Round) : Type 0 where
-  pub turn :
-      turnOf (o .turn)
-      ≡ turnBy (eqb (length t) (length (r .columns))) (any (readyAt e t r) (visitOf f r)) (among row (visitOf f r) && readyAt e t r row) room
-  pub visit : turnOf (o .turn) ≡ opened → marked 0 (o .visit) ≡ filter (λ i. not (eqb i row)) (visitOf f r)
-  pub vars : turnOf (o .turn) ≡ opened → varsOf (o .vars) ≡ rowVars e t (getD (r .rows) row [])
+  pub answer :
+      roundSaid (o .answer)
+      ≡ roundBy (eqb (length t) (length (r .columns))) (any (readyAt e t r) (visitOf f r)) (among row (visitOf f r) && readyAt e t r row) room
+  pub visit : roundSaid (o .answer) ≡ opened → marked 0 (o .visit) ≡ filter (λ i. not (eqb i row)) (visitOf f r)
+  pub vars : roundSaid (o .answer) ≡ opened → varsOf (o .vars) ≡ rowVars e t (getD (r .rows) row [])
 
 -- ── threads ──
 
@@ -69,8 +69,8 @@ pub record Stacked (t : Thread) : Type 0 where
   pub few : t .depth ≤ 8
 
 -- what becomes of a thread: itself, or nothing where its stack is empty
-abbrev pub standing : M.Thread → List M.Thread
-standing t = keepThread t (t .stack)
+abbrev pub goesOn : M.Thread → List M.Thread
+goesOn t = keepThread t (t .stack)
 
 -- the new thread of a parallel round, if there is one
 abbrev pub forksOf : Bool → Thread → List M.Thread

@@ -14,7 +14,7 @@ ghost use Rattle.nets.specs.View.{entryOf, threadOf, bindingsOf};
 ghost use Rattle.step_thread.specs.Contracts.{Stacked};
 
 // What a loop's pick comes to: over, a round opened, or refused.
-pub enum Turn {
+pub enum RoundAnswer {
     Over,
     Opened,
     Stopped(Refusal),
@@ -22,7 +22,7 @@ pub enum Turn {
 
 // Of a round that is opened, the visit set without the row picked, and the variables with T's formals bound to it; else both as they were.
 pub struct Round {
-    pub turn: Turn,
+    pub answer: RoundAnswer,
     pub visit: [bool; 16],
     pub vars: [Slot; 16],
 }

@@ -65,8 +65,8 @@ fn same_node(a: Node, b: Node) -> bool {
     let g = b.function;
     let k = a.kinds;
     let l = b.kinds;
-    let p = a.place;
-    let q = b.place;
+    let p = a.locality;
+    let q = b.locality;
     let s = a.selector;
     let t = b.selector;
     let u = a.tuple;

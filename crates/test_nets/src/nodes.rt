@@ -63,7 +63,7 @@ pub fn node_of(node: Node, e: [u8; 24]) -> Node {
     let a = operand_in(&e[8..16]);
     let b = operand_in(&e[16..24]);
     let function = node.function;
-    let place = node.place;
+    let place = node.locality;
     let result = node.result;
     let part = e[3];
     match part {

@@ -82,7 +82,7 @@ pub fn bare(kind: u8, next: u8) -> Node {
         column: 0,
         columns: 0,
         kinds: [4; 4],
-        place: Operand::Absent,
+        locality: Operand::Absent,
         selector: matching(none()),
         tuple: none(),
         result: Operand::Absent,
@@ -105,7 +105,7 @@ pub fn remade(node: Node, function: Function, column: u8, place: Operand, result
         column,
         columns: node.columns,
         kinds,
-        place,
+        locality: place,
         selector,
         tuple,
         result,
@@ -141,7 +141,7 @@ pub fn giving(node: Node, tuple: Operands) -> Node {
 // The sum of the second column, bound to variable 5.
 fn aggregate(next: u8) -> Node {
     let d = selecting(placed(22, next), below_forty());
-    let place = d.place;
+    let place = d.locality;
     remade(d, Function::Sum, 1, place, Operand::Formal(5))
 }
 

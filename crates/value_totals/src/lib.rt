@@ -16,7 +16,7 @@ pub fn zero() -> Total
 }
 
 // The low half passes what it has no room for on to the high one.
-pub fn plus(t: Total, n: usize) -> Total
+pub fn add_count(t: Total, n: usize) -> Total
     requires { ⌜ t .high < 2 ^ 63 ⌝ }
     ensures { λ r. ⌜ (totalOf r ≡ totalOf t + n) × (r .high ≤ t .high + 1) ⌝ }
 {

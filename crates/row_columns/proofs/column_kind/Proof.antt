@@ -23,7 +23,7 @@ returns-4 c =
     let a = s .args in
     let sixteen : length (a .vars) ≡ 16 = search (long, needs) in
     c .source-kind .ensures
-    ∙ ap (λ (x : Source). sourceKind x (a .kinds)) (c .before .source-of .ensures)
+    ∙ ap (λ (x : Source). sourceKind x (a .kinds)) (c .before .variable-source .ensures)
     ∙ source-kind (varsOf (a .vars)) (operandsOf (a .template)) (a .template .count) (length-map (a .vars) (λ (x : Slot). x .held) ∙ sixteen) (s .pre .count)
     (length-firsts (λ (f : Field). f .operand) noField (a .template .count) (a .template .fields)) (a .kinds) (c .before .before .before .op .given .0 .0)
     ∙ sym (ap (columnFor (bind (operandsOf (a .template)) (columnsOf (a .template .count) (a .kinds)) (kindsOf (varsOf (a .vars))))) (c .before .before .before .op .given .1))

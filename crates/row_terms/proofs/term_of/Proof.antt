@@ -34,12 +34,12 @@ returns-3 c =
 returns-4 : tie.Need-returns-4
 returns-4 c =
     let a = c .before .before .before .before .args in
-    ap Plain (c .source-of .ensures) ∙ sym (ap (termOf (varsOf (a .vars)) (operandsOf (a .template))) (c .before .before .op4 .given .1))
+    ap Plain (c .variable-source .ensures) ∙ sym (ap (termOf (varsOf (a .vars)) (operandsOf (a .template))) (c .before .before .op4 .given .1))
 
 returns-5 : tie.Need-returns-5
 returns-5 c =
     let a = c .before .before .before .before .args in
-    ap₂ Shifted (c .source-of2 .ensures) (back w32 (c .before .before .op5 .given .0 .1 .0) (record { sfits = c .before .known-told5 .given .1 .0 .1 }))
+    ap₂ Shifted (c .variable-source2 .ensures) (back w32 (c .before .before .op5 .given .0 .1 .0) (record { sfits = c .before .known-told5 .given .1 .0 .1 }))
     ∙ sym (ap (termOf (varsOf (a .vars)) (operandsOf (a .template))) (c .before .before .op5 .given .1))
 
 returns-6 : tie.Need-returns-6

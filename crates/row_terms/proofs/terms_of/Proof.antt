@@ -2,9 +2,9 @@
 use mathlib.Core.Path.{refl}
 use Rattle.values.specs.Operands.{varsOf}
 use Rattle.rows.specs.declared.Field.{Field}
-use Rattle.rows.specs.declared.Place.{Place}
+use Rattle.rows.specs.declared.Component.{Component}
 use Rattle.rows.specs.View.{noField, operandsOf}
-use Rattle.rows.specs.Plans.{termOf, noPlace}
+use Rattle.rows.specs.Plans.{termOf, noComponent}
 use Rattle.rows.proofs.Fours.{fours}
 use borrow.Author.Needs.{needs}
 use Rattle.row_terms.proofs.terms_of.Statement.{statement}
@@ -13,8 +13,8 @@ use Rattle.row_terms.proofs.terms_of.Tie as tie
 returns : tie.Need-returns
 returns c =
     let a = c .before .before .before .before .args in (
-      fours (λ (p : Place). p .term) noPlace (termOf (varsOf (a .vars)) (operandsOf (a .template))) (λ (f : Field). f .operand) noField (a .t .count) (a .t .fields) (search needs)
-          (c .before .before .before .place-of .ensures) (c .before .before .place-of2 .ensures) (c .before .place-of3 .ensures) (c .place-of4 .ensures),
+      fours (λ (p : Component). p .term) noComponent (termOf (varsOf (a .vars)) (operandsOf (a .template))) (λ (f : Field). f .operand) noField (a .t .count) (a .t .fields) (search needs)
+          (c .before .before .before .component-of .ensures) (c .before .before .component-of2 .ensures) (c .before .component-of3 .ensures) (c .component-of4 .ensures),
       refl,
     )
 

@@ -30,7 +30,7 @@ returns-3 c =
     let a = s .args in
     let k = m .match .keys3 in
     delete-said (a .node) (a .source) (a .vars) (s .pre .2) (a .content) (a .held) (a .tables) (s .pre .0 .own (reads-none 18 k refl)) k
-    (c .before .before .number-of .ensures) (c .before .checked .result) (c .checked2 .result) (c .before .checked .ensures) (c .checked2 .ensures)
+    (c .before .before .count-marks .ensures) (c .before .checked .result) (c .checked2 .result) (c .before .checked .ensures) (c .checked2 .ensures)
 
 returns-4 : tie.Need-returns-4
 unfolding kindAt
@@ -40,7 +40,7 @@ returns-4 c =
     let a = s .args in
     let k = m .match .keys4 in
     update-said (a .node) (a .source) (a .vars) (s .pre .2) (a .content) (a .held) (a .tables) (s .pre .0 .own (reads-none 21 k refl)) k
-    (c .before .number-of2 .ensures) (c .checked3 .result) (c .checked3 .ensures)
+    (c .before .count-marks2 .ensures) (c .checked3 .result) (c .checked3 .ensures)
 
 returns-5 : tie.Need-returns-5
 returns-5 c =

@@ -5,7 +5,7 @@ use mathlib.Core.Path.{_≡_, ap, sym, _∙_}
 use mathlib.Core.Bool.{Bool, true, not, _&&_}
 use mathlib.Core.List.{List}
 use Rattle.values.proofs.Bools.{T-of}
-use Rattle.nets.specs.declared.Refusal.the-variants.{Unbound, NoPlace, NoTable, TableThere}
+use Rattle.nets.specs.declared.Refusal.the-variants.{Unbound, NoSite, NoTable, TableThere}
 use Rattle.nets.specs.Nets.{isCreate, isLoop}
 use Rattle.nets.specs.Scenes.{Scene}
 use Rattle.nets.specs.Steps.{check12, check13, check14, check15}
@@ -54,7 +54,7 @@ twelve : (c : tie.Else1) (w : Rest) → Flagged w (flagsOf c) → (n : Scene) �
 twelve c w flagged n m = known-12 (met c w) n m (known c w flagged)
 
 thirteen : (c : tie.Else2) (w : Rest) (n : Scene) → Meets (met (c .before .before .before) w) n → check13 n ≡ true
-thirteen c w n m = tested-13 (met (c .before .before .before) w) n m (c .before .before .has-place .ensures) (c .before .is-located .ensures) ∙ ap not (c .if2 .left)
+thirteen c w n m = tested-13 (met (c .before .before .before) w) n m (c .before .before .has-locality .ensures) (c .before .is-located .ensures) ∙ ap not (c .if2 .left)
 
 fourteen : (c : tie.Else3) (w : Rest) (n : Scene) → Meets (met (c .before .before .before .before .before) w) n → check14 n ≡ true
 fourteen c w n m = tested-14 (met (c .before .before .before .before .before) w) n m (c .before .needs-table .ensures) ∙ ap not (c .if3 .left)
@@ -71,8 +71,8 @@ fifteen c w n m = create-there (met (c .before .before .before .before .before .
 returns-2 : tie.Need-returns-2
 returns-2 c w fine flagged source =
     let p = c .before .before .before .before in
-    refused-is (met p w) (start (p .before) .args .source) (c .refuses2 .result) NoPlace (c .refuses2 .ensures .0)
-    (λ n m. refuses-13 n (twelve p w flagged n m) (tested-13 (met p w) n m (c .before .before .before .has-place .ensures) (c .before .before .is-located .ensures) ∙ ap not (c .before .if2 .taken)))
+    refused-is (met p w) (start (p .before) .args .source) (c .refuses2 .result) NoSite (c .refuses2 .ensures .0)
+    (λ n m. refuses-13 n (twelve p w flagged n m) (tested-13 (met p w) n m (c .before .before .before .has-locality .ensures) (c .before .before .is-located .ensures) ∙ ap not (c .before .if2 .taken)))
 
 returns-3 : tie.Need-returns-3
 returns-3 c w fine flagged source =

@@ -1,4 +1,4 @@
--- `step_decide::decide_loop` meets its contract: the round's turn is the step's, and a done one changes the threads as the step does. Assumes nothing.
+-- `step_decide::decide_loop` meets its contract: the round's answer is the step's, and a done one changes the threads as the step does. Assumes nothing.
 use Prim.Native.Nat.{_<_}
 use mathlib.Core.Path.{refl, ap, sym, _∙_}
 use mathlib.Core.Bool.{Bool, cond}
@@ -10,7 +10,7 @@ use Rattle.step_meets.specs.Situations.{Situation, situation, Rest, whole}
 use Rattle.step_meets.specs.Contracts.{Meets, Known, SourceIs}
 use Rattle.step_meets.proofs.SituationLaws.{fine-template, known-12, loop-read, visits-there}
 use Rattle.step_meets.proofs.DecideLaws.{refused-at}
-use Rattle.step_meets.proofs.TurnLaws.{round-room, room-met, RoundAt, turn-stops}
+use Rattle.step_meets.proofs.LoopChangeLaws.{round-room, room-met, RoundAt, round-stops}
 use Rattle.step_meets.proofs.LoopLaws.{over-at, runs-at, forks-at}
 use Rattle.step_decide.proofs.decide_loop.Statement.{statement}
 use Rattle.step_decide.proofs.decide_loop.Tie as tie
@@ -61,8 +61,8 @@ returns c w fine known source n m =
 returns-2 : tie.Need-returns-2
 returns-2 c w fine known source n m =
     let r = c .before .before .before .before in
-    let t = c .before .before .turn .given in
-    refused-at n (met r w) (start r .args .source) (c .refuses .result) (t .0 .0) (c .refuses .ensures .0) (turn-stops (met r w) n (r .round .result) (round-at r w known source n m) (t .0 .0) (t .1))
+    let t = c .before .before .answer .given in
+    refused-at n (met r w) (start r .args .source) (c .refuses .result) (t .0 .0) (c .refuses .ensures .0) (round-stops (met r w) n (r .round .result) (round-at r w known source n m) (t .0 .0) (t .1))
 
 -- over
 returns-3 : tie.Need-returns-3

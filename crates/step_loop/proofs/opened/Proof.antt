@@ -15,7 +15,7 @@ returns c =
     let s = c .before .before in
     let a = s .args in
     record {
-      turn = refl;
+      answer = refl;
       visit = marked-clear (a .visit) 0 (a .row) (a .row) (omega arith);
       vars = c .bind-row .ensures ∙ ap (rowVars (varsOf (a .vars)) (operandsOf (a .template))) (row-at (a .t2) (s .pre .2) (s .pre .3));
     }

@@ -1,4 +1,4 @@
--- `step_loop::round` meets its contract: four tests in their order decide the turn.
+-- `step_loop::round` meets its contract: four tests in their order decide the answer.
 use Prim.Native.Nat.{ℕ, _<_}
 use mathlib.Core.Path.{_≡_, refl, sym, ap, ap₂, subst, _∙_}
 use mathlib.Core.Bool.{Bool, true, false, not, _&&_}
@@ -22,43 +22,43 @@ use Rattle.step_thread.specs.declared.Round.{Round}
 use Rattle.nets.specs.Scenes.{stillToVisit}
 use Rattle.nets.specs.View.{entryOf, marked}
 use Rattle.step_reads.specs.Contracts.{flagAt}
-use Rattle.step_thread.specs.Contracts.{Turned, over, opened, stopped, turnOf, turnBy, visitOf, readyAt, OpenedIs, RoundIs}
+use Rattle.step_thread.specs.Contracts.{RoundSaid, over, opened, stopped, roundSaid, roundBy, visitOf, readyAt, OpenedIs, RoundIs}
 use Rattle.step_loop.proofs.MarkLaws.{passing-any, passing-among}
 use borrow.Author.Needs.{needs}
 use Rattle.step_loop.proofs.round.Statement.{statement}
 use Rattle.step_loop.proofs.round.Tie as tie
 
--- ── the turn ──
+-- ── the answer of a round ──
 
 stopped-no : {n : ℕ} → stopped n ≡ opened → ⊥
 stopped-no q = let z : _≡_ {A = ℕ} 0 1 = cc in omega arith
 
 module _ {e : Vars} {t : List Operand} {r : Relation} {f : Frame} {row : ℕ} {room : Bool} {o : Round} where
   -- an answer that opens no round
-  unopened : {x : Turned} → (x ≡ opened → ⊥) → turnOf (o .turn) ≡ x →
-      x ≡ turnBy (eqb (length t) (length (r .columns))) (any (readyAt e t r) (visitOf f r)) (among row (visitOf f r) && readyAt e t r row) room →
+  unopened : {x : RoundSaid} → (x ≡ opened → ⊥) → roundSaid (o .answer) ≡ x →
+      x ≡ roundBy (eqb (length t) (length (r .columns))) (any (readyAt e t r) (visitOf f r)) (among row (visitOf f r) && readyAt e t r row) room →
       RoundIs e t r f row room o
-  unopened n p q = record { turn = p ∙ q; visit = λ x. absurd (n (sym p ∙ x)); vars = λ x. absurd (n (sym p ∙ x)) }
+  unopened n p q = record { answer = p ∙ q; visit = λ x. absurd (n (sym p ∙ x)); vars = λ x. absurd (n (sym p ∙ x)) }
 
-  misfit : turnOf (o .turn) ≡ stopped 16 → eqb (length t) (length (r .columns)) ≡ false → RoundIs e t r f row room o
+  misfit : roundSaid (o .answer) ≡ stopped 16 → eqb (length t) (length (r .columns)) ≡ false → RoundIs e t r f row room o
   misfit p h = unopened stopped-no p (rw h)
 
   module _ (fit : eqb (length t) (length (r .columns)) ≡ true) where
-    none-ready : turnOf (o .turn) ≡ over → any (readyAt e t r) (visitOf f r) ≡ false → RoundIs e t r f row room o
+    none-ready : roundSaid (o .answer) ≡ over → any (readyAt e t r) (visitOf f r) ≡ false → RoundIs e t r f row room o
     none-ready p h = unopened (λ q. let z : _≡_ {A = ℕ} 0 1 = cc in omega arith) p (rw (fit, h))
 
     module _ (some-ready : any (readyAt e t r) (visitOf f r) ≡ true) where
-      not-ready : turnOf (o .turn) ≡ stopped 19 → (among row (visitOf f r) && readyAt e t r row) ≡ false → RoundIs e t r f row room o
+      not-ready : roundSaid (o .answer) ≡ stopped 19 → (among row (visitOf f r) && readyAt e t r row) ≡ false → RoundIs e t r f row room o
       not-ready p h = unopened stopped-no p (rw (fit, some-ready, h))
 
       module _ (row-ready : (among row (visitOf f r) && readyAt e t r row) ≡ true) where
-        no-room : turnOf (o .turn) ≡ stopped 20 → room ≡ false → RoundIs e t r f row room o
+        no-room : roundSaid (o .answer) ≡ stopped 20 → room ≡ false → RoundIs e t r f row room o
         no-room p h = unopened stopped-no p (rw (fit, some-ready, row-ready, h))
 
         opens : room ≡ true → {v : List ℕ} → v ≡ visitOf f r → OpenedIs e t r v row o → RoundIs e t r f row room o
         opens h seen is =
             record {
-              turn = ap turnOf (is .turn) ∙ rw (fit, some-ready, row-ready, h);
+              answer = ap roundSaid (is .answer) ∙ rw (fit, some-ready, row-ready, h);
               visit = λ x. is .visit ∙ ap (filter (λ i. not (eqb i row))) seen;
               vars = λ x. is .vars;
             }

@@ -39,14 +39,14 @@ use Rattle.step_bytes.proofs.AnswerLaws.{putSoFar, put-none, put-more, put-leng
 use Rattle.step_meets.specs.Situations.{Situation, Rest, moved}
 use Rattle.row_change.specs.Contracts.{Holds}
 use Rattle.step_effect.specs.Contracts.{putsRows, ActReady}
-use Rattle.step_thread.specs.Contracts.{Stacked, standing, forksOf}
+use Rattle.step_thread.specs.Contracts.{Stacked, goesOn, forksOf}
 use Rattle.step_meets.specs.Contracts.{Fine, Sourced, Meets, DecidedIs, partsIn, Made, changed, ChangeIs}
 use Rattle.step_meets.proofs.SituationLaws.{fine-read, fine-bound, sourced, judge-ready, act-ready}
 use Rattle.value_totals.specs.declared.Total.{Total}
 use Rattle.step_effect.specs.TableContracts.{tablesWith}
 use Rattle.step_effect.proofs.KindTies.{either}
-use Rattle.step_left.specs.Turns.{Stood, stoodBy, GoneIs}
-use Rattle.step_left.proofs.TurnLaws.{Turned, gone-none, gone-again, gone-room, said-here, turned-refused, turned-done}
+use Rattle.step_left.specs.Carried.{Reached, reachedBy, CarriedIs}
+use Rattle.step_left.proofs.CarriedLaws.{OnePick, carried-none, carried-again, carried-room, said-here, pick-refused, pick-done}
 use Rattle.values.proofs.Bools.{T-of}
 use Rattle.values.proofs.RemoveLaws.{Closing, closing-starts, closing-more}
 use Rattle.step_picks.proofs.HeldLaws.{run-skips, loop-counts, loop-there}
@@ -101,8 +101,8 @@ abbrev μ-loop4 : tie.MeasureT-loop4
 μ-loop4 picks out count room net₀ added taken answer i pick-place thread-place threadcount depth top node-number kind binds held tablecount at slot found read rows-added rows-taken above last gap₀ net gap = last - gap
 
 -- `i` picks are behind: what they left, and their answers in the buffer if there is room for all
-record Behind (picks lent : List ℕ) (count : ℕ) (room : Bool) (from : Net) (out : List ℕ) (r : Stood) (i : ℕ) : Type 0 where
-  gone : GoneIs from (take i (picksIn picks)) r
+record Behind (picks lent : List ℕ) (count : ℕ) (room : Bool) (from : Net) (out : List ℕ) (r : Reached) (i : ℕ) : Type 0 where
+  gone : CarriedIs from (take i (picksIn picks)) r
   put : out ≡ putSoFar room i (answers (view from) (picksIn picks)) lent
   upto : i ≤ count
   size : length out ≡ length lent
@@ -140,8 +140,8 @@ abbrev roomAt : At → Bool
 roomAt l = l .before .before .before .has-room .result
 
 -- what the picks before left
-abbrev goneAt : At → Stood
-goneAt l = record { net = l .loop .net; answer = l .loop .answer; added = l .loop .added; taken = l .loop .taken }
+abbrev reachedAt : At → Reached
+reachedAt l = record { net = l .loop .net; answer = l .loop .answer; added = l .loop .added; taken = l .loop .taken }
 
 -- as many picks as the loop counts
 count-is : (l : At) → length (bytesAt l) / 2 ≡ length (picksAt l)
@@ -150,7 +150,7 @@ count-is l = let h = picks-length (bytesAt l) in omega (arith, h .0, h .1)
 loop-holds : tie.Need-loop-holds Inv-loop2 μ-loop2 Inv-loop3 μ-loop3 Inv-loop4 μ-loop4 Inv-loop μ-loop
 loop-holds c =
     record {
-      gone = gone-none _ _ _ (c .before .zero .ensures) (c .zero2 .ensures);
+      gone = carried-none _ _ _ (c .before .zero .ensures) (c .zero2 .ensures);
       put = put-none _ _ _;
       upto = omega arith;
       size = refl;
@@ -197,18 +197,18 @@ within e h =
 
 -- one pick more
 more :
-    (e : Picked) {n : Net} {x : Answer} {u v : Total} {out : List ℕ} → Turned (goneAt (atOf e)) (pickOf e) (record { net = n; answer = x; added = u; taken = v }) →
+    (e : Picked) {n : Net} {x : Answer} {u v : Total} {out : List ℕ} → OnePick (reachedAt (atOf e)) (pickOf e) (record { net = n; answer = x; added = u; taken = v }) →
     out ≡ cond (roomAt (atOf e)) (putAt (atOf e .loop .i * 24) (answerBytes (saidOf x)) (atOf e .loop .out)) (atOf e .loop .out) → Sized (fromOf (atOf e)) n →
     Behind (bytesAt (atOf e)) (lentAt (atOf e)) (length (bytesAt (atOf e)) / 2) (roomAt (atOf e)) (fromOf (atOf e)) out (record { net = n; answer = x; added = u; taken = v }) (atOf e .loop .i + 1)
 more e {n} {x} {u} {v} {out} t o z =
     let l = atOf e in
     let h = e .before .loop-test .taken in
-    let at = subst (λ (p : Pick). Turned (goneAt l) p (record { net = n; answer = x; added = u; taken = v })) (e .pick-at .ensures) t in
+    let at = subst (λ (p : Pick). OnePick (reachedAt l) p (record { net = n; answer = x; added = u; taken = v })) (e .pick-at .ensures) t in
     record {
-      gone = gone-again (fromOf l) (picksAt l) (l .loop .i) noPick (goneAt l) _ (left-over e) (l .loop .inv .gone) at;
+      gone = carried-again (fromOf l) (picksAt l) (l .loop .i) noPick (reachedAt l) _ (left-over e) (l .loop .inv .gone) at;
       put =
           put-more (roomAt l) (l .loop .i) (answers (view (fromOf l)) (picksAt l)) (lentAt l) (l .loop .out) out (saidOf x) (l .loop .inv .put)
-          (said-here (fromOf l) (picksAt l) (l .loop .i) noPick (goneAt l) x (left-over e) (l .loop .inv .gone) (at .step .answer)) o;
+          (said-here (fromOf l) (picksAt l) (l .loop .i) noPick (reachedAt l) x (left-over e) (l .loop .inv .gone) (at .step .answer)) o;
       upto = omega (arith, h);
       size = put-length (roomAt l) (l .loop .i) (saidOf x) (l .loop .out) out (within e) o ∙ l .loop .inv .size;
       sized = z;
@@ -231,7 +231,7 @@ loop-again c =
     let t = c .before .before .before .before in
     let e = t .before .before in
     let l = atOf e in
-    more e (turned-refused (goneAt l) (pickOf e) _ refl (past-refused (netAt l) (pickOf e) (ok e) (t .if1 .taken))) (c .before .before .put-answer-at .ensures) (l .loop .inv .sized)
+    more e (pick-refused (reachedAt l) (pickOf e) _ refl (past-refused (netAt l) (pickOf e) (ok e) (t .if1 .taken))) (c .before .before .put-answer-at .ensures) (l .loop .inv .sized)
 
 -- ── the thread and its node ──
 
@@ -370,8 +370,8 @@ find-table-requires : tie.Need-find-table-requires Inv-loop2 μ-loop2 Inv-loop3 
 find-table-requires c κs = let e = thereOf (c .before .before .before .before .before .before .before .before) in few-tables (netOf e) (okay e)
 
 -- the table's place, or the first one of the array
-slot-few : (c : tie.After-slot-at Inv-loop2 μ-loop2 Inv-loop3 μ-loop3 Inv-loop4 μ-loop4 Inv-loop μ-loop) → c .slot-at .result < 8
-slot-few c = let e = thereOf (c .before .before .before .before .before .before .before .before .before .before) in slot-below (netOf e) _ _ (few-tables (netOf e) (okay e)) (c .slot-at .ensures)
+slot-few : (c : tie.After-place-or-first Inv-loop2 μ-loop2 Inv-loop3 μ-loop3 Inv-loop4 μ-loop4 Inv-loop μ-loop) → c .place-or-first .result < 8
+slot-few c = let e = thereOf (c .before .before .before .before .before .before .before .before .before .before) in slot-below (netOf e) _ _ (few-tables (netOf e) (okay e)) (c .place-or-first .ensures)
 
 mul-table : tie.Need-mul-table Inv-loop2 μ-loop2 Inv-loop3 μ-loop3 Inv-loop4 μ-loop4 Inv-loop μ-loop
 mul-table c = record { fits = let h = slot-few c in omega (arith, h) }
@@ -387,13 +387,13 @@ Shown = tie.After-shown Inv-loop2 μ-loop2 Inv-loop3 μ-loop3 Inv-loop4 μ-loop4
 abbrev heldOf : Shown → Held
 heldOf s = s .before .before .before .before .before .before .before .before .before .before .before .before
 
-abbrev slotOf : Shown → tie.After-slot-at Inv-loop2 μ-loop2 Inv-loop3 μ-loop3 Inv-loop4 μ-loop4 Inv-loop μ-loop
+abbrev slotOf : Shown → tie.After-place-or-first Inv-loop2 μ-loop2 Inv-loop3 μ-loop3 Inv-loop4 μ-loop4 Inv-loop μ-loop
 slotOf s = s .before .before .before
 
 abbrev placeOf : Shown → tie.After-find-table Inv-loop2 μ-loop2 Inv-loop3 μ-loop3 Inv-loop4 μ-loop4 Inv-loop μ-loop
 placeOf s = slotOf s .before
 
-abbrev siteOf : Shown → tie.After-site-in Inv-loop2 μ-loop2 Inv-loop3 μ-loop3 Inv-loop4 μ-loop4 Inv-loop μ-loop
+abbrev siteOf : Shown → tie.After-site-or-any Inv-loop2 μ-loop2 Inv-loop3 μ-loop3 Inv-loop4 μ-loop4 Inv-loop μ-loop
 siteOf s = placeOf s .before .before
 
 abbrev locatedOf : Shown → tie.After-site-of Inv-loop2 μ-loop2 Inv-loop3 μ-loop3 Inv-loop4 μ-loop4 Inv-loop μ-loop
@@ -405,7 +405,7 @@ thereIn s = thereOf (heldOf s .before)
 read :
     (s : Shown) →
     Read (netOf (thereIn s)) (pickAt (thereIn s)) (frameAt (thereIn s)) (numberAt (heldOf s .before)) (heldOf s .if2 .held) (locatedOf s .before .eval-in .result)
-    (locatedOf s .site-of .result) (siteOf s .site-in .result) (placeOf s .find-table .result) (s .shown .result)
+    (locatedOf s .site-of .result) (siteOf s .site-or-any .result) (placeOf s .find-table .result) (s .shown .result)
 read s =
     record {
       frame = top-is (thereIn s);
@@ -413,9 +413,9 @@ read s =
       held = held-at (heldOf s);
       got = locatedOf s .before .eval-in .ensures;
       located = locatedOf s .site-of .ensures;
-      site = siteOf s .site-in .ensures;
+      site = siteOf s .site-or-any .ensures;
       place = placeOf s .find-table .ensures;
-      content = shown-content (netOf (thereIn s)) _ _ _ (s .shown .result) (slotOf s .slot-at .ensures) refl (s .shown .ensures);
+      content = shown-content (netOf (thereIn s)) _ _ _ (s .shown .result) (slotOf s .place-or-first .ensures) refl (s .shown .ensures);
     }
 
 abbrev situationAt : Shown → Situation
@@ -491,7 +491,7 @@ loop-again-2 c =
     let e = thereIn (shownOf o) in
     let l = atOf (pickedOf e) in
     more (pickedOf e)
-    (turned-refused (goneAt l) (pickAt e) (o .decide .result .answer) (c .enum-told2 .given .1)
+    (pick-refused (reachedAt l) (pickAt e) (o .decide .result .answer) (c .enum-told2 .given .1)
     (change-refused (netOf e) (pickAt e) (okay e) (there e) (decided o .at _ (meets (shownOf o)) .answer) (c .enum-told2 .given .1)))
     (p .before .before .put-answer-at2 .ensures) (l .loop .inv .sized)
 
@@ -520,13 +520,13 @@ room : (c : Told) → (atOf (pickedIn (decidesIn c)) .loop .added .high < 2 ^ 63
 room c =
     let e = pickedIn (decidesIn c) in
     let l = atOf e in
-    gone-room (fromOf l) (picksAt l) (l .loop .i) (goneAt l) (l .loop .inv .gone) (left-over e) (omega (arith, short l, count-is l))
+    carried-room (fromOf l) (picksAt l) (l .loop .i) (reachedAt l) (l .loop .inv .gone) (left-over e) (omega (arith, short l, count-is l))
 
-plus-requires : tie.Need-plus-requires Inv-loop2 μ-loop2 Inv-loop3 μ-loop3 Inv-loop4 μ-loop4 Inv-loop μ-loop
-plus-requires c κs = room c .0
+add-count-requires : tie.Need-add-count-requires Inv-loop2 μ-loop2 Inv-loop3 μ-loop3 Inv-loop4 μ-loop4 Inv-loop μ-loop
+add-count-requires c κs = room c .0
 
-plus-requires-2 : tie.Need-plus-requires-2 Inv-loop2 μ-loop2 Inv-loop3 μ-loop3 Inv-loop4 μ-loop4 Inv-loop μ-loop
-plus-requires-2 c κs = room (c .before) .1
+add-count-requires-2 : tie.Need-add-count-requires-2 Inv-loop2 μ-loop2 Inv-loop3 μ-loop3 Inv-loop4 μ-loop4 Inv-loop μ-loop
+add-count-requires-2 c κs = room (c .before) .1
 
 -- what the functions that make tables and relations ask
 ready : (c : Told) → ActReady (situationAt (shownIn c) .node) (situationAt (shownIn c) .content) (sourceOf (decidesIn c)) (situationAt (shownIn c) .thread .vars)
@@ -600,7 +600,7 @@ abbrev pickBy : Moved → Pick
 pickBy j = pickAt (thereBy j)
 
 -- where the sums have been added
-abbrev summed : Moved → tie.After-plus2 Inv-loop2 μ-loop2 Inv-loop3 μ-loop3 Inv-loop4 μ-loop4 Inv-loop μ-loop
+abbrev summed : Moved → tie.After-add-count2 Inv-loop2 μ-loop2 Inv-loop3 μ-loop3 Inv-loop4 μ-loop4 Inv-loop μ-loop
 summed j = j .before .before .before .before .before
 
 abbrev movedIn : Moved → List TableVariable → Thread
@@ -775,7 +775,7 @@ record Stored (n m : Net) (ts : List M.Table) : Type 0 where
 
 abbrev tablesLeft : Moved → Relation → List M.Table
 tablesLeft j q =
-    tablesWith (kindAt (situationBy j .node .kind)) (placeOf (shownBy j) .find-table .result) (tablesOf (netBy j .tablecount) (netBy j .tables)) (siteOf (shownBy j) .site-in .result) (nodeOf (situationBy j .node)) (relationOf q)
+    tablesWith (kindAt (situationBy j .node .kind)) (placeOf (shownBy j) .find-table .result) (tablesOf (netBy j .tablecount) (netBy j .tables)) (siteOf (shownBy j) .site-or-any .result) (nodeOf (situationBy j .node)) (relationOf q)
 
 -- with the content that the step puts, if it puts any
 record Left (j : Moved) (m : Net) : Type 0 where
@@ -824,7 +824,7 @@ left c =
     (λ y.
     either {C = Left j (c .match3 .net)} y
     (λ z.
-    let slot = slotOf (shownBy j) .slot-at in
+    let slot = slotOf (shownBy j) .place-or-first in
     let old = getD (n .tables) (slot .result) noTable in
     let q = z .4 .result in
     let p = T-of (putsRows (kindAt (situationBy j .node .kind))) (sym (z .1 .ensures) ∙ z .2 .taken) in
@@ -848,7 +848,7 @@ left c =
       put = no-puts j noContent none;
       stored =
           subst (λ (m : Net). Stored n m (tablesLeft j noContent)) (sym (z .3))
-          (record { tables = tables-stay (situationBy j .node .kind) (placeOf (shownBy j) .find-table .result) (tablesOf (n .tablecount) (n .tables)) (siteOf (shownBy j) .site-in .result) (nodeOf (situationBy j .node)) (relationOf noContent) none (ne-eqb _ 23 (z .0 .rest .0 .1)) (ne-eqb _ 24 (z .0 .rest .1)); eight = eight; rest = refl });
+          (record { tables = tables-stay (situationBy j .node .kind) (placeOf (shownBy j) .find-table .result) (tablesOf (n .tablecount) (n .tables)) (siteOf (shownBy j) .site-or-any .result) (nodeOf (situationBy j .node)) (relationOf noContent) none (ne-eqb _ 23 (z .0 .rest .0 .1)) (ne-eqb _ 24 (z .0 .rest .1)); eight = eight; rest = refl });
     })))
 
 -- ── one pick more, with these tables and threads ──
@@ -865,7 +865,7 @@ told-as :
     {picks lent : List ℕ} {count : ℕ} {room : Bool} {from : Net} {out : List ℕ} {n m : Net} {a b : Answer} {u v : Total} {i : ℕ} → n ≡ m → a ≡ b →
     Behind picks lent count room from out (record { net = n; answer = a; added = u; taken = v }) i → Behind picks lent count room from out (record { net = m; answer = b; added = u; taken = v }) i
 told-as {picks} {lent} {count} {room} {from} {out} {u = u} {v = v} {i = i} e f h =
-    subst (λ (r : Stood). Behind picks lent count room from out r i) (λ j. record { net = e j; answer = f j; added = u; taken = v }) h
+    subst (λ (r : Reached). Behind picks lent count room from out r i) (λ j. record { net = e j; answer = f j; added = u; taken = v }) h
 
 again :
     (c : Tabled) (fork : Thread) →
@@ -878,7 +878,7 @@ again :
     }) →
     (hs : List Thread) (k : ℕ) → length hs ≡ 8 →
     threadsOf k hs
-    ≡ settle (pickBy (c .before) .thread) (standing (threadOf (movedIn (c .before) (c .before .if3 .thread .relations)))) (threadsOf (netBy (c .before) .threadcount) (netBy (c .before) .threads))
+    ≡ settle (pickBy (c .before) .thread) (goesOn (threadOf (movedIn (c .before) (c .before .if3 .thread .relations)))) (threadsOf (netBy (c .before) .threadcount) (netBy (c .before) .threads))
     ++ forksOf (decidesBy (c .before) .decide .result .forks) fork →
     {n : Net} → n ≡ netWith (netBy (c .before)) (c .match3 .net .tables) (c .match3 .net .tablecount) hs k →
     Behind (bytesAt (atOf (pickedOf (thereBy (c .before))))) (lentAt (atOf (pickedOf (thereBy (c .before))))) (length (bytesAt (atOf (pickedOf (thereBy (c .before))))) / 2) (roomAt (atOf (pickedOf (thereBy (c .before)))))
@@ -886,8 +886,8 @@ again :
     (record {
       net = n;
       answer = Done (toldBy (c .before) .before .answer .given .0 .0) (toldBy (c .before) .before .answer .given .0 .1 .0);
-      added = summed (c .before) .before .plus .result;
-      taken = summed (c .before) .plus2 .result;
+      added = summed (c .before) .before .add_count .result;
+      taken = summed (c .before) .add-count2 .result;
     })
     (atOf (pickedOf (thereBy (c .before))) .loop .i + 1)
 again c fork is hs k eight threads e =
@@ -900,7 +900,7 @@ again c fork is hs k eight threads e =
     let step = done-is (netBy j) (pickBy j) (okay h) (there h) (read (shownBy j)) (change j (made j (q .content) (q .put) fork is)) (says-done t) (c .match3 .net .tables) (c .match3 .net .tablecount) hs k (s .tables) threads in
     told-as (sym e) (says-done t)
     (more (pickedOf h)
-    (turned-done (goneAt l) (pickBy j) (decidesBy j .decide .result .answer) _ (summed j .before .plus .result) (summed j .plus2 .result) (says-done t) step (summed j .before .plus .ensures) (summed j .plus2 .ensures))
+    (pick-done (reachedAt l) (pickBy j) (decidesBy j .decide .result .answer) _ (summed j .before .add_count .result) (summed j .add-count2 .result) (says-done t) step (summed j .before .add_count .ensures) (summed j .add-count2 .ensures))
     (saidOfStep j .before .before .put-answer-at2 .ensures) (sized-with (l .loop .inv .sized) (s .eight) eight))
 
 threads-fit : (c : Tabled) → T (decidesBy (c .before) .decide .result .forks) → (netBy (c .before) .threadcount < 8) × (1 ≤ decidesBy (c .before) .decide .result .depth)
@@ -918,10 +918,10 @@ threads-long c = ap length (threads-same c) ∙ atOf (pickedOf (thereBy (c .befo
 
 -- ── the thread is gone ──
 
-abbrev Gone : Type 0
-Gone = tie.Then5 Inv-loop2 μ-loop2 Inv-loop3 μ-loop3 Inv-loop4 μ-loop4 Inv-loop μ-loop
+abbrev Carried : Type 0
+Carried = tie.Then5 Inv-loop2 μ-loop2 Inv-loop3 μ-loop3 Inv-loop4 μ-loop4 Inv-loop μ-loop
 
-abbrev tabledOf : Gone → Tabled
+abbrev tabledOf : Carried → Tabled
 tabledOf c = c .before .before
 
 picked-there : (c : Tabled) → pickBy (c .before) .thread < netBy (c .before) .threadcount
@@ -980,7 +980,7 @@ loop-again-3 c =
     let k = netBy j .threadcount in
     let u = movedIn j (j .if3 .thread .relations) in
     again t (forkIn j) (fork-is j) (l .net .threads) (k - 1) (l .inv .1 .size ∙ threads-long t)
-    (subst (λ (hs : List Thread). threadsOf (k - 1) (l .net .threads) ≡ settle (pickBy j .thread) (standing (threadOf u)) (threadsOf k hs) ++ forksOf (decidesBy j .decide .result .forks) (forkIn j)) (threads-same t)
+    (subst (λ (hs : List Thread). threadsOf (k - 1) (l .net .threads) ≡ settle (pickBy j .thread) (goesOn (threadOf u)) (threadsOf k hs) ++ forksOf (decidesBy j .decide .result .forks) (forkIn j)) (threads-same t)
     (thread-gone k (t .match3 .net .threads) (pickBy j .thread) u (forkIn j) (picked-there t) (l .inv .1) (c .loop4-test .left) (g .if5 .taken) (decidesBy j .decide .result .forks) (λ h. threads-fit t h .1)))
     (ap (λ (n : Net). netWith n (n .tables) (n .tablecount) (l .net .threads) (k - 1)) (l .inv .2) ∙ ap (λ (n : Net). netWith n (t .match3 .net .tables) (t .match3 .net .tablecount) (l .net .threads) (k - 1)) (left t .stored .rest))
 
@@ -1020,7 +1020,7 @@ loop-again-5 c =
     let eight = atOf (pickedOf (thereBy j)) .loop .inv .sized .threads in
     again t (forkIn j) (fork-is j) (set l (pickBy j .thread) u) k (length-set l (pickBy j .thread) u ∙ eight)
     (thread-stays k l (pickBy j .thread) u (forkIn j) (picked-there t) eight (few-running t) (deep-thread (c .before)) (c .if6 .left)
-    ∙ ap (λ (v : Thread). settle (pickBy j .thread) (standing (threadOf v)) (threadsOf k l) ++ forksOf (decidesBy j .decide .result .forks) (forkIn j)) (moved-is j))
+    ∙ ap (λ (v : Thread). settle (pickBy j .thread) (goesOn (threadOf v)) (threadsOf k l) ++ forksOf (decidesBy j .decide .result .forks) (forkIn j)) (moved-is j))
     (ap (λ (n : Net). withThreads n (set (n .threads) (pickBy j .thread) u)) (left t .stored .rest))
 
 -- ── and a fork goes last ──
@@ -1061,7 +1061,7 @@ loop-again-4 c =
     ∙ ap (λ (v : Thread). record { site = v .site; bindings = bindingsOf (decidesBy j .decide .result .inner) (u .relations); stack = toRun (situationBy j .node .body) ∷ [] }) (moved-is j))
     (set (set l (pickBy j .thread) u) k f) (k + 1) (length-set (set l (pickBy j .thread) u) k f ∙ length-set l (pickBy j .thread) u ∙ eight)
     (thread-forks k l (pickBy j .thread) u f (picked-there t) eight (few-running t) (deep-thread (staysOf c)) (c .before .before .if6 .taken) (fork-few c)
-    ∙ ap (λ (v : Thread). settle (pickBy j .thread) (standing (threadOf v)) (threadsOf k l) ++ forksOf (decidesBy j .decide .result .forks) f) (moved-is j))
+    ∙ ap (λ (v : Thread). settle (pickBy j .thread) (goesOn (threadOf v)) (threadsOf k l) ++ forksOf (decidesBy j .decide .result .forks) f) (moved-is j))
     (ap (λ (n : Net). netWith n (n .tables) (n .tablecount) (set (set (n .threads) (pickBy j .thread) u) k f) (k + 1)) (left t .stored .rest))
 
 -- ── after the last pick ──
@@ -1070,7 +1070,7 @@ loop-again-4 c =
 handed-on :
     {m n : Net} {a : Answer} {u v : Total} → Sized m n →
     record { net = n; answer = a; added = u; taken = v }
-    ≡ stoodBy m (record { tables = n .tables; tablecount = n .tablecount; threads = n .threads; threadcount = n .threadcount; answer = a; added = u; taken = v })
+    ≡ reachedBy m (record { tables = n .tables; tablecount = n .tablecount; threads = n .threads; threadcount = n .threadcount; answer = a; added = u; taken = v })
 handed-on {n = n} {a = a} {u = u} {v = v} z j =
     record {
       net =
@@ -1101,8 +1101,8 @@ returns c =
     let l = c .before .before .before in
     let all = all-behind (c .before .before) in
     let room : roomAt l ≡ leb (length (picksAt l) * 24) (length (lentAt l)) = l .before .before .before .has-room .ensures ∙ ap (λ (n : ℕ). leb (n * 24) (length (lentAt l))) (count-is l) in (
-      subst (λ (r : Stood). GoneIs (fromOf l) (picksAt l) r) (handed-on (l .loop .inv .sized))
-          (subst (λ (ps : List Pick). GoneIs (fromOf l) ps (goneAt l)) (take-all (l .loop .i) (picksAt l) (omega (arith, all))) (l .loop .inv .gone)),
+      subst (λ (r : Reached). CarriedIs (fromOf l) (picksAt l) r) (handed-on (l .loop .inv .sized))
+          (subst (λ (ps : List Pick). CarriedIs (fromOf l) ps (reachedAt l)) (take-all (l .loop .i) (picksAt l) (omega (arith, all))) (l .loop .inv .gone)),
       put-over (view (fromOf l)) (picksAt l) (roomAt l) (l .loop .i) (lentAt l) _ all room (l .loop .inv .put),
     )
 
@@ -1171,8 +1171,8 @@ carry-out-spec =
     (λ c. search needs)
     loop-less-2
     loop-again-2
-    plus-requires
-    plus-requires-2
+    add-count-requires
+    add-count-requires-2
     (λ c κs. search needs)
     (λ c κs. search needs)
     mul-t77

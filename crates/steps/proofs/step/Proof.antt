@@ -6,7 +6,7 @@ use Rattle.nets.specs.declared.Net.{Net}
 use Rattle.nets.specs.Sound.{sound}
 use Rattle.nets.specs.Answers.{StepIs}
 use Rattle.nets.specs.View.{view}
-use Rattle.step_left.proofs.TurnLaws.{gone-single}
+use Rattle.step_left.proofs.CarriedLaws.{carried-single}
 use Rattle.steps.proofs.OneLaws.{few-of, long-of, sure-of, picks-of}
 use Rattle.steps.proofs.step.Statement.{statement}
 use Rattle.steps.proofs.step.Tie as tie
@@ -38,7 +38,7 @@ returns c =
     let a = start t .args in
     let answer = g .result .answer in
     subst (λ (m : Net). StepIs (a .net) (a .pick) (record { answer = answer; net = m })) (sym (c .left-by .ensures))
-    (gone-single (a .net) (a .pick) _ _ (t .sound-parts .result) (t .sound-parts .ensures) (picks-of (a .pick) (t .sound-parts .result) (n .count-if .ensures)) (g .ensures .0))
+    (carried-single (a .net) (a .pick) _ _ (t .sound-parts .result) (t .sound-parts .ensures) (picks-of (a .pick) (t .sound-parts .result) (n .count-if .ensures)) (g .ensures .0))
 
 pub step-spec : {M : Type 1} → statement M
 step-spec =

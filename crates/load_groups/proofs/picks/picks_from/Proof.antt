@@ -13,7 +13,7 @@ use Rattle.load_walk.specs.declared.Reach.{Reach}
 use Rattle.load_walk.specs.Walking.{Leads, groupNext, Going, putPicks}
 use Rattle.nets.specs.declared.Pick.{Pick}
 use Rattle.nets.specs.View.{noPick}
-use Rattle.files.specs.Engine.{picksOf}
+use Rattle.files.specs.Engine.{firstPicks}
 use Rattle.load_walk.proofs.WalkLaws.{Group, withGroup, listChecks, leads-refl, list-stops, list-grows, next-in, next-fits, next-less, gone-on, gone-off, gone-by}
 use Rattle.load_groups.proofs.picks.picks_from.Statement.{statement}
 use Rattle.load_groups.proofs.picks.picks_from.Tie as tie
@@ -57,7 +57,7 @@ below-256 : (file : List ℕ) (r : Reach) (n c : ℕ) → n ≡ groupNext file r
 below-256 file r n c e e′ g h = omega (arith, next-in 6 pos file r n e e′ g, g .whole .few, h)
 
 abbrev Inv-loop : tie.InvT-loop
-Inv-loop file picks₀ count₀ at₀ picks count at = (length picks ≡ 256) × (count ≤ at .place) × Leads file at₀ at (putPicks []) (putPicks (picksOf count picks)) × Going file 6 at
+Inv-loop file picks₀ count₀ at₀ picks count at = (length picks ≡ 256) × (count ≤ at .place) × Leads file at₀ at (putPicks []) (putPicks (firstPicks count picks)) × Going file 6 at
 
 abbrev μ-loop : tie.MeasureT-loop
 μ-loop file picks₀ count₀ at₀ picks count at = wholeRecords file - at .place

@@ -15,13 +15,13 @@ visiting-ok-requires c κs = sym (c .before .is-loop .ensures) ∙ c .if2 .taken
 plain-ok-requires : tie.Need-plain-ok-requires
 plain-ok-requires c κs = (
   no-template (kindAt (c .before .before .before .before .before .before .args .d .kind)) (sym (c .before .before .before .before .before .has-test .ensures) ∙ c .before .before .before .before .if1 .left) (sym (c .before .before .before .is-loop .ensures) ∙ c .before .before .if2 .left),
-  sym (c .before .has-place .ensures) ∙ c .if3 .taken,
+  sym (c .before .has-locality .ensures) ∙ c .if3 .taken,
 )
 
 returns-4 : tie.Need-returns-4
 returns-4 c =
     let d = c .before .before .before .before .before .before .args .d in
-    no-kind (kindAt (d .kind)) (nodeOf d) (sym (c .before .before .before .before .before .has-test .ensures) ∙ c .before .before .before .before .if1 .left) (sym (c .before .before .before .is-loop .ensures) ∙ c .before .before .if2 .left) (sym (c .before .has-place .ensures) ∙ c .if3 .left)
+    no-kind (kindAt (d .kind)) (nodeOf d) (sym (c .before .before .before .before .before .has-test .ensures) ∙ c .before .before .before .before .if1 .left) (sym (c .before .before .before .is-loop .ensures) ∙ c .before .before .if2 .left) (sym (c .before .has-locality .ensures) ∙ c .if3 .left)
 
 pub fields-ok-spec : {M : Type 1} → statement M
 fields-ok-spec =

@@ -25,7 +25,7 @@ use Rattle.nets.specs.Answers.{Said, refusing, doing, addedSaid, takenSaid, num
 use Rattle.nets.specs.View.{view}
 use Rattle.value_totals.specs.declared.Total.{Total}
 use Rattle.value_totals.specs.Totals.{totalOf}
-use Rattle.step_left.specs.Turns.{allRefused, lastSaid, Stood, GoneIs}
+use Rattle.step_left.specs.Carried.{allRefused, lastSaid, Reached, CarriedIs}
 use Rattle.nets.proofs.AnswerLaws.{refuses-10}
 use Rattle.step_bytes.proofs.AnswerLaws.{noOutcome, answer-at}
 use Rattle.step_left.proofs.KeepStep.{kept-sound, refused-is}
@@ -111,7 +111,7 @@ refused-said x o e h = answer x (subst (λ (b : Bool). T (not b)) (outcome o ∙
 -- ── one pick more ──
 
 -- from `g` to `r` by a pick
-pub record Turned (g : Stood) (p : Pick) (r : Stood) : Type 0 where
+pub record OnePick (g : Reached) (p : Pick) (r : Reached) : Type 0 where
   pub step : StepIs (g .net) p (record { answer = r .answer; net = r .net })
   pub added : totalOf (r .added) ≡ totalOf (g .added) + addedAs (r .answer)
   pub taken : totalOf (r .taken) ≡ totalOf (g .taken) + takenAs (r .answer)
@@ -119,9 +119,9 @@ pub record Turned (g : Stood) (p : Pick) (r : Stood) : Type 0 where
   pub takenRoom : r .taken .high ≤ g .taken .high + 1
 
 -- no pick leaves all as it is
-pub gone-none : (net : Net) (z y : Total) → z ≡ record { high = 0; low = 0 } → y ≡ record { high = 0; low = 0 } → GoneIs net [] (record { net = net; answer = Refused Unsound; added = z; taken = y })
+pub carried-none : (net : Net) (z y : Total) → z ≡ record { high = 0; low = 0 } → y ≡ record { high = 0; low = 0 } → CarriedIs net [] (record { net = net; answer = Refused Unsound; added = z; taken = y })
 unfolding after answers lastSaid
-gone-none net z y e f =
+carried-none net z y e f =
     record {
       left = refl;
       sound = λ h. h;
@@ -133,9 +133,9 @@ gone-none net z y e f =
       takenRoom = let h = ap (λ (t : Total). t .high) f in omega (arith, h);
     }
 
-gone-next : (net : Net) (ps : List Pick) (p : Pick) (g r : Stood) → GoneIs net ps g → Turned g p r → GoneIs net (ps ++ (p ∷ [])) r
+carried-next : (net : Net) (ps : List Pick) (p : Pick) (g r : Reached) → CarriedIs net ps g → OnePick g p r → CarriedIs net (ps ++ (p ∷ [])) r
 unfolding nextNet
-gone-next net ps p g r h x =
+carried-next net ps p g r h x =
     record {
       left = is .after ∙ ap (λ (m : M.Net). nextNet m p) (h .left) ∙ sym (after-last p (view net) ps);
       sound = λ k. kept-sound (g .net) p (record { answer = r .answer; net = r .net }) (h .sound k) is;
@@ -162,22 +162,22 @@ gone-next net ps p g r h x =
     at = is .answer ∙ ap (λ (m : M.Net). answerOf (step m p)) (h .left)
 
 -- in a list, where i picks are behind
-pub gone-again :
-    (net : Net) (ps : List Pick) (i : ℕ) (d : Pick) (g r : Stood) → i < length ps → GoneIs net (take i ps) g → Turned g (getD ps i d) r → GoneIs net (take (i + 1) ps) r
-gone-again net ps i d g r l k x =
-    subst (λ (qs : List Pick). GoneIs net qs r) (sym (ap (λ (j : ℕ). take j ps) (add-one i) ∙ take-suc ps i d l)) (gone-next net (take i ps) (getD ps i d) g r k x)
+pub carried-again :
+    (net : Net) (ps : List Pick) (i : ℕ) (d : Pick) (g r : Reached) → i < length ps → CarriedIs net (take i ps) g → OnePick g (getD ps i d) r → CarriedIs net (take (i + 1) ps) r
+carried-again net ps i d g r l k x =
+    subst (λ (qs : List Pick). CarriedIs net qs r) (sym (ap (λ (j : ℕ). take j ps) (add-one i) ∙ take-suc ps i d l)) (carried-next net (take i ps) (getD ps i d) g r k x)
 
 -- its answer is the one at its place
 pub said-here :
-    (net : Net) (ps : List Pick) (i : ℕ) (d : Pick) (g : Stood) (x : Answer) → i < length ps → GoneIs net (take i ps) g → saidOf x ≡ answerOf (step (view (g .net)) (getD ps i d)) →
+    (net : Net) (ps : List Pick) (i : ℕ) (d : Pick) (g : Reached) (x : Answer) → i < length ps → CarriedIs net (take i ps) g → saidOf x ≡ answerOf (step (view (g .net)) (getD ps i d)) →
     saidOf x ≡ answerOf (getD (answers (view net) ps) i noOutcome)
 said-here net ps i d g x l k e = e ∙ ap (λ (m : M.Net). answerOf (step m (getD ps i d))) (k .left) ∙ ap answerOf (sym (answer-at (view net) ps i d l))
 
 -- a refused pick
-pub turned-refused :
-    (g : Stood) (p : Pick) (x : Answer) {why : Refusal} → x ≡ Refused why → answerOf (step (view (g .net)) p) ≡ refusing (numberOf why) [] →
-    Turned g p (record { net = g .net; answer = x; added = g .added; taken = g .taken })
-turned-refused g p x says e =
+pub pick-refused :
+    (g : Reached) (p : Pick) (x : Answer) {why : Refusal} → x ≡ Refused why → answerOf (step (view (g .net)) p) ≡ refusing (numberOf why) [] →
+    OnePick g p (record { net = g .net; answer = x; added = g .added; taken = g .taken })
+pick-refused g p x says e =
     record {
       step = refused-is (g .net) p _ says refl e;
       added = let z = ap addedAs says in omega (arith, z);
@@ -187,11 +187,11 @@ turned-refused g p x says e =
     }
 
 -- a done pick, with its counts
-pub turned-done :
-    (g : Stood) (p : Pick) (x : Answer) (n : Net) (u v : Total) {a t : ℕ} → x ≡ Done a t → StepIs (g .net) p (record { answer = x; net = n }) →
+pub pick-done :
+    (g : Reached) (p : Pick) (x : Answer) (n : Net) (u v : Total) {a t : ℕ} → x ≡ Done a t → StepIs (g .net) p (record { answer = x; net = n }) →
     (totalOf u ≡ totalOf (g .added) + a) × (u .high ≤ g .added .high + 1) → (totalOf v ≡ totalOf (g .taken) + t) × (v .high ≤ g .taken .high + 1) →
-    Turned g p (record { net = n; answer = x; added = u; taken = v })
-turned-done g p x n u v says is h k =
+    OnePick g p (record { net = n; answer = x; added = u; taken = v })
+pick-done g p x n u v says is h k =
     record {
       step = is;
       added = let z = ap addedAs says in omega (arith, z, h .0);
@@ -201,24 +201,24 @@ turned-done g p x n u v says is h k =
     }
 
 -- the sums have room for one pick more
-pub gone-room :
-    (net : Net) (ps : List Pick) (i : ℕ) (g : Stood) → GoneIs net (take i ps) g → i < length ps → length ps < 2 ^ 63 → (g .added .high < 2 ^ 63) × (g .taken .high < 2 ^ 63)
-gone-room net ps i g h l k =
+pub carried-room :
+    (net : Net) (ps : List Pick) (i : ℕ) (g : Reached) → CarriedIs net (take i ps) g → i < length ps → length ps < 2 ^ 63 → (g .added .high < 2 ^ 63) × (g .taken .high < 2 ^ 63)
+carried-room net ps i g h l k =
     let z = length-take-le i ps (omega arith) in
     (omega (arith, h .addedRoom, z), omega (arith, h .takenRoom, z))
 
 -- ── a single pick ──
 
-pub gone-step : (net : Net) (p : Pick) (ps : List Pick) (r : Stood) → ps ≡ p ∷ [] → GoneIs net ps r → StepIs net p (record { answer = r .answer; net = r .net })
+pub carried-step : (net : Net) (p : Pick) (ps : List Pick) (r : Reached) → ps ≡ p ∷ [] → CarriedIs net ps r → StepIs net p (record { answer = r .answer; net = r .net })
 unfolding after answers lastSaid nextNet
-gone-step net p ps r e h = one (subst (λ (qs : List Pick). GoneIs net qs r) e h)
+carried-step net p ps r e h = one (subst (λ (qs : List Pick). CarriedIs net qs r) e h)
   where
     none-done : (x : Answer) (o : Outcome) → saidOf x ≡ answerOf o → T (isRefused x) → T (not (isDone o))
     none-done (Done a t) o e k = absurd k
     none-done (Refused y) (refused n vs) e k = tt
     none-done (Refused y) (done a t net) e k = absurd (subst (λ (s : Said). T (not (isDoneSaid s))) e tt)
 
-    one : GoneIs net (p ∷ []) r → StepIs net p (record { answer = r .answer; net = r .net })
+    one : CarriedIs net (p ∷ []) r → StepIs net p (record { answer = r .answer; net = r .net })
     one g =
         record {
           answer = g .last;
@@ -227,9 +227,9 @@ gone-step net p ps r e h = one (subst (λ (qs : List Pick). GoneIs net qs r) e h
         }
 
 -- no pick, on a net that is not sound
-gone-unsound : (net : Net) (p : Pick) (r : Stood) → sound (view net) ≡ false → GoneIs net [] r → StepIs net p (record { answer = r .answer; net = r .net })
+carried-unsound : (net : Net) (p : Pick) (r : Reached) → sound (view net) ≡ false → CarriedIs net [] r → StepIs net p (record { answer = r .answer; net = r .net })
 unfolding after answers lastSaid
-gone-unsound net p r e g =
+carried-unsound net p r e g =
     record {
       answer = g .last ∙ sym (ap answerOf (refuses-10 (view net) p e));
       after = g .left ∙ sym (ap (netLeft (view net)) (refuses-10 (view net) p e));
@@ -237,7 +237,7 @@ gone-unsound net p r e g =
     }
 
 -- one pick where the net is sound, and else none
-pub gone-single :
-    (net : Net) (p : Pick) (ps : List Pick) (r : Stood) (b : Bool) → b ≡ sound (view net) → ps ≡ cond b (p ∷ []) [] → GoneIs net ps r → StepIs net p (record { answer = r .answer; net = r .net })
-gone-single net p ps r true e f g = gone-step net p ps r f g
-gone-single net p ps r false e f g = gone-unsound net p r (sym e) (subst (λ (qs : List Pick). GoneIs net qs r) f g)
+pub carried-single :
+    (net : Net) (p : Pick) (ps : List Pick) (r : Reached) (b : Bool) → b ≡ sound (view net) → ps ≡ cond b (p ∷ []) [] → CarriedIs net ps r → StepIs net p (record { answer = r .answer; net = r .net })
+carried-single net p ps r true e f g = carried-step net p ps r f g
+carried-single net p ps r false e f g = carried-unsound net p r (sym e) (subst (λ (qs : List Pick). CarriedIs net qs r) f g)

@@ -19,8 +19,8 @@ use Rattle.nets.specs.declared.Answer.the-variants.{Done, Refused}
 use Rattle.nets.specs.declared.Thread.{Thread}
 use Rattle.nets.specs.declared.Frame.{Frame}
 use Rattle.step_thread.specs.declared.Round.{Round}
-use Rattle.step_thread.specs.declared.Turn.{Turn}
-use Rattle.step_thread.specs.declared.Turn.the-variants.{Over, Opened, Stopped}
+use Rattle.step_thread.specs.declared.RoundAnswer.{RoundAnswer}
+use Rattle.step_thread.specs.declared.RoundAnswer.the-variants.{Over, Opened, Stopped}
 use Rattle.step_meets.specs.declared.Decided.{Decided}
 use Rattle.step_meets.specs.Situations.{Situation}
 use Rattle.nets.specs.Nets as M
@@ -31,11 +31,11 @@ use Rattle.nets.specs.Steps.{roomForRound, check12, loopEntry, roundBindings, w
 use Rattle.nets.specs.Answers.{answerOf, saidOf}
 use Rattle.nets.specs.View.{kindAt, marked, entryOf, variableOf, bindingsOf, threadOf}
 use Rattle.step_effect.specs.Contracts.{putsRows}
-use Rattle.step_thread.specs.Contracts.{turnOf, turnBy, opened, readyAt, visitOf, RoundIs, standing}
+use Rattle.step_thread.specs.Contracts.{roundSaid, roundBy, opened, readyAt, visitOf, RoundIs, goesOn}
 use Rattle.step_meets.specs.Contracts.{outcomeAt, Meets, relationRead, Made, ChangeIs}
 use Rattle.nets.proofs.KindClasses.{class-in, in-class}
-use Rattle.step_meets.proofs.MeetTies.{met-kind, met-vars, met-template, met-relation, met-turn, met-room}
-use Rattle.step_meets.proofs.RoundTies.{turnedSaid, turnAt, turnIn, turn-answer, over-threads, sequential-threads, parallel-threads, loop-visit, loop-row}
+use Rattle.step_meets.proofs.MeetTies.{met-kind, met-vars, met-template, met-relation, met-round, met-room}
+use Rattle.step_meets.proofs.RoundTies.{saidRound, roundHere, roundWith, round-answer, over-threads, sequential-threads, parallel-threads, loop-visit, loop-row}
 
 -- a loop changes no rows
 puts-none : (k : Kind) → T (isLoop k) → T (putsRows k) → ⊥
@@ -63,16 +63,16 @@ abbrev pub roundIn : M.Thread → Vars → M.Entry → M.Entry → M.Thread
 roundIn t vs x y = withStack (withBindings t (withVars (t .bindings) vs)) (x ∷ y ∷ below (t .stack))
 
 -- a round has room
-has-room : (a b q r : Bool) → turnBy a b q r ≡ opened → r ≡ true
+has-room : (a b q r : Bool) → roundBy a b q r ≡ opened → r ≡ true
 has-room false b q r e = cc
 has-room true false q r e = cc
 has-room true true false r e = cc
 has-room true true true false e = cc
 has-room true true true true e = refl
 
-pub round-room : {e : Vars} {t : List Operand} {r : Relation} {f : Frame} {row : ℕ} {room : Bool} {o : Round} → RoundIs e t r f row room o → o .turn ≡ Opened → room ≡ true
+pub round-room : {e : Vars} {t : List Operand} {r : Relation} {f : Frame} {row : ℕ} {room : Bool} {o : Round} → RoundIs e t r f row room o → o .answer ≡ Opened → room ≡ true
 round-room {e} {t} {r} {f} {row} {room} got h =
-    has-room (eqb (length t) (length (r .columns))) (any (readyAt e t r) (visitOf f r)) (among row (visitOf f r) && readyAt e t r row) room (sym (got .turn) ∙ ap turnOf h)
+    has-room (eqb (length t) (length (r .columns))) (any (readyAt e t r) (visitOf f r)) (among row (visitOf f r) && readyAt e t r row) room (sym (got .answer) ∙ ap roundSaid h)
 
 -- ── room, by the code's tests ──
 
@@ -81,7 +81,7 @@ pub room-met :
     room ≡ roomForRound c
 room-met s c m e f = f ∙ ap (λ (b : Bool). cond b (ltb (s .threads) 8) (ltb (s .thread .depth) 8)) e ∙ sym (met-room s c m)
 
--- ── the turn ──
+-- ── the answer of a round ──
 
 -- a round of the code at a scene's loop, where check 12 passed; the table variable read is `source`
 pub record RoundAt (s : Situation) (c : Scene) (o : Round) : Type 0 where
@@ -104,17 +104,17 @@ module _ (s : Situation) (c : Scene) (o : Round) (r : RoundAt s c o) where
   loops : T (isLoop (c .node .kind))
   loops = subst (λ (k : Kind). T (isLoop k)) (sym (met-kind s c m)) (r .loop)
 
-  turn-is : {t : Turn} → o .turn ≡ t → turnAt c ≡ turnOf t
-  turn-is e =
-      met-turn s c m (r .loop) q (r .held)
-      ∙ ap (turnIn (varsOf (s .thread .vars)) (operandsOf (s .node .selector .template)) q (visitOf (s .frame) q) (s .row)) (sym (r .space))
-      ∙ sym (r .got .turn) ∙ ap turnOf e
+  round-is : {t : RoundAnswer} → o .answer ≡ t → roundHere c ≡ roundSaid t
+  round-is e =
+      met-round s c m (r .loop) q (r .held)
+      ∙ ap (roundWith (varsOf (s .thread .vars)) (operandsOf (s .node .selector .template)) q (visitOf (s .frame) q) (s .row)) (sym (r .space))
+      ∙ sym (r .got .answer) ∙ ap roundSaid e
 
-  pub turn-says : {t : Turn} → o .turn ≡ t → turnedSaid (turnOf t) ≡ answerOf (outcomeAt c)
-  turn-says e = sym (turn-answer c loops (r .twelve) ∙ ap turnedSaid (turn-is e))
+  pub round-says : {t : RoundAnswer} → o .answer ≡ t → saidRound (roundSaid t) ≡ answerOf (outcomeAt c)
+  round-says e = sym (round-answer c loops (r .twelve) ∙ ap saidRound (round-is e))
 
-  pub turn-stops : (why : Refusal) → o .turn ≡ Stopped why → saidOf (Refused why) ≡ answerOf (outcomeAt c)
-  turn-stops why e = turn-says e
+  pub round-stops : (why : Refusal) → o .answer ≡ Stopped why → saidOf (Refused why) ≡ answerOf (outcomeAt c)
+  round-stops why e = round-says e
 
   kind-is : isParallel (c .node .kind) ≡ isParallel (kindAt (s .node .kind))
   kind-is = ap isParallel (met-kind s c m)
@@ -124,20 +124,20 @@ module _ (s : Situation) (c : Scene) (o : Round) (r : RoundAt s c o) where
 
   -- ── over ──
 
-  pub turn-over :
-      o .turn ≡ Over → (content : Code.Relation) (after fork : Thread) →
-      standing (threadOf after) ≡ goOn (s .node .next) (threadOf (s .thread)) (below (threadOf (s .thread) .stack)) →
+  pub round-over :
+      o .answer ≡ Over → (content : Code.Relation) (after fork : Thread) →
+      goesOn (threadOf after) ≡ goOn (s .node .next) (threadOf (s .thread)) (below (threadOf (s .thread) .stack)) →
       ChangeIs c (record { answer = Done 0 0; content = content; thread = after; forks = false; fork = fork })
-  turn-over e content after fork goes-on =
+  round-over e content after fork goes-on =
       record {
-        answer = turn-says e;
+        answer = round-says e;
         content = λ h k. absurd (puts-no-rows k);
         room = λ h. absurd h;
         threads = λ h.
-            over-threads c loops (turn-is e)
+            over-threads c loops (round-is e)
             ∙ ap₂ (λ (d : M.Node) (x : M.Thread). settle (c .at) (goOn (d .next) x (below (x .stack))) (c .net .threads)) (m .node) (m .thread)
             ∙ ap (λ (us : List M.Thread). settle (c .at) us (c .net .threads)) (sym goes-on)
-            ∙ sym (append-nil (settle (c .at) (standing (threadOf after)) (c .net .threads)));
+            ∙ sym (append-nil (settle (c .at) (goesOn (threadOf after)) (c .net .threads)));
       }
 
   -- ── a round ──
@@ -148,12 +148,12 @@ module _ (s : Situation) (c : Scene) (o : Round) (r : RoundAt s c o) where
   abbrev bound : M.Bindings
   bound = withVars (threadOf (s .thread) .bindings) (varsOf (o .vars))
 
-  module _ (e : o .turn ≡ Opened) where
+  module _ (e : o .answer ≡ Opened) where
     entry-is : loopEntry c ≡ entry
     entry-is =
         ap₂ (λ (x : M.Entry) (v : List ℕ). visiting (entryNode x) v) (m .entry)
         (ap₂ (λ (i : ℕ) (v : List ℕ). filter (λ j. not (eqb j i)) v) (sym (m .row)) (loop-visit c loops q (met-relation s c m ∙ r .held) ∙ ap (λ (x : M.Entry). stillToVisit x (length (q .rows))) (m .entry))
-        ∙ sym (r .got .visit (ap turnOf e)))
+        ∙ sym (r .got .visit (ap roundSaid e)))
 
     bindings-are : roundBindings c ≡ bound
     bindings-are =
@@ -161,43 +161,43 @@ module _ (s : Situation) (c : Scene) (o : Round) (r : RoundAt s c o) where
         (ap₂ (λ (v : Vars) (t : List Operand). rowVars v t (rowAt c (c .row))) (met-vars s c m) (met-template s c m)
         ∙ ap (rowVars (varsOf (s .thread .vars)) (operandsOf (s .node .selector .template)))
         (loop-row c loops q (met-relation s c m ∙ r .held) (c .row) ∙ ap (λ (i : ℕ). getD (q .rows) i []) (sym (m .row)))
-        ∙ sym (r .got .vars (ap turnOf e)))
+        ∙ sym (r .got .vars (ap roundSaid e)))
 
     -- in the thread: the formals are bound and the body goes on the stack
-    pub turn-runs :
+    pub round-runs :
         isParallel (kindAt (s .node .kind)) ≡ false → (content : Code.Relation) (after fork : Thread) →
         threadOf after ≡ roundIn (threadOf (s .thread)) (varsOf (o .vars)) (toRun (s .node .body)) entry →
         ChangeIs c (record { answer = Done 0 0; content = content; thread = after; forks = false; fork = fork })
-    turn-runs h content after fork p =
+    round-runs h content after fork p =
         record {
-          answer = turn-says e;
+          answer = round-says e;
           content = λ d k. absurd (puts-no-rows k);
           room = λ d. absurd d;
           threads = λ d.
-              sequential-threads c loops (turn-is e) (kind-is ∙ h)
+              sequential-threads c loops (round-is e) (kind-is ∙ h)
               ∙ ap (λ (t : M.Thread). settle (c .at) (t ∷ []) (c .net .threads))
               (ap₂ (λ (x : M.Entry) (b : M.Bindings). withStack (withBindings (c .thread) b) (toRun (c .node .body) ∷ x ∷ below (c .thread .stack))) entry-is bindings-are
               ∙ ap₂ (λ (t : M.Thread) (n : M.Node). withStack (withBindings t bound) (toRun (n .body) ∷ entry ∷ below (t .stack))) (m .thread) (m .node))
-              ∙ ap (λ (us : List M.Thread). settle (c .at) us (c .net .threads)) (sym (ap standing p))
-              ∙ sym (append-nil (settle (c .at) (standing (threadOf after)) (c .net .threads)));
+              ∙ ap (λ (us : List M.Thread). settle (c .at) us (c .net .threads)) (sym (ap goesOn p))
+              ∙ sym (append-nil (settle (c .at) (goesOn (threadOf after)) (c .net .threads)));
         }
 
     -- in a new thread: the loop's own keeps its variables
-    pub turn-forks :
+    pub round-forks :
         isParallel (kindAt (s .node .kind)) ≡ true → (content : Code.Relation) (after fork : Thread) → 1 ≤ after .depth →
         threadOf after ≡ withStack (threadOf (s .thread)) (entry ∷ below (threadOf (s .thread) .stack)) →
         threadOf fork ≡ record { site = s .thread .site; bindings = bindingsOf (o .vars) (s .thread .relations); stack = toRun (s .node .body) ∷ [] } →
         ChangeIs c (record { answer = Done 0 0; content = content; thread = after; forks = true; fork = fork })
-    turn-forks h content after fork deep p f =
+    round-forks h content after fork deep p f =
         record {
-          answer = turn-says e;
+          answer = round-says e;
           content = λ d k. absurd (puts-no-rows k);
           room = λ d. (ltb-true (length (c .net .threads)) 8 (sym (ap (λ (n : ℕ). ltb n 8) (m .threads)) ∙ space-is), deep);
           threads = λ d.
-              parallel-threads c loops (turn-is e) (kind-is ∙ h)
+              parallel-threads c loops (round-is e) (kind-is ∙ h)
               ∙ ap₂ (λ (x : M.Entry) (b : M.Bindings). both (c .thread) (c .node .body) x b) entry-is bindings-are
               ∙ ap₂ (λ (t : M.Thread) (n : M.Node). both t (n .body) entry bound) (m .thread) (m .node)
-              ∙ ap₂ (λ (us : List M.Thread) (u : M.Thread). settle (c .at) us (c .net .threads) ++ (u ∷ [])) (sym (ap standing p)) (sym f);
+              ∙ ap₂ (λ (us : List M.Thread) (u : M.Thread). settle (c .at) us (c .net .threads) ++ (u ∷ [])) (sym (ap goesOn p)) (sym f);
         }
       where
         both : M.Thread → ℕ → M.Entry → M.Bindings → List M.Thread

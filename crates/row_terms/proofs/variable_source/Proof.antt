@@ -1,4 +1,4 @@
--- `row_terms::source_of` meets its contract: the tests are those of the definition, and a place below 4 fits a byte.
+-- `row_terms::variable_source` meets its contract: the tests are those of the definition, and a place below 4 fits a byte.
 use Prim.Native.Nat.{ℕ, _%_, _<_, _≤_}
 use mathlib.Core.Path.{_≡_, ap, _∙_}
 use mathlib.Core.List.{List}
@@ -14,8 +14,8 @@ use Rattle.rows.specs.declared.Source.the-variants.{Fixed, Column}
 use Rattle.rows.specs.View.{operandsOf}
 use Rattle.rows.specs.Plans.{formalPlace, sourceOf}
 use borrow.Author.Needs.{needs}
-use Rattle.row_terms.proofs.source_of.Statement.{statement}
-use Rattle.row_terms.proofs.source_of.Tie as tie
+use Rattle.row_terms.proofs.variable_source.Statement.{statement}
+use Rattle.row_terms.proofs.variable_source.Tie as tie
 
 module _ (e : Vars) (t : List Operand) (i : ℕ) where
   source-past : 16 ≤ i → Fixed Nothing ≡ sourceOf e t i
@@ -45,6 +45,6 @@ returns-3 c =
     source-free (varsOf (a .vars)) (operandsOf (a .template)) (a .i) (c .before .before .before .if1 .left) (c .before .before .formal-place .ensures) (c .before .if2 .left)
     (c .held-in .ensures)
 
-pub source-of-spec : {M : Type 1} → statement M
-source-of-spec =
+pub variable-source-spec : {M : Type 1} → statement M
+variable-source-spec =
     tie.close (tie.spec returns (λ c κs. search needs) (λ c. search needs) returns-2 (λ c κs. search needs) returns-3)

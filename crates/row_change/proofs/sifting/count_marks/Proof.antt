@@ -1,4 +1,4 @@
--- `row_change::sifting::number_of` meets its contract: the number so far and the marks that are left decide.
+-- `row_change::sifting::count_marks` meets its contract: the number so far and the marks that are left decide.
 use Prim.Native.Nat.{ℕ, _+_, _≤_, _<_, _-_}
 use mathlib.Core.Path.{_≡_, ap}
 use mathlib.Core.Bool.{Bool, true, false}
@@ -9,8 +9,8 @@ use lib.ListN.{length, drop, getD, drop-of-length-le}
 use lib.Seq.{drop-cons}
 use Rattle.values.specs.Lists.{bit, count}
 use borrow.Author.Needs.{needs}
-use Rattle.row_change.proofs.sifting.number_of.Statement.{statement}
-use Rattle.row_change.proofs.sifting.number_of.Tie as tie
+use Rattle.row_change.proofs.sifting.count_marks.Statement.{statement}
+use Rattle.row_change.proofs.sifting.count_marks.Tie as tie
 
 abbrev number : List Bool → ℕ
 number fs = count (λ (b : Bool). b) fs
@@ -47,8 +47,8 @@ returns c =
     let l = c .before in
     counted-all (l .before .args .t1) (l .loop .n) (l .loop .i) (search needs) (l .loop .inv .2)
 
-pub number-of-spec : {M : Type 1} → statement M
-number-of-spec =
+pub count-marks-spec : {M : Type 1} → statement M
+count-marks-spec =
     tie.close
     (tie.spec
     Inv-loop

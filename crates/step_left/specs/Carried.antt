@@ -1,4 +1,4 @@
--- What picks in turn come to.
+-- What picks come to, one after the other.
 use Prim.Native.Nat.{_≤_}
 use mathlib.Core.Path.{_≡_}
 use mathlib.Core.Bool.{Bool, not}
@@ -18,7 +18,7 @@ use Rattle.nets.specs.Answers.{Said, refusing, answerOf, saidOf}
 use Rattle.nets.specs.View.{view}
 use Rattle.value_totals.specs.declared.Total.{Total}
 use Rattle.value_totals.specs.Totals.{totalOf}
-use Rattle.step_left.specs.declared.Gone.{Gone}
+use Rattle.step_left.specs.declared.Carried.{Carried}
 use Rattle.step_left.specs.Leaving.{leftBy}
 
 -- no pick of the list is carried out
@@ -31,17 +31,17 @@ lastSaid s net [] = s
 lastSaid s net (p ∷ ps) = lastSaid (answerOf (step net p)) (nextNet net p) ps
 
 -- a net after some picks, the answer to the last of them, and the sums
-pub record Stood : Type 0 where
+pub record Reached : Type 0 where
   pub net : Net
   pub answer : Answer
   pub added : Total
   pub taken : Total
 
-abbrev pub stoodBy : Net → Gone → Stood
-stoodBy net g = record { net = leftBy net g; answer = g .answer; added = g .added; taken = g .taken }
+abbrev pub reachedBy : Net → Carried → Reached
+reachedBy net g = record { net = leftBy net g; answer = g .answer; added = g .added; taken = g .taken }
 
 -- after picks `ps` on a net
-pub record GoneIs (net : Net) (ps : List Pick) (r : Stood) : Type 0 where
+pub record CarriedIs (net : Net) (ps : List Pick) (r : Reached) : Type 0 where
   pub left : view (r .net) ≡ after (view net) ps
   pub sound : T (sound (view net)) → T (sound (view (r .net)))
   -- where every pick is refused it is the very struct that came in

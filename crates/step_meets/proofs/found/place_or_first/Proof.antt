@@ -1,11 +1,11 @@
--- `step_meets::found::slot_at` meets its contract. Assumes nothing.
+-- `step_meets::found::place_or_first` meets its contract. Assumes nothing.
 use Prim.Native.Nat.{ℕ, _<_, _≤_}
 use mathlib.Core.Path.{_≡_, ap, sym}
 use mathlib.Core.Bool.{Bool, cond}
 use borrow.Author.Tests.{lt-ltb, le-ltb}
 use lib.Dec.{ltb}
-use Rattle.step_meets.proofs.found.slot_at.Statement.{statement}
-use Rattle.step_meets.proofs.found.slot_at.Tie as tie
+use Rattle.step_meets.proofs.found.place_or_first.Statement.{statement}
+use Rattle.step_meets.proofs.found.place_or_first.Tie as tie
 
 below : (a b x y : ℕ) → a < b → x ≡ cond (ltb a b) x y
 below a b x y h = sym (ap (λ (c : Bool). cond c x y) (lt-ltb a b h))
@@ -19,5 +19,5 @@ returns c = below _ _ _ _ (c .if1 .taken)
 returns-2 : tie.Need-returns-2
 returns-2 c = past _ _ (c .before .args .at) _ (c .if1 .left)
 
-pub slot-at-spec : {M : Type 1} → statement M
-slot-at-spec = tie.close (tie.spec returns returns-2)
+pub place-or-first-spec : {M : Type 1} → statement M
+place-or-first-spec = tie.close (tie.spec returns returns-2)
