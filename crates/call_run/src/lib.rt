@@ -1,6 +1,7 @@
 // All picks carried out, for the calls: the net that they leave, or their answers as bytes. Picks come as bytes, two for each.
 use call_rules::Reply;
 use nets::Net;
+use step_bytes::answers::ANSWER;
 use step_bytes::answers::has_room;
 use step_left::left_by;
 use step_picks::carry_out;
@@ -12,9 +13,6 @@ ghost use Rattle.nets.specs.View.{view};
 ghost use Rattle.step_bytes.specs.PickBytes.{picksIn};
 ghost use Rattle.step_bytes.specs.AnswerBytes.{answersPut};
 ghost use Rattle.call_rules.specs.Calls.{ifRoom, Gives};
-
-// How many bytes an answer has.
-const ANSWER: usize = 24;
 
 // The net after all picks. No step makes a sound net unsound, so soundness is not tested.
 pub fn run_picks(start: Net, picks: &[u8]) -> Net

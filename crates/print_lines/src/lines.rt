@@ -8,12 +8,10 @@ use crate::pages::put_decimal;
 use nets::Answer;
 use nets::Table;
 use nets::refusals::number_of;
+use step_bytes::answers::ANSWER;
 ghost use mathlib.Core.Path.{_≡_};
 ghost use Prim.Native.Nat.{_*_, _<_, _≤_};
 ghost use lib.ListN.{length};
-
-// How many bytes an answer has.
-const ANSWER: usize = 24;
 
 // "done" with the rows added and taken, or "no" with the number of the refusal; number 0 is done.
 fn put_said(page: &mut [u8; 4096], at: usize, number: u64, added: u64, taken: u64) -> usize

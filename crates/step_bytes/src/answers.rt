@@ -10,6 +10,9 @@ ghost use Rattle.value_bytes.specs.Bytes.{eightBytes, putAt};
 ghost use Rattle.nets.specs.Answers.{saidOf};
 ghost use Rattle.step_bytes.specs.AnswerBytes.{threeBytes, answerBytes};
 
+// The bytes of an answer.
+pub const ANSWER: usize = 24;
+
 // ---- one answer
 
 // Eight bytes, little endian.
@@ -57,7 +60,7 @@ fn put_answer(out: &mut [u8], answer: Answer)
 pub fn has_room(length: usize, count: usize) -> bool
     ensures { λ r. ⌜ r ≡ leb (count * 24) length ⌝ }
 {
-    count <= length / 24
+    count <= length / ANSWER
 }
 
 // The answer to pick `i` at its place, if there is room for the answers to all picks.
@@ -66,6 +69,6 @@ pub fn put_answer_at(out: &mut [u8], room: bool, i: usize, answer: Answer)
     ensures { λ _. ⌜ now (out .exit) ≡ cond room (putAt (i * 24) (answerBytes (saidOf answer)) (now (out .entry))) (now (out .entry)) ⌝ }
 {
     if room {
-        put_answer(&mut out[i * 24..i * 24 + 24], answer);
+        put_answer(&mut out[i * ANSWER..i * ANSWER + ANSWER], answer);
     }
 }

@@ -12,6 +12,7 @@ use rows::Relation;
 use values::Got;
 use values::Operand;
 use values::Slot;
+use values::kinds::INT;
 ghost use Prim.Native.Nat.{ℕ};
 ghost use mathlib.Core.Path.{_≡_};
 ghost use mathlib.Core.Bool.{Bool, _&&_};
@@ -83,7 +84,7 @@ fn is_int_column(at: u8, r: Relation) -> bool
         return false;
     }
     let kinds = r.kinds;
-    kinds[i] == 1
+    kinds[i] == INT
 }
 
 // Functions 2..4 want a column that is there and Int.

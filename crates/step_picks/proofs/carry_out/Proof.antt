@@ -886,7 +886,7 @@ again :
     (record {
       net = n;
       answer = Done (toldBy (c .before) .before .answer .given .0 .0) (toldBy (c .before) .before .answer .given .0 .1 .0);
-      added = summed (c .before) .before .add_count .result;
+      added = summed (c .before) .before .add-count .result;
       taken = summed (c .before) .add-count2 .result;
     })
     (atOf (pickedOf (thereBy (c .before))) .loop .i + 1)
@@ -900,7 +900,7 @@ again c fork is hs k eight threads e =
     let step = done-is (netBy j) (pickBy j) (okay h) (there h) (read (shownBy j)) (change j (made j (q .content) (q .put) fork is)) (says-done t) (c .match3 .net .tables) (c .match3 .net .tablecount) hs k (s .tables) threads in
     told-as (sym e) (says-done t)
     (more (pickedOf h)
-    (pick-done (reachedAt l) (pickBy j) (decidesBy j .decide .result .answer) _ (summed j .before .add_count .result) (summed j .add-count2 .result) (says-done t) step (summed j .before .add_count .ensures) (summed j .add-count2 .ensures))
+    (pick-done (reachedAt l) (pickBy j) (decidesBy j .decide .result .answer) _ (summed j .before .add-count .result) (summed j .add-count2 .result) (says-done t) step (summed j .before .add-count .ensures) (summed j .add-count2 .ensures))
     (saidOfStep j .before .before .put-answer-at2 .ensures) (sized-with (l .loop .inv .sized) (s .eight) eight))
 
 threads-fit : (c : Tabled) → T (decidesBy (c .before) .decide .result .forks) → (netBy (c .before) .threadcount < 8) × (1 ≤ decidesBy (c .before) .decide .result .depth)
