@@ -48,7 +48,7 @@ fn try_line(line: &[u8]) {
     }
 }
 
-fn try_lines(input: &[u8]) {
+pub fn try_lines(input: &[u8]) {
     let mut from = 0;
     while from < input.len() {
         let end = line_end(input, from);
