@@ -20,11 +20,11 @@ pub struct Chained {
 
 // The sum over the answers of a number of chains from the start, soundness tested at each step.
 #[no_mangle]
-pub extern "C" fn bench_steps(tables: &[u8], program: &[u8], kind: u8, turns: u64) -> u64 {
+pub extern "C" fn bench_steps(tables: &[u8], program: &[u8], kind: u8, repeats: u64) -> u64 {
     let net = start(tables, program);
     let mut sum: u64 = 0;
     let mut i: u64 = 0;
-    while i < turns {
+    while i < repeats {
         let r = chain(Chained { net, sum }, kind);
         sum = r.sum;
         i += 1;

@@ -39,10 +39,10 @@ fn with_loaded(sum: u64, l: Loaded) -> u64 {
 
 // A file loaded a number of times.
 #[no_mangle]
-pub extern "C" fn bench_loads(file: &[u8], turns: u64) -> u64 {
+pub extern "C" fn bench_loads(file: &[u8], repeats: u64) -> u64 {
     let mut sum: u64 = 0;
     let mut i: u64 = 0;
-    while i < turns {
+    while i < repeats {
         sum = with_loaded(sum, load(file));
         i += 1;
     }
@@ -51,11 +51,11 @@ pub extern "C" fn bench_loads(file: &[u8], turns: u64) -> u64 {
 
 // The same sums over one load of it: what is no loading in the call above.
 #[no_mangle]
-pub extern "C" fn bench_loaded(file: &[u8], turns: u64) -> u64 {
+pub extern "C" fn bench_loaded(file: &[u8], repeats: u64) -> u64 {
     let l = load(file);
     let mut sum: u64 = 0;
     let mut i: u64 = 0;
-    while i < turns {
+    while i < repeats {
         sum = with_loaded(sum, l);
         i += 1;
     }

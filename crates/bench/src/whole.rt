@@ -49,14 +49,14 @@ fn picks_of(bytes: &[u8]) -> [Pick; 100000] {
 
 // A number of runs, each over all picks from the start: the sum over their counts and the net that the last one left.
 #[no_mangle]
-pub extern "C" fn bench_runs(tables: &[u8], program: &[u8], bytes: &[u8], turns: u64) -> u64 {
+pub extern "C" fn bench_runs(tables: &[u8], program: &[u8], bytes: &[u8], repeats: u64) -> u64 {
     let net = start(tables, program);
     let picks = picks_of(bytes);
     let count = count_of(bytes);
     let mut left = net;
     let mut sum: u64 = 0;
     let mut i: u64 = 0;
-    while i < turns {
+    while i < repeats {
         let r = lend(net, picks, count);
         let added = r.added;
         let taken = r.taken;
@@ -69,12 +69,12 @@ pub extern "C" fn bench_runs(tables: &[u8], program: &[u8], bytes: &[u8], turns:
 
 // The same with the picks as bytes; there may be any number of them.
 #[no_mangle]
-pub extern "C" fn bench_bytes(tables: &[u8], program: &[u8], bytes: &[u8], turns: u64) -> u64 {
+pub extern "C" fn bench_bytes(tables: &[u8], program: &[u8], bytes: &[u8], repeats: u64) -> u64 {
     let net = start(tables, program);
     let mut left = net;
     let mut sum: u64 = 0;
     let mut i: u64 = 0;
-    while i < turns {
+    while i < repeats {
         let r = run_bytes(net, bytes);
         let added = r.added;
         let taken = r.taken;
@@ -87,11 +87,11 @@ pub extern "C" fn bench_bytes(tables: &[u8], program: &[u8], bytes: &[u8], turns
 
 // A number of tests of soundness, of which a run has one.
 #[no_mangle]
-pub extern "C" fn bench_tests(tables: &[u8], program: &[u8], turns: u64) -> u64 {
+pub extern "C" fn bench_tests(tables: &[u8], program: &[u8], repeats: u64) -> u64 {
     let net = start(tables, program);
     let mut sum: u64 = 0;
     let mut i: u64 = 0;
-    while i < turns {
+    while i < repeats {
         sum = with(sum, sound_net(net) as u64);
         i += 1;
     }

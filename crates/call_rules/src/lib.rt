@@ -3,7 +3,7 @@ use nets::Net;
 ghost use mathlib.Core.Path.{_≡_};
 ghost use Rattle.call_rules.specs.Openings.{refusalReply};
 
-// A number, and the place that goes with it.
+// Number 0 and the bytes put, or a refusal's number and its record place.
 pub struct Reply {
     pub number: u8,
     pub place: usize,

@@ -10,7 +10,7 @@ use Rattle.values.proofs.Bools.{and-l, and-r}
 use Rattle.values.proofs.ListLaws.{all-map}
 use Rattle.nets.specs.Steps.{Check}
 use Rattle.record_bytes.specs.Bytes.{parts}
-use Rattle.record_bytes.specs.Decoding.{Record, Decoded, good, bad, judged, recordIn, wholeRecords, recordsIn}
+use Rattle.record_bytes.specs.Decoding.{Record, Decoded, good, bad, inForm, recordIn, wholeRecords, recordsIn}
 use Rattle.files.specs.Loading.{Progress, nothingRead, loadChecks, advance, failed, failing, Reading, stopped, finished, proceed, readAll, firstBadLink, LoadAnswer, rejected, accepted, linked, finish, load, loadBytes}
 
 abbrev pub isNumber : ℕ → Bool
@@ -28,7 +28,7 @@ abbrev readingNumbered : Reading → Bool
 readingNumbered (stopped n i) = isNumber n
 readingNumbered (finished l) = true
 
-kind-numbered : (b c : Bool) (x : Record) (rest : Decoded) → T (decodedNumbered rest) → T (decodedNumbered (cond b (judged c x) rest))
+kind-numbered : (b c : Bool) (x : Record) (rest : Decoded) → T (decodedNumbered rest) → T (decodedNumbered (cond b (inForm c x) rest))
 kind-numbered true true x rest h = tt
 kind-numbered true false x rest h = tt
 kind-numbered false c x rest h = h

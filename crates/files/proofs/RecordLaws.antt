@@ -13,7 +13,7 @@ use Rattle.values.proofs.RangeLaws.{values-ok}
 use Rattle.nets.specs.Sound.{variableOk, aliasOk, columnsOk, operandsOk, fieldsOkAs}
 use Rattle.nets.proofs.BindingLaws.{constants-ok}
 use Rattle.record_bytes.specs.Bytes.{part, parts, operandsIn, columnsIn}
-use Rattle.record_bytes.specs.Decoding.{Record, aliasRecord, tableRecord, rowRecord, nodeRecord, startRecord, pickRecord, Decoded, good, bad, siteAt, nameIn, aliasIn, rowIn, nodeIn, aliasForm, tableForm, rowForm, nodeBytes, nodeForm, startForm, judged, recordIn, wholeRecords, recordsIn}
+use Rattle.record_bytes.specs.Decoding.{Record, aliasRecord, tableRecord, rowRecord, nodeRecord, startRecord, pickRecord, Decoded, good, bad, siteAt, nameIn, aliasIn, rowIn, nodeIn, aliasForm, tableForm, rowForm, nodeBytes, nodeForm, startForm, inForm, recordIn, wholeRecords, recordsIn}
 
 abbrev pub recordOk : Record → Bool
 recordOk (aliasRecord a) = aliasOk a
@@ -29,7 +29,7 @@ decodedOk (good r) = recordOk r
 decodedOk (bad n) = true
 
 -- a kind's records are fine where what passes check 4 is, and so are those of the kinds after it
-kind-ok : (b c : Bool) (x : Record) (rest : Decoded) → (T c → T (recordOk x)) → T (decodedOk rest) → T (decodedOk (cond b (judged c x) rest))
+kind-ok : (b c : Bool) (x : Record) (rest : Decoded) → (T c → T (recordOk x)) → T (decodedOk rest) → T (decodedOk (cond b (inForm c x) rest))
 kind-ok true true x rest h k = h tt
 kind-ok true false x rest h k = tt
 kind-ok false c x rest h k = k

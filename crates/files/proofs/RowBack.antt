@@ -20,7 +20,7 @@ use Rattle.values.proofs.ListLaws.{all-append, all-map, all-map-of}
 use Rattle.rows.specs.Relations.{Row}
 use Rattle.nets.specs.Sound.{isAbsent, tagged, operandsOk}
 use Rattle.record_bytes.specs.Bytes.{part, parts, zeros, thenOnly, leading, operandForm, operandIn, operandsForm, operandsIn}
-use Rattle.record_bytes.specs.Decoding.{rowRecord, good, siteAt, nameIn, rowIn, rowForm, judged, recordIn}
+use Rattle.record_bytes.specs.Decoding.{rowRecord, good, siteAt, nameIn, rowIn, rowForm, inForm, recordIn}
 use Rattle.record_bytes.specs.Encoding.{operandBytes, tupleBytes, rowBytes}
 use Rattle.value_bytes.specs.Bytes.{endToEnd}
 use Rattle.files.proofs.EndToEnd.{sized, ends-length, ends-parts, leading-some, then-some, leading-none, then-none}
@@ -154,12 +154,12 @@ module _ (s : Site) (n : ℕ) (r : Row) (site-ok : T (siteOk s)) (name-ok : T (i
       let e : T (zeros (part 88 104 bytes)) = subst (λ l. T (zeros l)) (sym cut-rest) tt in
       search (and-in, unused .0, unused .1) depth 9
 
-  kind-3 : recordIn bytes ≡ judged (rowForm bytes) (rowRecord (siteAt 1 bytes) (nameIn bytes) (rowIn (part 56 88 bytes)))
+  kind-3 : recordIn bytes ≡ inForm (rowForm bytes) (rowRecord (siteAt 1 bytes) (nameIn bytes) (rowIn (part 56 88 bytes)))
   unfolding recordIn rowBytes
   kind-3 = refl
 
   pub row-back : recordIn bytes ≡ good (rowRecord s n r)
   row-back =
-      kind-3 ∙ ap (λ b. judged b (rowRecord (siteAt 1 bytes) (nameIn bytes) (rowIn (part 56 88 bytes)))) (is-true (rowForm bytes) row-form)
+      kind-3 ∙ ap (λ b. inForm b (rowRecord (siteAt 1 bytes) (nameIn bytes) (rowIn (part 56 88 bytes)))) (is-true (rowForm bytes) row-form)
       ∙ ap₂ (λ m os. good (rowRecord (siteAt 1 bytes) m (valuesIn (map (eval []) os)))) name-back cut-back
       ∙ ap₂ (λ t vs. good (rowRecord t n vs)) site-back (values-given r)

@@ -15,7 +15,7 @@ use Rattle.rows.specs.Relations.{Columns}
 use Rattle.nets.specs.Nets.{Table}
 use Rattle.nets.specs.Sound.{columnsOk, tableOk}
 use Rattle.record_bytes.specs.Bytes.{part, isZero, zeros, columnsForm, columnsIn}
-use Rattle.record_bytes.specs.Decoding.{tableRecord, good, siteAt, nameIn, tableForm, judged, recordIn}
+use Rattle.record_bytes.specs.Decoding.{tableRecord, good, siteAt, nameIn, tableForm, inForm, recordIn}
 use Rattle.record_bytes.specs.Encoding.{columnBytes, tableBytes}
 use Rattle.files.proofs.EndToEnd.{leading-some, then-some, leading-none, then-none}
 use Rattle.files.proofs.ValueBack.{text-back}
@@ -95,11 +95,11 @@ module _ (t : Table) (h : T (tableOk t)) where
       let d : T (columnsOk (columnsIn (part 8 12 (tableBytes t)))) = subst (λ cs. T (columnsOk cs)) (sym cut-back) columns-ok in
       search (and-in, unused .0, unused .1) depth 8
 
-  kind-2 : recordIn (tableBytes t) ≡ judged (tableForm (tableBytes t)) (tableRecord (siteAt 1 (tableBytes t)) (nameIn (tableBytes t)) (columnsIn (part 8 12 (tableBytes t))))
+  kind-2 : recordIn (tableBytes t) ≡ inForm (tableForm (tableBytes t)) (tableRecord (siteAt 1 (tableBytes t)) (nameIn (tableBytes t)) (columnsIn (part 8 12 (tableBytes t))))
   unfolding recordIn tableBytes
   kind-2 = refl
 
   pub table-back : recordIn (tableBytes t) ≡ good (tableRecord (t .site) (t .name) (t .content .columns))
   table-back =
-      kind-2 ∙ ap (λ b. judged b (tableRecord (siteAt 1 (tableBytes t)) (nameIn (tableBytes t)) (columnsIn (part 8 12 (tableBytes t))))) (is-true (tableForm (tableBytes t)) table-form)
+      kind-2 ∙ ap (λ b. inForm b (tableRecord (siteAt 1 (tableBytes t)) (nameIn (tableBytes t)) (columnsIn (part 8 12 (tableBytes t))))) (is-true (tableForm (tableBytes t)) table-form)
       ∙ rw (site-back, name-back, cut-back)

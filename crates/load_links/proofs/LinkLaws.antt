@@ -14,8 +14,8 @@ use Rattle.nets.specs.Sound.{linksOkAs}
 use Rattle.nets.specs.View.{kindAt}
 use Rattle.net_parts.specs.SoundParts.{linksAt}
 use Rattle.record_bytes.specs.Bytes.{at}
-use Rattle.record_bytes.specs.Decoding.{Record, aliasRecord, tableRecord, rowRecord, nodeRecord, startRecord, pickRecord, Decoded, good, bad, siteAt, nodeIn, nodeForm, startForm, judged, recordIn, wholeRecords, recordsIn}
-use Rattle.record_bytes.specs.Judging.{groupAt}
+use Rattle.record_bytes.specs.Decoding.{Record, aliasRecord, tableRecord, rowRecord, nodeRecord, startRecord, pickRecord, Decoded, good, bad, siteAt, nodeIn, nodeForm, startForm, inForm, recordIn, wholeRecords, recordsIn}
+use Rattle.record_bytes.specs.RecordKinds.{groupAt}
 use Rattle.files.specs.Loading.{groupOf, linkOk, numberAfter, badLink, firstBadLink}
 use Rattle.load_walk.specs.Walking.{recordAt, isGood, placeOr, LinkIs}
 use Rattle.load_walk.proofs.LeftLaws.{not-good, of-group, good-group}
@@ -27,7 +27,7 @@ abbrev linkIn : ℕ → ℕ → Decoded → Bool
 linkIn n j (good x) = linkOk n j x
 linkIn n j (bad m) = true
 
-judged-link : (n j : ℕ) (form : Bool) (y x : Record) → judged form y ≡ good x → linkOk n j x ≡ linkOk n j y
+judged-link : (n j : ℕ) (form : Bool) (y x : Record) → inForm form y ≡ good x → linkOk n j x ≡ linkOk n j y
 judged-link n j true y x e = sym (ap (linkIn n j) e)
 judged-link n j false y x e = absurd (not-good x 4 e)
 

@@ -9,8 +9,8 @@ use lib.Dec.{T, leb, leb→le}
 use borrow.Author.Tests.{leb-true, leb-false, eq-eqb, lt-ltb, lt-leb}
 use Rattle.values.proofs.Bools.{and-l}
 use Rattle.record_bytes.specs.Bytes.{at, part, columnsIn}
-use Rattle.record_bytes.specs.Decoding.{Record, aliasRecord, tableRecord, rowRecord, nodeRecord, startRecord, pickRecord, Decoded, good, bad, siteAt, nameIn, aliasIn, rowIn, pickIn, nodeIn, aliasForm, tableForm, rowForm, nodeForm, startForm, pickForm, judged, recordIn, wholeRecords, recordsIn}
-use Rattle.record_bytes.specs.Judging.{groupAt}
+use Rattle.record_bytes.specs.Decoding.{Record, aliasRecord, tableRecord, rowRecord, nodeRecord, startRecord, pickRecord, Decoded, good, bad, siteAt, nameIn, aliasIn, rowIn, pickIn, nodeIn, aliasForm, tableForm, rowForm, nodeForm, startForm, pickForm, inForm, recordIn, wholeRecords, recordsIn}
+use Rattle.record_bytes.specs.RecordKinds.{groupAt}
 use Rattle.record_bytes.proofs.GroupLaws.{byGroup, by-group}
 use Rattle.load_walk.specs.declared.Reach.{Reach}
 use Rattle.files.specs.Loading.{Progress, groupOf, stopped, readAll}
@@ -21,7 +21,7 @@ use Rattle.load_walk.proofs.WalkLaws.{withGroup, records-length, rest-b
 -- ── by the group ──
 
 module _ (bs : List ℕ) (g : ℕ) (e : g ≡ groupAt (at bs 0)) where
-  pub of-group : (k : ℕ) (form : Bool) (x : Record) → g ≡ k → byGroup k bs ≡ judged form x → recordIn bs ≡ judged form x
+  pub of-group : (k : ℕ) (form : Bool) (x : Record) → g ≡ k → byGroup k bs ≡ inForm form x → recordIn bs ≡ inForm form x
   of-group k form x h q = by-group bs ∙ ap (λ (j : ℕ). byGroup j bs) (sym e ∙ h) ∙ q
 
   pub no-group : (g ≡ 1 → ⊥) → (g ≡ 2 → ⊥) → (g ≡ 3 → ⊥) → (g ≡ 4 → ⊥) → (g ≡ 5 → ⊥) → (g ≡ 6 → ⊥) → 3 ≡ decodedFault (recordIn bs)
@@ -38,11 +38,11 @@ module _ (bs : List ℕ) (g : ℕ) (e : g ≡ groupAt (at bs 0)) where
       go (suc (suc (suc (suc (suc (suc (suc j))))))) a b c d u v = refl
 
 -- a record of the group `k` fails check 4 by the form of its group
-pub form-fault : (k : ℕ) (form : List ℕ → Bool) (said : List ℕ → Record) → ((bs : List ℕ) → byGroup k bs ≡ judged (form bs) (said bs)) →
+pub form-fault : (k : ℕ) (form : List ℕ → Bool) (said : List ℕ → Record) → ((bs : List ℕ) → byGroup k bs ≡ inForm (form bs) (said bs)) →
     (bs : List ℕ) (g : ℕ) (b : Bool) (f : ℕ) → g ≡ groupAt (at bs 0) → g ≡ k → b ≡ form bs → f ≡ cond b 0 4 → f ≡ decodedFault (recordIn bs)
 form-fault k form said same bs g b f e h p z = z ∙ go b (form bs) p ∙ ap decodedFault (sym (of-group bs g e k (form bs) (said bs) h (same bs)))
   where
-    go : (b c : Bool) → b ≡ c → cond b 0 4 ≡ decodedFault (judged c (said bs))
+    go : (b c : Bool) → b ≡ c → cond b 0 4 ≡ decodedFault (inForm c (said bs))
     go b true p = rw p
     go b false p = rw p
 
@@ -53,7 +53,7 @@ groupIn (bad n) = 0
 pub not-good : (x : Record) (n : ℕ) → bad n ≡ good x → ⊥
 not-good x n e = let z : false ≡ true = ap isGood e in let y : _≡_ {A = ℕ} 0 1 = cc in omega arith
 
-judged-group : (form : Bool) (y x : Record) → judged form y ≡ good x → groupOf x ≡ groupOf y
+judged-group : (form : Bool) (y x : Record) → inForm form y ≡ good x → groupOf x ≡ groupOf y
 judged-group true y x e = sym (ap groupIn e)
 judged-group false y x e = absurd (not-good x 4 e)
 

@@ -15,14 +15,14 @@ use Rattle.values.proofs.Bools.{and-l, and-r, T-of}
 use Rattle.values.proofs.Firsts.{length-firsts, firsts-push}
 use Rattle.nets.specs.Steps.{Check, check}
 use Rattle.record_bytes.specs.Bytes.{at, parts}
-use Rattle.record_bytes.specs.Decoding.{Record, Decoded, good, bad, judged, recordIn, wholeRecords, recordsIn}
-use Rattle.record_bytes.specs.Judging.{groupAt}
+use Rattle.record_bytes.specs.Decoding.{Record, Decoded, good, bad, inForm, recordIn, wholeRecords, recordsIn}
+use Rattle.record_bytes.specs.RecordKinds.{groupAt}
 use Rattle.record_bytes.proofs.ByteLaws.{not-this}
 use Rattle.value_bytes.proofs.Stores.{part-size}
 use Rattle.record_bytes.proofs.GroupLaws.{byGroup, by-group}
 use Rattle.load_walk.specs.declared.Reach.{Reach}
 use Rattle.files.specs.Loading.{Progress, groupOf, loadChecks, advance, failed, failing, stopped, proceed, readAll}
-use Rattle.load_walk.specs.Walking.{recordAt, rest, byFault, Leads, groupNext, Going, orZero, numberOf, formThen}
+use Rattle.load_walk.specs.Walking.{recordAt, rest, byFault, Leads, groupNext, Going, orZero, firstFailing, formThen}
 
 -- ── the record at a place ──
 
@@ -53,11 +53,11 @@ records-length file = parts-length recordIn (wholeRecords file) file
 abbrev pub Positive : List Check → Type 0
 Positive ks = T (all (λ k. ltb 0 (k .number)) ks)
 
-none-fails : (ks : List Check) → Positive ks → numberOf ks ≡ 0 → failing ks ≡ none
+none-fails : (ks : List Check) → Positive ks → firstFailing ks ≡ 0 → failing ks ≡ none
 none-fails [] h e = refl
 none-fails (k ∷ ks) h e = go (k .passes) e (none-fails ks (and-r (ltb 0 (k .number)) (all (λ j. ltb 0 (j .number)) ks) h))
   where
-    go : (b : Bool) → orZero (failed b (k .number) (failing ks)) ≡ 0 → (numberOf ks ≡ 0 → failing ks ≡ none) → failed b (k .number) (failing ks) ≡ none
+    go : (b : Bool) → orZero (failed b (k .number) (failing ks)) ≡ 0 → (firstFailing ks ≡ 0 → failing ks ≡ none) → failed b (k .number) (failing ks) ≡ none
     go true e ih = ih e
     go false e ih = absurd (omega (arith, ltb→lt 0 (k .number) (and-l (ltb 0 (k .number)) (all (λ j. ltb 0 (j .number)) ks) h)))
 
@@ -79,13 +79,13 @@ module _ (file : List ℕ) (i : ℕ) (h : i < wholeRecords file) (l : Progress) 
   unfolding loadChecks
   rest-early x e k = rest-good x e ∙ rw k
 
-  pub rest-on : (form : Bool) (x : Record) (ks : List Check) → recordIn (recordAt file i) ≡ judged form x → failing (loadChecks l x) ≡ failing ks → Positive ks →
+  pub rest-on : (form : Bool) (x : Record) (ks : List Check) → recordIn (recordAt file i) ≡ inForm form x → failing (loadChecks l x) ≡ failing ks → Positive ks →
       0 ≡ formThen form ks → rest file i l ≡ rest file (i + 1) (advance l x)
   unfolding formThen
   rest-on true x ks e k p z = rest-good x e ∙ ap (λ (o : Option ℕ). proceed o i (rest file (i + 1) (advance l x))) (k ∙ none-fails ks p (sym z))
   rest-on false x ks e k p z = absurd (omega arith)
 
-  pub rest-off : (form : Bool) (x : Record) (ks : List Check) (f : ℕ) → recordIn (recordAt file i) ≡ judged form x → failing (loadChecks l x) ≡ failing ks →
+  pub rest-off : (form : Bool) (x : Record) (ks : List Check) (f : ℕ) → recordIn (recordAt file i) ≡ inForm form x → failing (loadChecks l x) ≡ failing ks →
       f ≡ formThen form ks → (f ≡ 0 → ⊥) → rest file i l ≡ stopped f i
   unfolding formThen
   rest-off true x ks f e k z n = rest-good x e ∙ ap (λ (o : Option ℕ). proceed o i (rest file (i + 1) (advance l x))) k ∙ go (failing ks) z
@@ -112,7 +112,7 @@ leads-trans file a b c p q r h k = record { leads = λ l. h .leads l ∙ k .lead
 pub leads-refl : (file : List ℕ) (a : Reach) (p : Progress → Progress) → Leads file a a p p
 leads-refl file a p = record { leads = λ l. refl }
 
--- ── a turn of the walk: the next record is of the group `k` ──
+-- ── one record of the walk: the next record is of the group `k` ──
 
 module _ (k : ℕ) (pos : 1 ≤ k) (file : List ℕ) (r : Reach) (n : ℕ) (e : n ≡ groupNext file r) (e′ : n ≡ k) where
   next-is : (r .fault ≡ 0) × (r .place * 104 < length file) × (groupAt (at (recordAt file (r .place)) 0) ≡ k)
@@ -139,19 +139,19 @@ module _ (k : ℕ) (pos : 1 ≤ k) (file : List ℕ) (r : Reach) (n : ℕ) (e : 
     pub next-less : wholeRecords file - (r .place + 1) < wholeRecords file - r .place
     next-less = omega (arith, next-in)
 
-    pub gone-on : Going file k (past r k)
-    gone-on = record { whole = g .whole; place = omega (arith, next-in); group = omega arith; passed = λ a b. b }
+    pub went-on : Going file k (past r k)
+    went-on = record { whole = g .whole; place = omega (arith, next-in); group = omega arith; passed = λ a b. b }
 
-    pub gone-off : (f : ℕ) → (f ≡ 0 → ⊥) → Going file (suc k) (stop r k f)
+    pub went-off : (f : ℕ) → (f ≡ 0 → ⊥) → Going file (suc k) (stop r k f)
     unfolding groupNext
-    gone-off f n =
+    went-off f n =
         record { whole = g .whole; place = g .place; group = omega arith; passed = λ a b. absurd (omega (arith, a, none-next f n)) }
       where
         none-next : (j : ℕ) → (j ≡ 0 → ⊥) → groupNext file (stop r k j) ≡ 0
         none-next j n = rw (ne-eqb j 0 n)
 
     -- it leads on, or stops
-    module _ (p : Progress → Progress) (form : Bool) (x : Record) (ks : List Check) (same : byGroup k (recordAt file (r .place)) ≡ judged form x)
+    module _ (p : Progress → Progress) (form : Bool) (x : Record) (ks : List Check) (same : byGroup k (recordAt file (r .place)) ≡ inForm form x)
         (checks : (l : Progress) → failing (loadChecks (withGroup (r .group) (p l)) x) ≡ failing ks) where
       pub leads-on : (q : Progress → Progress) → Positive ks → 0 ≡ formThen form ks → ((l : Progress) → advance (withGroup (r .group) (p l)) x ≡ withGroup k (q l)) →
           Leads file r (past r k) p q
@@ -177,8 +177,8 @@ module _ (k : ℕ) (pos : 1 ≤ k) (file : List ℕ) (r : Reach) (n : ℕ) (e : 
           stopped-as (suc j) l n = refl
 
 -- the next record is of another group
-pub gone-by : (k : ℕ) (file : List ℕ) (r : Reach) (n : ℕ) → n ≡ groupNext file r → (n ≡ k → ⊥) → Going file k r → Going file (suc k) r
-gone-by k file r n e h g =
+pub went-by : (k : ℕ) (file : List ℕ) (r : Reach) (n : ℕ) → n ≡ groupNext file r → (n ≡ k → ⊥) → Going file k r → Going file (suc k) r
+went-by k file r n e h g =
     record { whole = g .whole; place = g .place; group = omega (arith, g .group); passed = λ a b. not-this k (groupNext file r) (g .passed a b) (λ z. h (e ∙ z)) }
 
 -- ── a list to which the records of one group add ──
@@ -198,7 +198,7 @@ pub record Group (A B : Type 0) : Type 0 where
   pub room : ℕ → Bool
   pub said : List ℕ → Record
   pub element : List ℕ → B
-  pub same : (bs : List ℕ) → byGroup number bs ≡ judged (form bs) (said bs)
+  pub same : (bs : List ℕ) → byGroup number bs ≡ inForm (form bs) (said bs)
   pub checks : (g c : ℕ) (xs : List B) (bs : List ℕ) (l : Progress) → g ≤ number → length xs ≡ c → failing (loadChecks (withGroup g (put xs l)) (said bs)) ≡ failing (listChecks (new xs bs) (room c))
   pub added : (g : ℕ) (xs : List B) (bs : List ℕ) (l : Progress) → advance (withGroup g (put xs l)) (said bs) ≡ withGroup number (put (xs ++ (element bs ∷ [])) l)
 

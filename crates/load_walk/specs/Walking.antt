@@ -1,4 +1,4 @@
--- How `load` walks a file: group after group, each on from where the last one ended.
+-- How `load` walks a file: group after group, each on from where the last one ended. Only the code speaks of it: the rule is `readAll`.
 use Prim.Native.Nat.{ℕ, zero, suc, _+_, _*_, _≤_, _<_}
 use mathlib.Core.Path.{_≡_}
 use mathlib.Core.Bool.{Bool, true, false, cond, _&&_}
@@ -15,7 +15,7 @@ use Rattle.nets.specs.View.{noTable}
 use Rattle.nets.specs.Steps.{Check}
 use Rattle.record_bytes.specs.Bytes.{at, part}
 use Rattle.record_bytes.specs.Decoding.{Record, Decoded, good, bad, recordIn, wholeRecords, recordsIn}
-use Rattle.record_bytes.specs.Judging.{groupAt}
+use Rattle.record_bytes.specs.RecordKinds.{groupAt}
 use Rattle.load_walk.specs.declared.Reach.{Reach}
 use Rattle.files.specs.Loading.{Progress, failing, Reading, stopped, finished, readAll, linkOk}
 
@@ -61,7 +61,7 @@ byFault (suc f) file i l = stopped (suc f) i
 abbrev pub outcome : List ℕ → Reach → Progress → Reading
 outcome file r l = byFault (r .fault) file (r .place) (record { net = l .net; picks = l .picks; group = r .group })
 
--- whatever else was read, the records between two reaches lead from `p` to `q`
+-- reading on from `from` with `p l` comes to the same as reading on from `to` with `q l`, for every `l`
 pub record Leads (file : List ℕ) (from to : Reach) (p q : Progress → Progress) : Type 0 where
   pub leads : (l : Progress) → outcome file from (p l) ≡ outcome file to (q l)
 
@@ -83,12 +83,12 @@ orZero none = 0
 orZero (some n) = n
 
 -- the number of the first check that fails; 0 for none
-abbrev pub numberOf : List Check → ℕ
-numberOf ks = orZero (failing ks)
+abbrev pub firstFailing : List Check → ℕ
+firstFailing ks = orZero (failing ks)
 
 -- check 4, then those that follow it
 unfoldable pub formThen : Bool → List Check → ℕ
-formThen true ks = numberOf ks
+formThen true ks = firstFailing ks
 formThen false ks = 4
 
 -- 3 or 4 for a record that by itself is refused, else 0

@@ -1,4 +1,4 @@
-// A record of a file by its place, the group of the next one, and the fault of one whose group has a list of its own.
+// The record at a place, the group of the next record, and checks 4, 6 and 8 in one; rows have check 7 in place of 6, and a function of their own.
 use crate::Reach;
 use record_bytes::RECORD;
 use record_forms::group_of;

@@ -19,7 +19,7 @@ use Rattle.values.proofs.PairLaws.{tails}
 use Rattle.nets.specs.declared.Alias.{Alias}
 use Rattle.nets.specs.Sound.{aliasOk, sameAlias, aliasesDiffer, tagged}
 use Rattle.nets.specs.View.{noAlias, aliasesOf}
-use Rattle.net_parts.specs.SoundParts.{aliasPlace, formalPlace}
+use Rattle.net_parts.specs.SoundParts.{aliasPlace, formalVariable}
 use Rattle.net_parts.proofs.DistinctLaws.{aliasTest, aliases-are, operandTest}
 
 -- ── flags ──
@@ -141,7 +141,7 @@ pub record Held (seen : List Bool) (l : List Operand) : Type 0 where
 pub none-held : Held (replicate 17 false) []
 none-held = record { marks = marks-none 17; spare = refl; right = refl }
 
-pub formal-low : (o : Operand) → tagged 6 o ≡ true → formalPlace o < 17
+pub formal-low : (o : Operand) → tagged 6 o ≡ true → formalVariable o < 17
 formal-low Absent h = omega arith
 formal-low (ConstInt i) h = omega arith
 formal-low (ConstText t) h = omega arith
@@ -169,7 +169,7 @@ module _ {seen : List Bool} {l : List Operand} (p : Held seen l) where
         right = rw (h, sym (p .marks .each i (omega arith)) ∙ q) (p .right);
       }
 
-  pub one-held : (o : Operand) → tagged 6 o ≡ true → getD seen (formalPlace o) false ≡ false → Held (set seen (formalPlace o) (ltb (formalPlace o) 16)) (o ∷ l)
+  pub one-held : (o : Operand) → tagged 6 o ≡ true → getD seen (formalVariable o) false ≡ false → Held (set seen (formalVariable o) (ltb (formalVariable o) 16)) (o ∷ l)
   one-held Absent h q = absurd (true≢false (sym h))
   one-held (ConstInt i) h q = other-held (ConstInt i) (rw h) refl
   one-held (ConstText t) h q = other-held (ConstText t) (rw h) refl
@@ -178,7 +178,7 @@ module _ {seen : List Bool} {l : List Operand} (p : Held seen l) where
   one-held (Plus i k) h q = other-held (Plus i k) (rw h) refl
   one-held (Formal i) h q = subst (λ (t : Bool). Held (set seen i t) (Formal i ∷ l)) (sym h) (formal-held i h q)
 
-  pub held-twice : (o : Operand) → tagged 6 o ≡ true → getD seen (formalPlace o) false ≡ true → tails operandTest (o ∷ l) ≡ false
+  pub held-twice : (o : Operand) → tagged 6 o ≡ true → getD seen (formalVariable o) false ≡ true → tails operandTest (o ∷ l) ≡ false
   held-twice Absent h q = absurd (true≢false (sym h))
   held-twice (ConstInt i) h q = absurd (true≢false (sym q ∙ p .spare))
   held-twice (ConstText t) h q = absurd (true≢false (sym q ∙ p .spare))

@@ -39,13 +39,13 @@ labelsIn n l = firsts (λ (a : Label). a) noLabel n l
 
 -- ── templates ──
 
-abbrev pub placeIn : Option ℕ → ℕ
-placeIn none = 16
-placeIn (some i) = i
+abbrev pub variableIn : Option ℕ → ℕ
+variableIn none = 16
+variableIn (some i) = i
 
 -- the variable of a formal; 16, which is none, of any other operand
-abbrev pub formalPlace : Operand → ℕ
-formalPlace a = placeIn (formalOf a)
+abbrev pub formalVariable : Operand → ℕ
+formalVariable a = variableIn (formalOf a)
 
 -- ── links ──
 

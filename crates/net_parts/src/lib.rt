@@ -1,4 +1,4 @@
-// Parts of a net in their ranges: texts, values, relations, operands; aliases and tables, no two alike.
+// The soundness of the parts of a net: values, relations, operands and nodes in their ranges; aliases and tables, no two alike.
 use values::Site;
 
 pub mod lists;

@@ -108,7 +108,7 @@ fn plain_ok(d: Node) -> bool
     let selector = d.selector;
     let template = selector.template;
     let kinds = d.kinds;
-    let place = d.locality;
+    let locality = d.locality;
     let result = d.result;
     let tuple = d.tuple;
     let function = d.function;
@@ -118,7 +118,7 @@ fn plain_ok(d: Node) -> bool
         & ok_if_used(reads_relation(kind), d.read < 2, d.read == 0)
         & function_ok(false, function, d.column)
         & columns_used(is_create(kind), d.columns, kinds)
-        & locality_operand_ok(place)
+        & locality_operand_ok(locality)
         & (template.count == 0)
         & no_test(selector)
         & tuple_used(has_tuple(kind), tuple)
@@ -133,19 +133,19 @@ fn choosing_ok(d: Node) -> bool
     let kind = d.kind;
     let selector = d.selector;
     let template = selector.template;
-    let place = d.locality;
+    let locality = d.locality;
     let result = d.result;
     let tuple = d.tuple;
     let function = d.function;
     let aggregate = is_aggregate(kind);
-    let placed = has_locality(kind);
+    let located = has_locality(kind);
     (d.body == 0)
-        & name_used(placed, d.name)
+        & name_used(located, d.name)
         & ok_if_used(binds_relation(kind), d.bound < 2, d.bound == 0)
         & ok_if_used(reads_relation(kind), d.read < 2, d.read == 0)
         & function_ok(aggregate, function, d.column)
         & (d.columns == 0)
-        & locality_used(placed, place)
+        & locality_used(located, locality)
         & template_ok(template)
         & test_ok(selector)
         & tuple_ok(kind, tuple)
@@ -159,7 +159,7 @@ fn visiting_ok(d: Node) -> bool
 {
     let selector = d.selector;
     let template = selector.template;
-    let place = d.locality;
+    let locality = d.locality;
     let result = d.result;
     let tuple = d.tuple;
     let function = d.function;
@@ -168,7 +168,7 @@ fn visiting_ok(d: Node) -> bool
         & (d.read < 2)
         & function_ok(false, function, d.column)
         & (d.columns == 0)
-        & is_absent(place)
+        & is_absent(locality)
         & template_ok(template)
         & no_test(selector)
         & (tuple.count == 0)

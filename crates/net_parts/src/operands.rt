@@ -11,7 +11,7 @@ ghost use mathlib.Core.Bool.{_&&_};
 ghost use Rattle.rows.specs.declared.Test.the-variants.{Always};
 ghost use Rattle.rows.specs.View.{operandsOf};
 ghost use Rattle.nets.specs.Sound.{tagged, isAbsent, localityOperandOk, operandsOk, templateOk, testOk, isAlways, functionOk};
-ghost use Rattle.net_parts.specs.SoundParts.{formalPlace};
+ghost use Rattle.net_parts.specs.SoundParts.{formalVariable};
 
 // ---- operands
 
@@ -75,8 +75,8 @@ pub fn operands_ok(hi: u8, t: Operands) -> bool
 // ---- templates
 
 // The variable of a formal; 16 of any other operand.
-fn formal_place(op: Operand) -> usize
-    ensures { λ r. ⌜ r ≡ formalPlace op ⌝ }
+fn formal_variable(op: Operand) -> usize
+    ensures { λ r. ⌜ r ≡ formalVariable op ⌝ }
 {
     match op {
         Operand::Formal(i) => i as usize,
@@ -102,7 +102,7 @@ pub fn template_ok(t: Operands) -> bool
         let f = t.fields[i];
         let op = f.operand;
         if tagged(6, op) {
-            let at = formal_place(op);
+            let at = formal_variable(op);
             if seen[at] {
                 return false;
             }

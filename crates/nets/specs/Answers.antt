@@ -30,7 +30,7 @@ abbrev pub isDoing : Said → Bool
 isDoing (refusing n vs) = false
 isDoing (doing a t) = true
 
--- what a step that is no loop answers, from its parts, whether its table variable is held, and the number of tables
+-- what a step that is no loop answers once checks 10 to 15 have passed. Only the code speaks of it: the rule is `step`
 unfoldable pub stepSaid : Parts → Bool → ℕ → Said
 stepSaid p isHeld tables = judge refusing (partChecks p isHeld tables) (doing (addedBy (p .node .kind) p) (takenBy (p .node .kind) p))
 

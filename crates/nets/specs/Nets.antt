@@ -50,7 +50,7 @@ abbrev pub acts : Kind → Bool
 acts (acting a) = true
 acts (other o) = false
 
--- the step has an L and a name; the table must be there; it must not
+-- the step has an L and a name; its table must be there; its table must not be there; it is an update
 abbrev pub hasLocality : Kind → Bool
 hasLocality k = among (code k) (16 ∷ 17 ∷ 18 ∷ 19 ∷ 21 ∷ 22 ∷ 23 ∷ 24 ∷ [])
 

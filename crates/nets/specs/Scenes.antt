@@ -101,7 +101,8 @@ source c = cond (readsRelation (c .node .kind)) (orElse noRelation (relation c))
 
 -- ── the parts that a step reads ──
 
--- a step that is no loop goes by its node, the content of its table, the source of its rows, and the thread's variables
+-- what most rules read of a scene: the node, the content of its table, the rows that it reads, and the thread's variables. Where the step reads no table
+-- variable, source and content are the same
 pub record Parts : Type 0 where
   pub node : Node
   pub content : Relation

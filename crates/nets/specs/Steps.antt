@@ -22,7 +22,7 @@ use Rattle.nets.specs.Scenes.{Scene, below, sceneOf, vars, template, sit
 
 -- ── the checks 12..20 ──
 
--- 16, 17, 18 and the room of 20 ask the parts that the step reads
+-- checks 16 to 18 and `roomBy` take `Parts` and not the whole scene, so that contracts of the code can cite them, too
 
 abbrev pub isBound : Vars → ℕ → Bool
 isBound e i = isGot (getD e i Nothing)
@@ -161,7 +161,7 @@ takenBy (other o) p = 0
 
 -- ── what it does to the bindings ──
 
--- what a table variable is bound to: a delete's rows, a select's result
+-- what a table variable is bound to: a delete's rows, a select's result. Asked only of kinds 18, 19 and 20, which bind one
 unfoldable pub boundBy : Kind → Parts → Relation
 boundBy (acting a) p = record { columns = p .source .columns; rows = hitRows p }
 boundBy (other o) p = selection (p .vars) (p .node .selector) (p .node .tuple) (p .source)
@@ -278,7 +278,7 @@ checks c =
 unfoldable pub step : Net → Pick → Outcome
 step net p = judge refused (checks (sceneOf net p)) (performed (sceneOf net p))
 
--- checks 16, 17, 18 and 20 of a step that is no loop: they ask its parts, whether its table variable is held, and the number of tables
+-- what is left of `checks` for a step that is no loop, after 10 to 15; with whether its table variable is held, and the number of tables. Only the code speaks of it
 abbrev pub partChecks : Parts → Bool → ℕ → List Check
 partChecks p isHeld tables =
     check 16 (check16 p)

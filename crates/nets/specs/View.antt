@@ -96,7 +96,7 @@ kinds =
     ∷ other parallel
     ∷ []
 
--- all of them, and what stands for a byte that is the number of none
+-- every kind there is: the known ones, and `badKind` for any other byte. Only proofs use it
 abbrev pub everyKind : List Kind
 everyKind = other badKind ∷ kinds
 

@@ -1,4 +1,4 @@
--- A record is judged and read by the group of its kind byte. Assumes nothing.
+-- A record is inForm and read by the group of its kind byte. Assumes nothing.
 use Prim.Native.Nat.{ℕ}
 use mathlib.Core.Path.{_≡_, refl}
 use mathlib.Core.Bool.{Bool, true, false, cond}
@@ -6,20 +6,20 @@ use mathlib.Core.List.{List, [], _∷_}
 use lib.Dec.{eqb}
 use lib.ListN.{getD}
 use Rattle.record_bytes.specs.Bytes.{at, part, columnsIn}
-use Rattle.record_bytes.specs.Decoding.{aliasRecord, tableRecord, rowRecord, nodeRecord, startRecord, pickRecord, Decoded, bad, siteAt, nameIn, aliasIn, rowIn, pickIn, nodeIn, aliasForm, tableForm, rowForm, nodeForm, startForm, pickForm, judged, isNode, recordIn}
-use Rattle.record_bytes.specs.Judging.{groupAt}
+use Rattle.record_bytes.specs.Decoding.{aliasRecord, tableRecord, rowRecord, nodeRecord, startRecord, pickRecord, Decoded, bad, siteAt, nameIn, aliasIn, rowIn, pickIn, nodeIn, aliasForm, tableForm, rowForm, nodeForm, startForm, pickForm, inForm, isNode, recordIn}
+use Rattle.record_bytes.specs.RecordKinds.{groupAt}
 
 -- what the records of a group say; past the groups, and at 0, an unknown kind
 abbrev pub byGroup : ℕ → List ℕ → Decoded
 byGroup g r =
     getD
     (bad 3
-    ∷ judged (aliasForm r) (aliasRecord (aliasIn r))
-    ∷ judged (tableForm r) (tableRecord (siteAt 1 r) (nameIn r) (columnsIn (part 8 12 r)))
-    ∷ judged (rowForm r) (rowRecord (siteAt 1 r) (nameIn r) (rowIn (part 56 88 r)))
-    ∷ judged (nodeForm r) (nodeRecord (nodeIn r))
-    ∷ judged (startForm r) (startRecord (siteAt 1 r) (at r 2))
-    ∷ judged (pickForm r) (pickRecord (pickIn r))
+    ∷ inForm (aliasForm r) (aliasRecord (aliasIn r))
+    ∷ inForm (tableForm r) (tableRecord (siteAt 1 r) (nameIn r) (columnsIn (part 8 12 r)))
+    ∷ inForm (rowForm r) (rowRecord (siteAt 1 r) (nameIn r) (rowIn (part 56 88 r)))
+    ∷ inForm (nodeForm r) (nodeRecord (nodeIn r))
+    ∷ inForm (startForm r) (startRecord (siteAt 1 r) (at r 2))
+    ∷ inForm (pickForm r) (pickRecord (pickIn r))
     ∷ [])
     g (bad 3)
 

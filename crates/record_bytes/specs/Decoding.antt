@@ -117,9 +117,9 @@ pickForm r = zeros (part 3 104 r)
 
 -- ── the record ──
 
-abbrev pub judged : Bool → Record → Decoded
-judged true x = good x
-judged false x = bad 4
+abbrev pub inForm : Bool → Record → Decoded
+inForm true x = good x
+inForm false x = bad 4
 
 abbrev pub isNode : ℕ → Bool
 isNode b = leb 16 b && leb b 26
@@ -127,12 +127,12 @@ isNode b = leb 16 b && leb b 26
 -- by the kind in byte 0; any other kind is unknown
 unfoldable pub recordIn : List ℕ → Decoded
 recordIn r =
-    cond (eqb (at r 0) 1) (judged (aliasForm r) (aliasRecord (aliasIn r)))
-    (cond (eqb (at r 0) 2) (judged (tableForm r) (tableRecord (siteAt 1 r) (nameIn r) (columnsIn (part 8 12 r))))
-    (cond (eqb (at r 0) 3) (judged (rowForm r) (rowRecord (siteAt 1 r) (nameIn r) (rowIn (part 56 88 r))))
-    (cond (isNode (at r 0)) (judged (nodeForm r) (nodeRecord (nodeIn r)))
-    (cond (eqb (at r 0) 32) (judged (startForm r) (startRecord (siteAt 1 r) (at r 2)))
-    (cond (eqb (at r 0) 33) (judged (pickForm r) (pickRecord (pickIn r)))
+    cond (eqb (at r 0) 1) (inForm (aliasForm r) (aliasRecord (aliasIn r)))
+    (cond (eqb (at r 0) 2) (inForm (tableForm r) (tableRecord (siteAt 1 r) (nameIn r) (columnsIn (part 8 12 r))))
+    (cond (eqb (at r 0) 3) (inForm (rowForm r) (rowRecord (siteAt 1 r) (nameIn r) (rowIn (part 56 88 r))))
+    (cond (isNode (at r 0)) (inForm (nodeForm r) (nodeRecord (nodeIn r)))
+    (cond (eqb (at r 0) 32) (inForm (startForm r) (startRecord (siteAt 1 r) (at r 2)))
+    (cond (eqb (at r 0) 33) (inForm (pickForm r) (pickRecord (pickIn r)))
     (bad 3))))))
 
 -- the whole records of a file

@@ -1,4 +1,4 @@
 pub mod Bytes
 pub mod Decoding
 pub mod Encoding
-pub mod Judging
+pub mod RecordKinds

@@ -21,7 +21,7 @@ ghost use lib.ListN.{length};
 ghost use Rattle.rows.specs.View.{columnsOf};
 ghost use Rattle.record_bytes.specs.Bytes.{columnsForm, columnsIn};
 ghost use Rattle.record_bytes.specs.Decoding.{siteAt, nameIn, aliasIn, pickIn, aliasForm, tableForm, startForm, pickForm};
-ghost use Rattle.record_bytes.specs.Judging.{groupAt};
+ghost use Rattle.record_bytes.specs.RecordKinds.{groupAt};
 
 // The group of a kind, in the order in which groups come; 0 for an unknown kind.
 pub fn group_of(kind: u8) -> u8

@@ -36,7 +36,7 @@ ghost use Rattle.rows.specs.View.{columnsOf, operandsOf, selectorOf};
 ghost use Rattle.nets.specs.View.{kindAt, nodeOf};
 ghost use Rattle.record_bytes.specs.Bytes.{at, part, zeros, operandForm, operandIn, operandsForm, operandsIn, columnsForm, columnsIn, testAt, isFunction, functionAt};
 ghost use Rattle.record_bytes.specs.Decoding.{nodeIn, nodeBytes, nodeForm};
-ghost use Rattle.record_bytes.specs.Judging.{selectorIn};
+ghost use Rattle.record_bytes.specs.RecordKinds.{selectorIn};
 
 // Where the second operand of t begins.
 const TUPLE_SECOND: usize = 64;

@@ -32,10 +32,10 @@ use Rattle.rows.specs.Relations as M
 use Rattle.rows.specs.Matching.{hits}
 use Rattle.rows.specs.Fit.{draft, ofKind, fits}
 use Rattle.rows.specs.View.{noCell, noRow, noField, valuesOf, columnsOf, relationOf, operandsOf, selectorOf, draftOf, Ready}
-use Rattle.rows.specs.Plans.{sourceOf, termOf, termGot, sourceKind, noComponent, termsIn, planHits}
+use Rattle.rows.specs.Plans.{originOf, termOf, termGot, originKind, noComponent, termsIn, planHits}
 use Rattle.rows.proofs.Relation as R
 use Rattle.rows.proofs.Lengths.{cells-long}
-use Rattle.rows.proofs.PlanLaws.{source-read, term-got}
+use Rattle.rows.proofs.PlanLaws.{origin-read, term-got}
 use Rattle.row_change.specs.declared.Swept.{Swept}
 use Rattle.row_change.specs.Changes.{draftFor, tupleFor, changes, renewed, updated, kindsOf, selectedColumns}
 use Rattle.row_change.specs.Contracts.{givenBy, sweeps, SweptIs, marks, sift, Complete}
@@ -217,10 +217,10 @@ module _ {r : Relation} {s : Selector} {e : Vars} {plan : Plan} (p : Planned r s
 -- ── kinds ──
 
 -- the kind of a variable's source, in columns of kinds `ks`
-pub source-kind : (e : Vars) (t : List Operand) (n : ℕ) → length e ≡ 16 → n ≤ 4 → length t ≡ n → (ks : List ℕ) (i : ℕ) →
-    sourceKind (sourceOf e t i) ks ≡ getD (bind t (columnsOf n ks) (kindsOf e)) i 0
-source-kind e t n long short count ks i =
-    source-read (λ s. sourceKind s ks) e t (columnsOf n ks) (kindsOf e) 0 (subst (λ (m : ℕ). m ≤ 4) (sym count) short) (count ∙ sym is-n)
+pub origin-kind : (e : Vars) (t : List Operand) (n : ℕ) → length e ≡ 16 → n ≤ 4 → length t ≡ n → (ks : List ℕ) (i : ℕ) →
+    originKind (originOf e t i) ks ≡ getD (bind t (columnsOf n ks) (kindsOf e)) i 0
+origin-kind e t n long short count ks i =
+    origin-read (λ s. originKind s ks) e t (columnsOf n ks) (kindsOf e) 0 (subst (λ (m : ℕ). m ≤ 4) (sym count) short) (count ∙ sym is-n)
     (λ j h. firsts-at (λ (k : ℕ). k) 0 n ks j 0 (subst (λ (m : ℕ). j < m) is-n h)) (length-map e kindIn ∙ long) (λ j. sym (List·getD-map kindIn e j Nothing)) refl i
   where
     is-n : length (columnsOf n ks) ≡ n

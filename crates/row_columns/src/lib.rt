@@ -1,7 +1,7 @@
 // The columns that a select makes: a kind for each component of t.
-use row_terms::variable_source;
+use row_terms::variable_origin;
 use rows::Operands;
-use rows::Source;
+use rows::Origin;
 use values::Operand;
 use values::Slot;
 use values::kinds::INT;
@@ -13,15 +13,15 @@ ghost use Prim.Native.Nat.{_<_};
 ghost use lib.ListN.{getD};
 ghost use Rattle.values.specs.Operands.{varsOf, bind};
 ghost use Rattle.rows.specs.View.{noField, columnsOf, operandsOf, Short};
-ghost use Rattle.rows.specs.Plans.{sourceKind};
+ghost use Rattle.rows.specs.Plans.{originKind};
 ghost use Rattle.row_change.specs.Changes.{kindsOf, columnFor, selectedColumns};
 
-fn source_kind(s: Source, kinds: [u8; 4]) -> u8
-    ensures { λ r. ⌜ r ≡ sourceKind s kinds ⌝ }
+fn origin_kind(s: Origin, kinds: [u8; 4]) -> u8
+    ensures { λ r. ⌜ r ≡ originKind s kinds ⌝ }
 {
     match s {
-        Source::Fixed(g) => kind_in(g),
-        Source::Column(i) => {
+        Origin::Fixed(g) => kind_in(g),
+        Origin::Column(i) => {
             let at = i as usize;
             if 4 <= at {
                 return 0;
@@ -40,7 +40,7 @@ fn column_kind(op: Operand, template: Operands, kinds: [u8; 4], vars: [Slot; 16]
         Operand::ConstInt(_) => INT,
         Operand::ConstText(_) => TEXT,
         Operand::ConstLoc(_) => LOC,
-        Operand::Var(i) => source_kind(variable_source(i, template, vars), kinds),
+        Operand::Var(i) => origin_kind(variable_origin(i, template, vars), kinds),
         Operand::Plus(_, _) => INT,
         _ => 0,
     }

@@ -4,12 +4,12 @@ use row_change::Marked;
 use row_change::Renewed;
 use row_change::Swept;
 use row_plan::row_hits;
-use row_terms::source_got;
+use row_terms::origin_got;
 use rows::Cell;
+use rows::Origin;
 use rows::Plan;
 use rows::Relation;
 use rows::Row;
-use rows::Source;
 use rows::Term;
 use rows::Terms;
 use rows::fits_column;
@@ -63,10 +63,10 @@ fn made(term: Term, row: Row, kind: u8) -> Made
 {
     match term {
         Term::Plain(s) => match s {
-            Source::Fixed(g) => made_of(g, kind),
-            Source::Column(at) => made_from(row, at, kind),
+            Origin::Fixed(g) => made_of(g, kind),
+            Origin::Column(at) => made_from(row, at, kind),
         },
-        Term::Shifted(s, k) => made_of(plus(source_got(s, row), k), kind),
+        Term::Shifted(s, k) => made_of(plus(origin_got(s, row), k), kind),
     }
 }
 

@@ -1,8 +1,8 @@
 // Operands prepared for one relation: where their values come from, and what they give for a row.
 use rows::Component;
 use rows::Operands;
+use rows::Origin;
 use rows::Row;
-use rows::Source;
 use rows::Term;
 use rows::Terms;
 use value_eval::held_in;
@@ -17,7 +17,7 @@ ghost use Prim.Native.Nat.{_<_};
 ghost use lib.ListN.{getD};
 ghost use Rattle.values.specs.Operands.{varsOf, formalOf};
 ghost use Rattle.rows.specs.View.{operandsOf, Short, noField};
-ghost use Rattle.rows.specs.Plans.{isFormalOf, formalPlace, sourceOf, termOf, gotAt, sourceGot, termGot, termsIn};
+ghost use Rattle.rows.specs.Plans.{isFormalOf, formalPlace, originOf, termOf, gotAt, originGot, termGot, termsIn};
 
 // ---- sources and terms
 
@@ -60,18 +60,18 @@ fn formal_place(i: u8, template: Operands) -> usize
     4
 }
 
-pub fn variable_source(i: u8, template: Operands, vars: [Slot; 16]) -> Source
+pub fn variable_origin(i: u8, template: Operands, vars: [Slot; 16]) -> Origin
     requires { ⌜ Short template ⌝ }
-    ensures { λ r. ⌜ r ≡ sourceOf (varsOf vars) (operandsOf template) i ⌝ }
+    ensures { λ r. ⌜ r ≡ originOf (varsOf vars) (operandsOf template) i ⌝ }
 {
     if 16 <= i {
-        return Source::Fixed(Got::Nothing);
+        return Origin::Fixed(Got::Nothing);
     }
     let at = formal_place(i, template);
     if at < 4 {
-        return Source::Column((at % 256) as u8);
+        return Origin::Column((at % 256) as u8);
     }
-    Source::Fixed(held_in(vars, i))
+    Origin::Fixed(held_in(vars, i))
 }
 
 pub fn term_of(op: Operand, template: Operands, vars: [Slot; 16]) -> Term
@@ -79,12 +79,12 @@ pub fn term_of(op: Operand, template: Operands, vars: [Slot; 16]) -> Term
     ensures { λ r. ⌜ r ≡ termOf (varsOf vars) (operandsOf template) op ⌝ }
 {
     match op {
-        Operand::ConstInt(i) => Term::Plain(Source::Fixed(Got::One(Value::Int(i)))),
-        Operand::ConstText(t) => Term::Plain(Source::Fixed(Got::One(Value::Text(t)))),
-        Operand::ConstLoc(l) => Term::Plain(Source::Fixed(Got::One(Value::Loc(l)))),
-        Operand::Var(i) => Term::Plain(variable_source(i, template, vars)),
-        Operand::Plus(i, k) => Term::Shifted(variable_source(i, template, vars), k),
-        _ => Term::Plain(Source::Fixed(Got::Nothing)),
+        Operand::ConstInt(i) => Term::Plain(Origin::Fixed(Got::One(Value::Int(i)))),
+        Operand::ConstText(t) => Term::Plain(Origin::Fixed(Got::One(Value::Text(t)))),
+        Operand::ConstLoc(l) => Term::Plain(Origin::Fixed(Got::One(Value::Loc(l)))),
+        Operand::Var(i) => Term::Plain(variable_origin(i, template, vars)),
+        Operand::Plus(i, k) => Term::Shifted(variable_origin(i, template, vars), k),
+        _ => Term::Plain(Origin::Fixed(Got::Nothing)),
     }
 }
 
@@ -100,12 +100,12 @@ fn got_at(row: Row, i: u8) -> Got
     Got::One(v)
 }
 
-pub fn source_got(s: Source, row: Row) -> Got
-    ensures { λ r. ⌜ r ≡ sourceGot s (row .cells) ⌝ }
+pub fn origin_got(s: Origin, row: Row) -> Got
+    ensures { λ r. ⌜ r ≡ originGot s (row .cells) ⌝ }
 {
     match s {
-        Source::Fixed(g) => g,
-        Source::Column(i) => got_at(row, i),
+        Origin::Fixed(g) => g,
+        Origin::Column(i) => got_at(row, i),
     }
 }
 
@@ -113,8 +113,8 @@ pub fn term_got(t: Term, row: Row) -> Got
     ensures { λ r. ⌜ r ≡ termGot t (row .cells) ⌝ }
 {
     match t {
-        Term::Plain(s) => source_got(s, row),
-        Term::Shifted(s, k) => plus(source_got(s, row), k),
+        Term::Plain(s) => origin_got(s, row),
+        Term::Shifted(s, k) => plus(origin_got(s, row), k),
     }
 }
 

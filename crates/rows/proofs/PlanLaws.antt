@@ -21,14 +21,14 @@ use Rattle.values.proofs.Firsts.{length-firsts, firsts-at, map-firsts}
 use Rattle.rows.specs.declared.Cell.{Cell}
 use Rattle.rows.specs.declared.Row.{Row}
 use Rattle.rows.specs.declared.Field.{Field}
-use Rattle.rows.specs.declared.Source.{Source}
-use Rattle.rows.specs.declared.Source.the-variants.{Fixed, Column}
+use Rattle.rows.specs.declared.Origin.{Origin}
+use Rattle.rows.specs.declared.Origin.the-variants.{Fixed, Column}
 use Rattle.rows.specs.declared.Want.{Want}
 use Rattle.rows.specs.declared.Want.the-variants.{Anything, Like}
 use Rattle.rows.specs.declared.Wanted.{Wanted}
 use Rattle.rows.specs.Matching.{matches, matches1, rowVars}
 use Rattle.rows.specs.View.{noCell, noField, valuesOf}
-use Rattle.rows.specs.Plans.{isFormalOf, formalPlace, sourceOf, termOf, gotAt, sourceGot, termGot, wantOf, meets, isAnything, wantsMet}
+use Rattle.rows.specs.Plans.{isFormalOf, formalPlace, originOf, termOf, gotAt, originGot, termGot, wantOf, meets, isAnything, wantsMet}
 
 -- ── what formals bind ──
 
@@ -58,12 +58,12 @@ module _ {A : Type 0} where
         (bound-one at n e (formalOf o) (omega arith) have so-far)
 
 -- where a variable's value comes from (`f` of its source) is what the variable holds after T's formals are bound: `g` at their places, over `k`
-module _ {A : Type 0} (f : Source → A) (e : Vars) (t : List Operand) (g k : List A) (d : A) (short : length t ≤ 4) (same : length t ≡ length g)
+module _ {A : Type 0} (f : Origin → A) (e : Vars) (t : List Operand) (g k : List A) (d : A) (short : length t ≤ 4) (same : length t ≡ length g)
     (places : (j : ℕ) → j < length g → getD g j d ≡ f (Column j)) (long : length k ≡ 16) (free : (j : ℕ) → f (Fixed (getD e j Nothing)) ≡ getD k j d)
     (none-there : f (Fixed Nothing) ≡ d) where
-  pub source-read : (i : ℕ) → f (sourceOf e t i) ≡ getD (bind t g k) i d
-  unfolding sourceOf
-  source-read i = go (ltb i 16) refl (ltb (formalPlace i 4 0 t) 4) refl
+  pub origin-read : (i : ℕ) → f (originOf e t i) ≡ getD (bind t g k) i d
+  unfolding originOf
+  origin-read i = go (ltb i 16) refl (ltb (formalPlace i 4 0 t) 4) refl
     where
       bind-is : i < 16 → getD (bind t g k) i d ≡ cond (ltb (formalPlace i 4 0 t) 4) (f (Column (formalPlace i 4 0 t))) (getD k i d)
       bind-is low = bind-at (λ j. f (Column j)) d (getD k i d) i t g k 4 0 (omega arith) (subst (λ (m : ℕ). m ≤ 4) same short) places (subst (λ (m : ℕ). i < m) (sym long) low) refl
@@ -82,9 +82,9 @@ module _ (e : Vars) (t : List Operand) (n : ℕ) (long : length e ≡ 16) (short
   short-t : length t ≤ 4
   short-t = subst (λ (m : ℕ). m ≤ 4) (sym count) short
 
-  pub source-got : (row : Row) (i : ℕ) → sourceGot (sourceOf e t i) (row .cells) ≡ getD (rowVars e t (valuesOf n row)) i Nothing
-  source-got row i =
-      source-read (λ s. sourceGot s (row .cells)) e t (map One (valuesOf n row)) e Nothing short-t (count ∙ sym is-n) places long (λ j. refl) refl i
+  pub origin-got : (row : Row) (i : ℕ) → originGot (originOf e t i) (row .cells) ≡ getD (rowVars e t (valuesOf n row)) i Nothing
+  origin-got row i =
+      origin-read (λ s. originGot s (row .cells)) e t (map One (valuesOf n row)) e Nothing short-t (count ∙ sym is-n) places long (λ j. refl) refl i
     where
       is-n : length (map One (valuesOf n row)) ≡ n
       is-n = length-map (valuesOf n row) One ∙ length-firsts (λ (c : Cell). c .value) noCell n (row .cells)
@@ -102,8 +102,8 @@ module _ (e : Vars) (t : List Operand) (n : ℕ) (long : length e ≡ 16) (short
   term-got row (ConstInt i) = refl
   term-got row (ConstText u) = refl
   term-got row (ConstLoc l) = refl
-  term-got row (Var i) = source-got row i
-  term-got row (Plus i k) = ap (add k) (source-got row i)
+  term-got row (Var i) = origin-got row i
+  term-got row (Plus i k) = ap (add k) (origin-got row i)
   term-got row (Formal i) = refl
 
 -- ── wants ──

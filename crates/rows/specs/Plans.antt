@@ -15,8 +15,8 @@ use Rattle.values.specs.Lists.{agree, firsts}
 use Rattle.values.specs.Operands.{Vars, eval, compared, add, formalOf, kindIn}
 use Rattle.rows.specs.declared.Cell.{Cell}
 use Rattle.rows.specs.declared.Row.{Row}
-use Rattle.rows.specs.declared.Source.{Source}
-use Rattle.rows.specs.declared.Source.the-variants.{Fixed, Column}
+use Rattle.rows.specs.declared.Origin.{Origin}
+use Rattle.rows.specs.declared.Origin.the-variants.{Fixed, Column}
 use Rattle.rows.specs.declared.Term.{Term}
 use Rattle.rows.specs.declared.Term.the-variants.{Plain, Shifted}
 use Rattle.rows.specs.declared.Component.{Component}
@@ -42,16 +42,16 @@ formalPlace i at n [] = at
 formalPlace i at n (o ∷ t) = formalPlace i (cond (isFormalOf i (formalOf o)) n at) (suc n) t
 
 -- the variable is a formal of T, which has at most four places; or it is the thread's own. There are 16 variables
-unfoldable pub sourceOf : Vars → List Operand → ℕ → Source
-sourceOf e t i = cond (ltb i 16) (cond (ltb (formalPlace i 4 0 t) 4) (Column (formalPlace i 4 0 t)) (Fixed (getD e i Nothing))) (Fixed Nothing)
+unfoldable pub originOf : Vars → List Operand → ℕ → Origin
+originOf e t i = cond (ltb i 16) (cond (ltb (formalPlace i 4 0 t) 4) (Column (formalPlace i 4 0 t)) (Fixed (getD e i Nothing))) (Fixed Nothing)
 
 abbrev pub termOf : Vars → List Operand → Operand → Term
 termOf e t Absent = Plain (Fixed Nothing)
 termOf e t (ConstInt i) = Plain (Fixed (One (Int i)))
 termOf e t (ConstText u) = Plain (Fixed (One (Text u)))
 termOf e t (ConstLoc l) = Plain (Fixed (One (Loc l)))
-termOf e t (Var i) = Plain (sourceOf e t i)
-termOf e t (Plus i k) = Shifted (sourceOf e t i) k
+termOf e t (Var i) = Plain (originOf e t i)
+termOf e t (Plus i k) = Shifted (originOf e t i) k
 termOf e t (Formal i) = Plain (Fixed Nothing)
 
 -- ── for a row ──
@@ -59,18 +59,18 @@ termOf e t (Formal i) = Plain (Fixed Nothing)
 abbrev pub gotAt : List Cell → ℕ → Got
 gotAt cs i = cond (ltb i 4) (One (getD cs i noCell .value)) Nothing
 
-abbrev pub sourceGot : Source → List Cell → Got
-sourceGot (Fixed g) cs = g
-sourceGot (Column i) cs = gotAt cs i
+abbrev pub originGot : Origin → List Cell → Got
+originGot (Fixed g) cs = g
+originGot (Column i) cs = gotAt cs i
 
 abbrev pub termGot : Term → List Cell → Got
-termGot (Plain s) cs = sourceGot s cs
-termGot (Shifted s k) cs = add k (sourceGot s cs)
+termGot (Plain s) cs = originGot s cs
+termGot (Shifted s k) cs = add k (originGot s cs)
 
 -- the kind of a source, in columns of kinds `ks`
-abbrev pub sourceKind : Source → List ℕ → ℕ
-sourceKind (Fixed g) ks = kindIn g
-sourceKind (Column i) ks = getD ks i 0
+abbrev pub originKind : Origin → List ℕ → ℕ
+originKind (Fixed g) ks = kindIn g
+originKind (Column i) ks = getD ks i 0
 
 -- ── matching ──
 

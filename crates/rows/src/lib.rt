@@ -62,15 +62,15 @@ pub enum Function {
 }
 
 // Where a variable's value comes from once T is known: the same for every row, or a column of the row.
-pub enum Source {
+pub enum Origin {
     Fixed(Got),
     Column(u8),
 }
 
 // An operand prepared for one relation: its source, plus an Int.
 pub enum Term {
-    Plain(Source),
-    Shifted(Source, i32),
+    Plain(Origin),
+    Shifted(Origin, i32),
 }
 
 pub struct Component {

@@ -1,4 +1,4 @@
--- What the state of a run is before the first pick, and after one more step.
+-- What the state of a run is before the first pick, and after one more step. Only the code speaks of it.
 use Prim.Native.Nat.{_+_, _≤_}
 use mathlib.Core.Path.{_≡_}
 use Rattle.nets.specs.declared.Net.{Net}

@@ -57,14 +57,14 @@ unsound-all net e (p ∷ ps) =
 
 -- ── the run ──
 
-pub run-gone :
+pub run-carried :
     (net : Net) (ps qs : List Pick) (g : Reached) (b : Bool) → b ≡ sound (view net) → qs ≡ cond b ps [] → CarriedIs net qs g → RunIs net ps (record { net = g .net; sound = b; added = g .added; taken = g .taken })
 unfolding after answers
-run-gone net ps qs g true e f h = go (subst (λ (rs : List Pick). CarriedIs net rs g) f h)
+run-carried net ps qs g true e f h = go (subst (λ (rs : List Pick). CarriedIs net rs g) f h)
   where
     go : CarriedIs net ps g → RunIs net ps (record { net = g .net; sound = true; added = g .added; taken = g .taken })
     go k = run-made net ps _ (k .left) (k .added) (k .taken) (k .kept) (sym (is-true (sound (view (g .net))) (k .sound (T-of (sound (view net)) (sym e)))))
-run-gone net ps qs g false e f h = go (subst (λ (rs : List Pick). CarriedIs net rs g) f h)
+run-carried net ps qs g false e f h = go (subst (λ (rs : List Pick). CarriedIs net rs g) f h)
   where
     go : CarriedIs net [] g → RunIs net ps (record { net = g .net; sound = false; added = g .added; taken = g .taken })
     go k =

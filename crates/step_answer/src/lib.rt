@@ -7,15 +7,15 @@ use rows::Relation;
 use step_effect::Judged;
 use step_effect::saying::checked;
 use step_effect::saying::column_fits;
-use step_effect::saying::said_append;
-use step_effect::saying::said_insert;
+use step_effect::saying::insert_answer;
+use step_effect::saying::insert_table_answer;
 use step_effect::saying::takes;
 use values::Slot;
 ghost use mathlib.Core.Path.{_≡_};
 ghost use lib.Dec.{T};
 ghost use Rattle.nets.specs.Answers.{stepSaid, saidOf};
 ghost use Rattle.nets.specs.View.{kindAt};
-ghost use Rattle.step_effect.specs.Contracts.{partsOf, ActReady, JudgedIs, isStep};
+ghost use Rattle.step_effect.specs.Contracts.{partsOf, StepReady, JudgedIs, isStep};
 
 pub fn says(
     node: Node,
@@ -26,7 +26,7 @@ pub fn says(
     held: bool,
     tables: usize,
 ) -> Answer
-    requires { ⌜ ActReady node content source vars × T (isStep (kindAt (node .kind))) × JudgedIs node source vars j ⌝ }
+    requires { ⌜ StepReady node content source vars × T (isStep (kindAt (node .kind))) × JudgedIs node source vars j ⌝ }
     ensures { λ r. ⌜ saidOf r ≡ stepSaid (partsOf node content source vars) held tables ⌝ }
 {
     let kind = node.kind;
@@ -38,8 +38,8 @@ pub fn says(
     let g = j.result;
     let long = template.count == source.columns;
     match kind {
-        16 => said_insert(node, content, vars),
-        17 => said_append(node, content, source, vars),
+        16 => insert_answer(node, content, vars),
+        17 => insert_table_answer(node, content, source, vars),
         18 => {
             let done = Answer::Done(0, count_marks(flags));
             checked(long, Refusal::Misfit, checked(!held, Refusal::Held, done))

@@ -94,7 +94,7 @@ fn decide_loop(
     }
 }
 
-fn decide_act(
+fn decide_step(
     vars: [Slot; 16],
     depth: usize,
     frame: Frame,
@@ -150,5 +150,5 @@ pub fn decide(
     if is_loop(kind) {
         return decide_loop(vars, depth, frame, node, content, source, s);
     }
-    decide_act(vars, depth, frame, node, content, source, j, s)
+    decide_step(vars, depth, frame, node, content, source, j, s)
 }

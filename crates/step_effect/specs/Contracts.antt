@@ -32,7 +32,7 @@ partsOf d content source vars = record { node = nodeOf d; content = relationOf c
 
 -- the table's content `r`, the source of rows `q` and the operand lists are within their arrays, a step that reads no table variable has the content as
 -- its source, and a select's t gives a value for each component
-pub record ActReady (d : Node) (r q : Code.Relation) (vs : List Slot) : Type 0 where
+pub record StepReady (d : Node) (r q : Code.Relation) (vs : List Slot) : Type 0 where
   pub content : Shaped r
   pub source : Shaped q
   pub template : Short (d .selector .template)
@@ -44,7 +44,7 @@ pub record ActReady (d : Node) (r q : Code.Relation) (vs : List Slot) : Type 0 w
 abbrev pub putsRows : Kind → Bool
 putsRows k = among (code k) (16 ∷ 17 ∷ 18 ∷ 21 ∷ [])
 
--- checks 16 and 20 passed
+-- check 16 passed, and 20 for some number of tables
 pub record Doing (d : Node) (r q : Code.Relation) (vs : List Slot) : Type 0 where
   pub fits : T (check16 (partsOf d r q vs))
   pub tables : ℕ

@@ -1,4 +1,4 @@
--- The tables that the functions of a step give back.
+-- The tables after a done step, as `carry_out` stores them. Only proofs speak of it: the rule is `tablesBy`.
 use Prim.Native.Nat.{ℕ}
 use mathlib.Core.List.{List, [], _∷_, _++_}
 use lib.ListN.{getD, set}

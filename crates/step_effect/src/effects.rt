@@ -19,7 +19,7 @@ ghost use Rattle.row_change.specs.Contracts.{Holds};
 ghost use Rattle.nets.specs.Nets.{bindsRelation};
 ghost use Rattle.nets.specs.Steps.{rowsBy, boundBy, varsBy};
 ghost use Rattle.nets.specs.View.{kindAt};
-ghost use Rattle.step_effect.specs.Contracts.{partsOf, putsRows, Doing, ActReady, JudgedIs, isStep};
+ghost use Rattle.step_effect.specs.Contracts.{partsOf, putsRows, Doing, StepReady, JudgedIs, isStep};
 
 pub fn content_after(
     node: Node,
@@ -28,7 +28,7 @@ pub fn content_after(
     vars: [Slot; 16],
     j: Judged,
 ) -> Relation
-    requires { ⌜ ActReady node content source vars × T (isStep (kindAt (node .kind))) × JudgedIs node source vars j × T (putsRows (kindAt (node .kind))) × Doing node content source vars ⌝ }
+    requires { ⌜ StepReady node content source vars × T (isStep (kindAt (node .kind))) × JudgedIs node source vars j × T (putsRows (kindAt (node .kind))) × Doing node content source vars ⌝ }
     ensures { λ r. ⌜ Holds r (relationOf content .columns) (rowsBy (kindAt (node .kind)) (partsOf node content source vars) (relationOf content .rows)) ⌝ }
 {
     let kind = node.kind;
@@ -60,7 +60,7 @@ pub fn bound_after(
     vars: [Slot; 16],
     j: Judged,
 ) -> Relation
-    requires { ⌜ ActReady node content source vars × T (isStep (kindAt (node .kind))) × JudgedIs node source vars j × T (bindsRelation (kindAt (node .kind))) × Doing node content source vars ⌝ }
+    requires { ⌜ StepReady node content source vars × T (isStep (kindAt (node .kind))) × JudgedIs node source vars j × T (bindsRelation (kindAt (node .kind))) × Doing node content source vars ⌝ }
     ensures { λ r. ⌜ Holds r (boundBy (kindAt (node .kind)) (partsOf node content source vars) .columns) (boundBy (kindAt (node .kind)) (partsOf node content source vars) .rows) ⌝ }
 {
     let kind = node.kind;
@@ -86,7 +86,7 @@ pub fn vars_after(
     vars: [Slot; 16],
     j: Judged,
 ) -> [Slot; 16]
-    requires { ⌜ ActReady node content source vars × T (isStep (kindAt (node .kind))) × JudgedIs node source vars j × Doing node content source vars ⌝ }
+    requires { ⌜ StepReady node content source vars × T (isStep (kindAt (node .kind))) × JudgedIs node source vars j × Doing node content source vars ⌝ }
     ensures { λ r. ⌜ varsOf r ≡ varsBy (kindAt (node .kind)) (partsOf node content source vars) ⌝ }
 {
     let kind = node.kind;

@@ -1,4 +1,4 @@
-// What a step that is no loop speaks of, and what single kinds of it answer.
+// A step that is no loop: the rows that it judged, the answers of inserts, the checks of aggregates, and what it leaves of its table, table variables and variables.
 use rows::Row;
 use values::Got;
 

@@ -39,9 +39,9 @@ pub fn checked(ok: bool, why: Refusal, then: Answer) -> Answer
 
 // ---- inserts
 
-pub fn said_insert(node: Node, content: Relation, vars: [Slot; 16]) -> Answer
-    requires { ⌜ Shaped content × Short (node .tuple) ⌝ }
-    ensures { λ r. ⌜ (node .kind ≡ 16 → (source : Code.Relation) (held : Bool) (tables : ℕ) → saidOf r ≡ stepSaid (partsOf node content source vars) held tables) ⌝ }
+pub fn insert_answer(node: Node, content: Relation, vars: [Slot; 16]) -> Answer
+    requires { ⌜ Shaped content × Short (node .tuple) × (node .kind ≡ 16) ⌝ }
+    ensures { λ r. ⌜ ((source : Code.Relation) (held : Bool) (tables : ℕ) → saidOf r ≡ stepSaid (partsOf node content source vars) held tables) ⌝ }
 {
     let columns = content.columns;
     let kinds = content.kinds;
@@ -55,9 +55,14 @@ pub fn said_insert(node: Node, content: Relation, vars: [Slot; 16]) -> Answer
     )
 }
 
-pub fn said_append(node: Node, content: Relation, source: Relation, vars: [Slot; 16]) -> Answer
-    requires { ⌜ Shaped content × Shaped source ⌝ }
-    ensures { λ r. ⌜ (node .kind ≡ 17 → (held : Bool) (tables : ℕ) → saidOf r ≡ stepSaid (partsOf node content source vars) held tables) ⌝ }
+pub fn insert_table_answer(
+    node: Node,
+    content: Relation,
+    source: Relation,
+    vars: [Slot; 16],
+) -> Answer
+    requires { ⌜ Shaped content × Shaped source × (node .kind ≡ 17) ⌝ }
+    ensures { λ r. ⌜ ((held : Bool) (tables : ℕ) → saidOf r ≡ stepSaid (partsOf node content source vars) held tables) ⌝ }
 {
     let columns = content.columns;
     let kinds = content.kinds;

@@ -1,4 +1,4 @@
--- Picks in turn: what one pick more leaves, from what the picks before it left. Assumes nothing.
+-- Picks one after the other: what one pick more leaves, from what the picks before it left. Assumes nothing.
 use Prim.Native.Nat.{ℕ, _+_, _<_, _≤_, _^_}
 use mathlib.Core.Path.{_≡_, refl, ap, sym, subst, _∙_}
 use mathlib.Core.Bool.{Bool, true, false, not, cond}

@@ -1,3 +1,3 @@
--- Laws of picks in turn that belong to no one function.
+-- Laws of lists of picks that belong to no one function.
 pub mod KeepStep
 pub mod CarriedLaws

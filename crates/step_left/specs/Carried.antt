@@ -1,4 +1,4 @@
--- What picks come to, one after the other.
+-- What picks come to, one after the other. A run's contract cites `allRefused`; only the code speaks of the rest.
 use Prim.Native.Nat.{_≤_}
 use mathlib.Core.Path.{_≡_}
 use mathlib.Core.Bool.{Bool, not}

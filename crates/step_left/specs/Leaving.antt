@@ -1,4 +1,4 @@
--- The net that picks leave.
+-- The net that picks leave, put together from what they change. Only the code speaks of it.
 use Rattle.nets.specs.declared.Net.{Net}
 use Rattle.step_left.specs.declared.Carried.{Carried}
 

@@ -18,7 +18,7 @@ use Rattle.nets.specs.Scenes.{below}
 use Rattle.nets.specs.Steps.{withStack, withBindings, goOn}
 use Rattle.nets.specs.View.{noFrame, entryOf, stackOf, bindingsOf, threadOf}
 use Rattle.step_thread.specs.Contracts.{Stacked, goesOn}
-use Rattle.step_thread.proofs.ThreadLaws.{stack-past, stack-set, standing-with}
+use Rattle.step_thread.proofs.ThreadLaws.{stack-past, stack-set, goes-on-with}
 use Rattle.step_meets.specs.declared.Decided.{Decided}
 use Rattle.step_meets.specs.Situations.{overOf, moved, Onward}
 
@@ -92,7 +92,7 @@ module _ (t : Thread) (r : Decided) (above : ℕ) (over : above ≡ overOf (t .d
       u = withBindings (threadOf t) (bindingsOf (r .vars) vs)
 
       go : (b : Bool) → eqb next 255 ≡ b → goesOn (threadOf (moved t r above f vs)) ≡ goOn next u (below (threadOf t .stack))
-      go true e = ap goesOn (moved-ends (o .ends e)) ∙ standing-with u (below (threadOf t .stack)) ∙ rw e
+      go true e = ap goesOn (moved-ends (o .ends e)) ∙ goes-on-with u (below (threadOf t .stack)) ∙ rw e
       go false e = ap goesOn (moved-top (o .stays e)) ∙ ap (λ (x : M.Entry). goesOn (withStack u (x ∷ below (threadOf t .stack)))) (o .goes e) ∙ rw e
 
 -- ── what going on stores ──

@@ -28,7 +28,7 @@ use Rattle.nets.specs.Scenes.{Scene, source}
 use Rattle.nets.specs.Steps.{isBound, isBoundTable, readsOk, check12}
 use Rattle.nets.specs.View.{kindAt, nodeOf, variableOf, threadOf}
 use Rattle.step_reads.specs.Contracts.{flagAt}
-use Rattle.step_effect.specs.Contracts.{isStep, ActReady, JudgeReady}
+use Rattle.step_effect.specs.Contracts.{isStep, StepReady, JudgeReady}
 use Rattle.step_thread.specs.Contracts.{visitOf}
 use Rattle.step_meets.specs.Contracts.{Meets, relationRead, Fine, Known, SourceIs, Sourced}
 use Rattle.step_meets.proofs.EffectTies.{read-source, own-source}
@@ -231,8 +231,8 @@ module _ (s : Situation) (q : Code.Relation) (i : SourceIs s q) where
       subst (λ (n : ℕ). T (all (λ (j : ℕ). ltb j n) (visitOf (s .frame) (relationOf q))))
       (length-firsts (valuesOf (q .columns)) noRow (q .count) (q .rows)) (f .visits l (relationOf q) (loop-read l))
 
-  pub act-ready : Fine s → Known s → ActReady (s .node) (s .content) q (s .thread .vars)
-  act-ready f k =
+  pub step-ready : Fine s → Known s → StepReady (s .node) (s .content) q (s .thread .vars)
+  step-ready f k =
       record {
         content = f .content;
         source = i .shaped;

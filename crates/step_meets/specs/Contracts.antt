@@ -31,7 +31,7 @@ use Rattle.step_reads.specs.Contracts.{flagAt}
 use Rattle.step_effect.specs.Contracts.{isStep, putsRows, partsOf, Doing}
 use Rattle.step_thread.specs.Contracts.{visitOf, Stacked, goesOn, forksOf}
 
--- ── places ──
+-- ── where L leads ──
 
 abbrev pub locatedOf : Located → Option Site
 locatedOf Nowhere = none
@@ -39,7 +39,7 @@ locatedOf (At s) = some s
 
 -- ── the step from small parts ──
 
--- the outcome by the checks after 10 and 11
+-- the checks after 10 and 11, and the outcome by these
 abbrev pub laterChecks : Scene → List Check
 laterChecks c = drop 2 (checks c)
 
@@ -127,13 +127,13 @@ pub record Made (s : Situation) (q : Code.Relation) (r : Decided) : Type 0 where
 abbrev pub changed : (s : Situation) (q : Code.Relation) (r : Decided) → Made s q r → Change
 changed s q r m = record { answer = r .answer; content = m .content; thread = moved (s .thread) r (m .above) (m .body) (m .relations); forks = r .forks; fork = m .fork }
 
--- at a scene
+-- what is decided, beside the rule at a scene that the situation meets
 pub record DecidedAt (s : Situation) (q : Code.Relation) (c : Scene) (r : Decided) : Type 0 where
   pub answer : saidOf (r .answer) ≡ answerOf (outcomeAt c)
   pub change : T (isDoing (saidOf (r .answer))) → (m : Made s q r) → ChangeIs c (changed s q r m)
 
 pub record DecidedIs (s : Situation) (q : Code.Relation) (r : Decided) : Type 0 where
   pub at : (c : Scene) → Meets s c → DecidedAt s q c r
-  -- a done step passed check 12; one that is no loop passed the checks of its kind
+  -- a done step passed check 12; one that is no loop also 16, and 20 for some number of tables
   pub known : T (isDoing (saidOf (r .answer))) → Known s
   pub does : T (isDoing (saidOf (r .answer))) → T (isStep (kindAt (s .node .kind))) → Doing (s .node) (s .content) q (s .thread .vars)

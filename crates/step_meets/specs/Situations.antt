@@ -58,7 +58,7 @@ pub record Rest : Type 0 where
 abbrev pub whole : List Slot → ℕ → Rest → Thread
 whole vs n w = record { site = w .site; vars = vs; relations = w .relations; stack = w .stack; depth = n }
 
--- the thread whose parts are handed on is one of which this is true
+-- the caller's thread: some `Rest` completes the parts that are handed on, and `P` holds of it
 pub record Handed (P : Rest → Type 0) : Type 0 where
   pub rest : Rest
   pub facts : P rest

@@ -1,4 +1,4 @@
-// The small parts that a pick meets, and those that it comes to.
+// What a pick reads, and what the decision returns.
 use nets::Answer;
 use nets::Frame;
 use values::Site;

@@ -27,7 +27,7 @@ use Rattle.nets.specs.Steps.{settle}
 use Rattle.nets.specs.View.{noTable, noThread, kindAt, tableOf, variableOf, threadOf, tablesOf, threadsOf}
 use Rattle.step_effect.specs.Contracts.{isStep, putsRows}
 use Rattle.step_thread.specs.Contracts.{goesOn, forksOf}
-use Rattle.step_thread.proofs.ThreadLaws.{standing-gone, standing-there, settle-none, settle-one}
+use Rattle.step_thread.proofs.ThreadLaws.{goes-on-gone, goes-on-there, settle-none, settle-one}
 use Rattle.step_effect.specs.TableContracts.{withContent, putContent, tablesWith}
 use Rattle.step_effect.proofs.KindTies.{puts-needs, with-create, with-drop}
 use Rattle.nets.proofs.KindClasses.{_▸_, class-in, of-class}
@@ -102,14 +102,14 @@ module _ (n : ℕ) (l : List Thread) (at : ℕ) (t fork : Thread) (low : at < n)
   thread-gone c h e true k = absurd (omega (arith, k tt))
   thread-gone c h e false k =
       closing-ends threadOf noThread n c low h
-      ∙ sym (append-nil _ ∙ ap (λ (us : List M.Thread). settle at us (threadsOf n l)) (standing-gone t e) ∙ settle-none at (threadsOf n l))
+      ∙ sym (append-nil _ ∙ ap (λ (us : List M.Thread). settle at us (threadsOf n l)) (goes-on-gone t e) ∙ settle-none at (threadsOf n l))
 
   module _ (eight : length l ≡ 8) (few : n ≤ 8) (deep : 1 ≤ t .depth) where
     put : threadsOf n (set l at t) ≡ settle at (goesOn (threadOf t)) (threadsOf n l)
     put =
         firsts-set threadOf noThread n l at t (omega (arith, eight, low, few))
         ∙ sym (settle-one at (threadOf t) (threadsOf n l))
-        ∙ ap (λ (us : List M.Thread). settle at us (threadsOf n l)) (sym (standing-there t deep))
+        ∙ ap (λ (us : List M.Thread). settle at us (threadsOf n l)) (sym (goes-on-there t deep))
 
     pub thread-stays : {f : Bool} → f ≡ false → threadsOf n (set l at t) ≡ settle at (goesOn (threadOf t)) (threadsOf n l) ++ forksOf f fork
     thread-stays e =

@@ -110,7 +110,7 @@ pub fn carry_out(from: Net, picks: &[u8], out: &mut [u8]) -> Carried
         let found = at < tablecount;
         let content = shown(found, inside);
 
-        // ---- checks 12 to 20: what the pick comes to. Its rows are judged before it is known to be allowed: one branch less for every done pick.
+        // ---- checks 12 to 20: what the pick comes to. Rows are judged before the checks, also for a pick that is then refused: it saves a done pick a branch.
         let read = node.read as usize;
         let variable = thread.relations[read];
         let source = source_of(kind, variable, content);

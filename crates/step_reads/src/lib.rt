@@ -146,12 +146,12 @@ pub fn reads_ok(node: Node, vars: [Slot; 16], tables: [bool; 2]) -> bool
     let selector = node.selector;
     let template = selector.template;
     let tuple = node.tuple;
-    let place = node.locality;
+    let locality = node.locality;
     let result = node.result;
     let left = selector.left;
     let right = selector.right;
     let ops = [
-        Field { operand: place },
+        Field { operand: locality },
         Field { operand: result },
         field_in(template, 0),
         field_in(template, 1),

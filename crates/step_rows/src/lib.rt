@@ -23,7 +23,7 @@ ghost use Rattle.row_change.specs.Contracts.{marks, sift};
 ghost use Rattle.row_change.specs.Aggregates.{columnFits, aggregated};
 ghost use Rattle.step_effect.specs.Contracts.{JudgeReady, JudgedIs};
 
-// Over the rows that are marked. Where the column does not fit, check 16 comes first.
+// The aggregate of the marked rows; nothing where check 16 will refuse. Where the column does not fit, check 16 comes first.
 fn result_of(node: Node, source: Relation, flags: [bool; 16]) -> Got
     requires { ⌜ Shaped source ⌝ }
     ensures { λ r. ⌜ (T (columnFits (node .function) (node .column) (relationOf source .columns)) → r ≡ aggregated (node .function) (node .column) (sift true (marks (source .count) flags) (relationOf source .rows))) ⌝ }

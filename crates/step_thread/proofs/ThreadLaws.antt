@@ -44,15 +44,15 @@ stack-set (suc n) l f h k =
 
 -- ── what becomes of a thread ──
 
-pub standing-with : (t : M.Thread) (s : List M.Entry) → goesOn (withStack t s) ≡ keepThread t s
-standing-with t [] = refl
-standing-with t (x ∷ s) = refl
+pub goes-on-with : (t : M.Thread) (s : List M.Entry) → goesOn (withStack t s) ≡ keepThread t s
+goes-on-with t [] = refl
+goes-on-with t (x ∷ s) = refl
 
-pub standing-gone : (t : Thread) → t .depth ≡ 0 → goesOn (threadOf t) ≡ []
-standing-gone t e = rw e refl
+pub goes-on-gone : (t : Thread) → t .depth ≡ 0 → goesOn (threadOf t) ≡ []
+goes-on-gone t e = rw e refl
 
-pub standing-there : (t : Thread) → 1 ≤ t .depth → goesOn (threadOf t) ≡ threadOf t ∷ []
-standing-there t h = go (t .depth) h
+pub goes-on-there : (t : Thread) → 1 ≤ t .depth → goesOn (threadOf t) ≡ threadOf t ∷ []
+goes-on-there t h = go (t .depth) h
   where
     go : (n : ℕ) → 1 ≤ n → goesOn (record { site = threadOf t .site; bindings = threadOf t .bindings; stack = stackOf n (t .stack) }) ≡ record { site = threadOf t .site; bindings = threadOf t .bindings; stack = stackOf n (t .stack) } ∷ []
     go zero h = absurd (omega arith)

@@ -12,7 +12,7 @@ ghost use Rattle.nets.specs.Sound.{sound};
 ghost use Rattle.nets.specs.Answers.{StepIs};
 ghost use Rattle.nets.specs.View.{view};
 
-// As many as there are, or none.
+// The count where the test passed, else 0: an unsound net gets no picks.
 pub fn count_if(sure: bool, count: usize) -> usize
     ensures { λ r. ⌜ r ≡ cond sure count 0 ⌝ }
 {

@@ -63,19 +63,19 @@ pub fn node_of(node: Node, e: [u8; 24]) -> Node {
     let a = operand_in(&e[8..16]);
     let b = operand_in(&e[16..24]);
     let function = node.function;
-    let place = node.locality;
+    let locality = node.locality;
     let result = node.result;
     let part = e[3];
     match part {
         4 => bare(e[5], 255),
         5 => numbered(node, e),
-        6 => remade(node, function_at(e[5]), e[6], place, result),
+        6 => remade(node, function_at(e[5]), e[6], locality, result),
         7 => making(node, e),
         8 => placed(24, e[5]),
         9 => remade(node, function, node.column, a, result),
         10 => selecting(node, matching(operands_of(e[5], e[6] == 1, a, b))),
         11 => giving(node, operands_of(e[5], e[6] == 1, a, b)),
         12 => testing(node, test_at(e[5]), a, b),
-        _ => remade(node, function, node.column, place, a),
+        _ => remade(node, function, node.column, locality, a),
     }
 }

@@ -90,7 +90,13 @@ pub fn bare(kind: u8, next: u8) -> Node {
 }
 
 // The same node with these fields, which are enums beside a column.
-pub fn remade(node: Node, function: Function, column: u8, place: Operand, result: Operand) -> Node {
+pub fn remade(
+    node: Node,
+    function: Function,
+    column: u8,
+    locality: Operand,
+    result: Operand,
+) -> Node {
     let kinds = node.kinds;
     let selector = node.selector;
     let tuple = node.tuple;
@@ -105,7 +111,7 @@ pub fn remade(node: Node, function: Function, column: u8, place: Operand, result
         column,
         columns: node.columns,
         kinds,
-        locality: place,
+        locality,
         selector,
         tuple,
         result,
@@ -141,8 +147,8 @@ pub fn giving(node: Node, tuple: Operands) -> Node {
 // The sum of the second column, bound to variable 5.
 fn aggregate(next: u8) -> Node {
     let d = selecting(placed(22, next), below_forty());
-    let place = d.locality;
-    remade(d, Function::Sum, 1, place, Operand::Formal(5))
+    let locality = d.locality;
+    remade(d, Function::Sum, 1, locality, Operand::Formal(5))
 }
 
 // Text and Int.

@@ -5,10 +5,10 @@ use Rattle.bench.proofs.bench_steps.Statement.{statement}
 use Rattle.bench.proofs.bench_steps.Tie as tie
 
 abbrev Inv-loop : tie.InvT-loop
-Inv-loop tables program kind turns net sum₀ i₀ sum i = Unit {0}
+Inv-loop tables program kind repeats net sum₀ i₀ sum i = Unit {0}
 
 abbrev μ-loop : tie.MeasureT-loop
-μ-loop tables program kind turns net sum₀ i₀ sum i = turns - i
+μ-loop tables program kind repeats net sum₀ i₀ sum i = repeats - i
 
 pub bench-steps-spec : {M : Type 1} → statement M
 bench-steps-spec =

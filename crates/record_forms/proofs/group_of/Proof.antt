@@ -3,7 +3,7 @@ use Prim.Native.Nat.{ℕ, _≤_, _<_}
 use mathlib.Core.Path.{_≡_}
 use native.Mathlib.Omega.{arith}
 use borrow.Author.Tests.{ne-eqb, le-leb, lt-leb}
-use Rattle.record_bytes.specs.Judging.{groupAt}
+use Rattle.record_bytes.specs.RecordKinds.{groupAt}
 use Rattle.record_forms.proofs.group_of.Statement.{statement}
 use Rattle.record_forms.proofs.group_of.Tie as tie
 

@@ -8,11 +8,11 @@ use Rattle.values.proofs.Firsts.{length-firsts}
 use Rattle.values.specs.declared.Slot.{Slot}
 use Rattle.values.specs.Operands.{varsOf, bind}
 use Rattle.rows.specs.declared.Field.{Field}
-use Rattle.rows.specs.declared.Source.{Source}
+use Rattle.rows.specs.declared.Origin.{Origin}
 use Rattle.rows.specs.View.{noField, operandsOf, columnsOf}
-use Rattle.rows.specs.Plans.{sourceKind}
+use Rattle.rows.specs.Plans.{originKind}
 use Rattle.row_change.specs.Changes.{columnFor, kindsOf}
-use Rattle.row_change.proofs.Prepared.{source-kind}
+use Rattle.row_change.proofs.Prepared.{origin-kind}
 use borrow.Author.Needs.{needs}
 use Rattle.row_columns.proofs.column_kind.Statement.{statement}
 use Rattle.row_columns.proofs.column_kind.Tie as tie
@@ -22,9 +22,9 @@ returns-4 c =
     let s = c .before .before .before .before .before in
     let a = s .args in
     let sixteen : length (a .vars) ≡ 16 = search (long, needs) in
-    c .source-kind .ensures
-    ∙ ap (λ (x : Source). sourceKind x (a .kinds)) (c .before .variable-source .ensures)
-    ∙ source-kind (varsOf (a .vars)) (operandsOf (a .template)) (a .template .count) (length-map (a .vars) (λ (x : Slot). x .held) ∙ sixteen) (s .pre .count)
+    c .origin-kind .ensures
+    ∙ ap (λ (x : Origin). originKind x (a .kinds)) (c .before .variable-origin .ensures)
+    ∙ origin-kind (varsOf (a .vars)) (operandsOf (a .template)) (a .template .count) (length-map (a .vars) (λ (x : Slot). x .held) ∙ sixteen) (s .pre .count)
     (length-firsts (λ (f : Field). f .operand) noField (a .template .count) (a .template .fields)) (a .kinds) (c .before .before .before .op .given .0 .0)
     ∙ sym (ap (columnFor (bind (operandsOf (a .template)) (columnsOf (a .template .count) (a .kinds)) (kindsOf (varsOf (a .vars))))) (c .before .before .before .op .given .1))
 

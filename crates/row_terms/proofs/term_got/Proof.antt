@@ -9,12 +9,12 @@ use Rattle.row_terms.proofs.term_got.Statement.{statement}
 use Rattle.row_terms.proofs.term_got.Tie as tie
 
 returns : tie.Need-returns
-returns c = c .source-got .ensures ∙ sym (ap (λ t. termGot t (c .before .before .before .before .args .row .cells)) (c .before .before .t .given .1))
+returns c = c .origin-got .ensures ∙ sym (ap (λ t. termGot t (c .before .before .before .before .args .row .cells)) (c .before .before .t .given .1))
 
 returns-2 : tie.Need-returns-2
 returns-2 c =
     c .plus .ensures
-    ∙ ap₂ add (back w32 (c .before .before .before .t2 .given .0 .1 .0) (record { sfits = c .before .before .known-told2 .given .1 .0 .1 })) (c .before .source-got2 .ensures)
+    ∙ ap₂ add (back w32 (c .before .before .before .t2 .given .0 .1 .0) (record { sfits = c .before .before .known-told2 .given .1 .0 .1 })) (c .before .origin-got2 .ensures)
     ∙ sym (ap (λ t. termGot t (c .before .before .before .before .before .args .row .cells)) (c .before .before .before .t2 .given .1))
 
 pub term-got-spec : {M : Type 1} → statement M

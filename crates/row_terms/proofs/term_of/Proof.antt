@@ -7,7 +7,7 @@ use Rattle.values.specs.declared.Got.the-variants.{Nothing, One}
 use Rattle.values.specs.Operands.{varsOf}
 use Rattle.values.proofs.Ints.{back}
 use Rattle.values.proofs.OperandArms.{other-arm}
-use Rattle.rows.specs.declared.Source.the-variants.{Fixed}
+use Rattle.rows.specs.declared.Origin.the-variants.{Fixed}
 use Rattle.rows.specs.declared.Term.the-variants.{Plain, Shifted}
 use Rattle.rows.specs.View.{operandsOf}
 use Rattle.rows.specs.Plans.{termOf}
@@ -34,12 +34,12 @@ returns-3 c =
 returns-4 : tie.Need-returns-4
 returns-4 c =
     let a = c .before .before .before .before .args in
-    ap Plain (c .variable-source .ensures) ∙ sym (ap (termOf (varsOf (a .vars)) (operandsOf (a .template))) (c .before .before .op4 .given .1))
+    ap Plain (c .variable-origin .ensures) ∙ sym (ap (termOf (varsOf (a .vars)) (operandsOf (a .template))) (c .before .before .op4 .given .1))
 
 returns-5 : tie.Need-returns-5
 returns-5 c =
     let a = c .before .before .before .before .args in
-    ap₂ Shifted (c .variable-source2 .ensures) (back w32 (c .before .before .op5 .given .0 .1 .0) (record { sfits = c .before .known-told5 .given .1 .0 .1 }))
+    ap₂ Shifted (c .variable-origin2 .ensures) (back w32 (c .before .before .op5 .given .0 .1 .0) (record { sfits = c .before .known-told5 .given .1 .0 .1 }))
     ∙ sym (ap (termOf (varsOf (a .vars)) (operandsOf (a .template))) (c .before .before .op5 .given .1))
 
 returns-6 : tie.Need-returns-6

@@ -14,13 +14,13 @@ returns : tie.Need-returns
 returns c =
     let m = c .before in
     let a = m .before .before .before .before .before .before .args in
-    c .said-insert .ensures (m .match .keys1) (a .source) (a .held) (a .tables)
+    c .insert-answer .ensures (a .source) (a .held) (a .tables)
 
 returns-2 : tie.Need-returns-2
 returns-2 c =
     let m = c .before in
     let a = m .before .before .before .before .before .before .args in
-    c .said-append .ensures (m .match .keys2) (a .held) (a .tables)
+    c .insert-table-answer .ensures (a .held) (a .tables)
 
 returns-3 : tie.Need-returns-3
 unfolding kindAt

@@ -112,8 +112,8 @@ returns-5 c w fine flagged source =
       does = λ h x. absurd (loop-no-step (kindAt (met p w .node .kind)) (T-of (isLoop (kindAt (met p w .node .kind))) (sym (l .before .is-loop .ensures) ∙ l .if5 .taken)) x);
     }
 
-decide-act-requires : tie.Need-decide-act-requires
-decide-act-requires c κs =
+decide-step-requires : tie.Need-decide-step-requires
+decide-step-requires c κs =
     let p = passed (c .before) in
     let s = start (p .before) in
     let f = s .pre .1 .facts in
@@ -128,9 +128,9 @@ returns-6 c w fine flagged source =
     let q = u .before .before in
     let p = q .before .before .before in
     record {
-      at = λ n m. c .decide-act .ensures .0 w fine (known p w flagged) (source .source (known p w flagged)) n m (thirteen q w n m) (fourteen u w n m) (fifteen t w n m);
+      at = λ n m. c .decide-step .ensures .0 w fine (known p w flagged) (source .source (known p w flagged)) n m (thirteen q w n m) (fourteen u w n m) (fifteen t w n m);
       known = λ h. known p w flagged;
-      does = λ h x. c .decide-act .ensures .1 h;
+      does = λ h x. c .decide-step .ensures .1 h;
     }
 
 pub decide-spec : {M : Type 1} → statement M
@@ -153,5 +153,5 @@ decide-spec =
     (λ c κs. search needs)
     decide-loop-requires
     returns-5
-    decide-act-requires
+    decide-step-requires
     returns-6)

@@ -38,10 +38,10 @@ use Rattle.step_bytes.specs.AnswerBytes.{answerBytes}
 use Rattle.step_bytes.proofs.AnswerLaws.{putSoFar, put-none, put-more, put-length, put-over}
 use Rattle.step_meets.specs.Situations.{Situation, Rest, moved}
 use Rattle.row_change.specs.Contracts.{Holds}
-use Rattle.step_effect.specs.Contracts.{putsRows, ActReady}
+use Rattle.step_effect.specs.Contracts.{putsRows, StepReady}
 use Rattle.step_thread.specs.Contracts.{Stacked, goesOn, forksOf}
 use Rattle.step_meets.specs.Contracts.{Fine, Sourced, Meets, DecidedIs, partsIn, Made, changed, ChangeIs}
-use Rattle.step_meets.proofs.SituationLaws.{fine-read, fine-bound, sourced, judge-ready, act-ready}
+use Rattle.step_meets.proofs.SituationLaws.{fine-read, fine-bound, sourced, judge-ready, step-ready}
 use Rattle.value_totals.specs.declared.Total.{Total}
 use Rattle.step_effect.specs.TableContracts.{tablesWith}
 use Rattle.step_effect.proofs.KindTies.{either}
@@ -102,7 +102,7 @@ abbrev μ-loop4 : tie.MeasureT-loop4
 
 -- `i` picks are behind: what they left, and their answers in the buffer if there is room for all
 record Behind (picks lent : List ℕ) (count : ℕ) (room : Bool) (from : Net) (out : List ℕ) (r : Reached) (i : ℕ) : Type 0 where
-  gone : CarriedIs from (take i (picksIn picks)) r
+  carried : CarriedIs from (take i (picksIn picks)) r
   put : out ≡ putSoFar room i (answers (view from) (picksIn picks)) lent
   upto : i ≤ count
   size : length out ≡ length lent
@@ -150,7 +150,7 @@ count-is l = let h = picks-length (bytesAt l) in omega (arith, h .0, h .1)
 loop-holds : tie.Need-loop-holds Inv-loop2 μ-loop2 Inv-loop3 μ-loop3 Inv-loop4 μ-loop4 Inv-loop μ-loop
 loop-holds c =
     record {
-      gone = carried-none _ _ _ (c .before .zero .ensures) (c .zero2 .ensures);
+      carried = carried-none _ _ _ (c .before .zero .ensures) (c .zero2 .ensures);
       put = put-none _ _ _;
       upto = omega arith;
       size = refl;
@@ -185,7 +185,7 @@ left-over e = let h = e .before .loop-test .taken in omega (arith, h, count-is (
 
 -- where a pick is left the net is sound
 ok : (e : Picked) → T (sound (view (netAt (atOf e))))
-ok e = let l = atOf e in let h = e .before .loop-test .taken in l .loop .inv .gone .sound (l .before .before .before .before .before .before .pre (omega (arith, h)))
+ok e = let l = atOf e in let h = e .before .loop-test .taken in l .loop .inv .carried .sound (l .before .before .before .before .before .before .pre (omega (arith, h)))
 
 -- the answer has its place
 within : (e : Picked) → T (roomAt (atOf e)) → atOf e .loop .i * 24 + 24 ≤ length (atOf e .loop .out)
@@ -205,10 +205,10 @@ more e {n} {x} {u} {v} {out} t o z =
     let h = e .before .loop-test .taken in
     let at = subst (λ (p : Pick). OnePick (reachedAt l) p (record { net = n; answer = x; added = u; taken = v })) (e .pick-at .ensures) t in
     record {
-      gone = carried-again (fromOf l) (picksAt l) (l .loop .i) noPick (reachedAt l) _ (left-over e) (l .loop .inv .gone) at;
+      carried = carried-again (fromOf l) (picksAt l) (l .loop .i) noPick (reachedAt l) _ (left-over e) (l .loop .inv .carried) at;
       put =
           put-more (roomAt l) (l .loop .i) (answers (view (fromOf l)) (picksAt l)) (lentAt l) (l .loop .out) out (saidOf x) (l .loop .inv .put)
-          (said-here (fromOf l) (picksAt l) (l .loop .i) noPick (reachedAt l) x (left-over e) (l .loop .inv .gone) (at .step .answer)) o;
+          (said-here (fromOf l) (picksAt l) (l .loop .i) noPick (reachedAt l) x (left-over e) (l .loop .inv .carried) (at .step .answer)) o;
       upto = omega (arith, h);
       size = put-length (roomAt l) (l .loop .i) (saidOf x) (l .loop .out) out (within e) o ∙ l .loop .inv .size;
       sized = z;
@@ -520,7 +520,7 @@ room : (c : Told) → (atOf (pickedIn (decidesIn c)) .loop .added .high < 2 ^ 63
 room c =
     let e = pickedIn (decidesIn c) in
     let l = atOf e in
-    carried-room (fromOf l) (picksAt l) (l .loop .i) (reachedAt l) (l .loop .inv .gone) (left-over e) (omega (arith, short l, count-is l))
+    carried-room (fromOf l) (picksAt l) (l .loop .i) (reachedAt l) (l .loop .inv .carried) (left-over e) (omega (arith, short l, count-is l))
 
 add-count-requires : tie.Need-add-count-requires Inv-loop2 μ-loop2 Inv-loop3 μ-loop3 Inv-loop4 μ-loop4 Inv-loop μ-loop
 add-count-requires c κs = room c .0
@@ -529,12 +529,12 @@ add-count-requires-2 : tie.Need-add-count-requires-2 Inv-loop2 μ-loop2 Inv-loop
 add-count-requires-2 c κs = room (c .before) .1
 
 -- what the functions that make tables and relations ask
-ready : (c : Told) → ActReady (situationAt (shownIn c) .node) (situationAt (shownIn c) .content) (sourceOf (decidesIn c)) (situationAt (shownIn c) .thread .vars)
+ready : (c : Told) → StepReady (situationAt (shownIn c) .node) (situationAt (shownIn c) .content) (sourceOf (decidesIn c)) (situationAt (shownIn c) .thread .vars)
 ready c =
     let o = decidesIn c in
     let s = shownOf o in
     let k = decided o .known (does c) in
-    act-ready (situationAt s) (sourceOf o) (source (o .before .before .before) .source k) (fine s) k
+    step-ready (situationAt s) (sourceOf o) (source (o .before .before .before) .source k) (fine s) k
 
 -- ── the thread after it ──
 
@@ -1102,7 +1102,7 @@ returns c =
     let all = all-behind (c .before .before) in
     let room : roomAt l ≡ leb (length (picksAt l) * 24) (length (lentAt l)) = l .before .before .before .has-room .ensures ∙ ap (λ (n : ℕ). leb (n * 24) (length (lentAt l))) (count-is l) in (
       subst (λ (r : Reached). CarriedIs (fromOf l) (picksAt l) r) (handed-on (l .loop .inv .sized))
-          (subst (λ (ps : List Pick). CarriedIs (fromOf l) ps (reachedAt l)) (take-all (l .loop .i) (picksAt l) (omega (arith, all))) (l .loop .inv .gone)),
+          (subst (λ (ps : List Pick). CarriedIs (fromOf l) ps (reachedAt l)) (take-all (l .loop .i) (picksAt l) (omega (arith, all))) (l .loop .inv .carried)),
       put-over (view (fromOf l)) (picksAt l) (roomAt l) (l .loop .i) (lentAt l) _ all room (l .loop .inv .put),
     )
 

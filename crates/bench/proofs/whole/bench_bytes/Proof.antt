@@ -5,10 +5,10 @@ use Rattle.bench.proofs.whole.bench_bytes.Statement.{statement}
 use Rattle.bench.proofs.whole.bench_bytes.Tie as tie
 
 abbrev Inv-loop : tie.InvT-loop
-Inv-loop tables program bytes turns net left₀ sum₀ i₀ left sum i = Unit {0}
+Inv-loop tables program bytes repeats net left₀ sum₀ i₀ left sum i = Unit {0}
 
 abbrev μ-loop : tie.MeasureT-loop
-μ-loop tables program bytes turns net left₀ sum₀ i₀ left sum i = turns - i
+μ-loop tables program bytes repeats net left₀ sum₀ i₀ left sum i = repeats - i
 
 pub bench-bytes-spec : {M : Type 1} → statement M
 bench-bytes-spec =

@@ -5,10 +5,10 @@ use Rattle.bench.proofs.whole.bench_runs.Statement.{statement}
 use Rattle.bench.proofs.whole.bench_runs.Tie as tie
 
 abbrev Inv-loop : tie.InvT-loop
-Inv-loop tables program bytes turns net picks count left₀ sum₀ i₀ left sum i = (count ≤ 100000)
+Inv-loop tables program bytes repeats net picks count left₀ sum₀ i₀ left sum i = (count ≤ 100000)
 
 abbrev μ-loop : tie.MeasureT-loop
-μ-loop tables program bytes turns net picks count left₀ sum₀ i₀ left sum i = turns - i
+μ-loop tables program bytes repeats net picks count left₀ sum₀ i₀ left sum i = repeats - i
 
 pub bench-runs-spec : {M : Type 1} → statement M
 bench-runs-spec =

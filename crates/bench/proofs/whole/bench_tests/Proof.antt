@@ -5,10 +5,10 @@ use Rattle.bench.proofs.whole.bench_tests.Statement.{statement}
 use Rattle.bench.proofs.whole.bench_tests.Tie as tie
 
 abbrev Inv-loop : tie.InvT-loop
-Inv-loop tables program turns net sum₀ i₀ sum i = Unit {0}
+Inv-loop tables program repeats net sum₀ i₀ sum i = Unit {0}
 
 abbrev μ-loop : tie.MeasureT-loop
-μ-loop tables program turns net sum₀ i₀ sum i = turns - i
+μ-loop tables program repeats net sum₀ i₀ sum i = repeats - i
 
 pub bench-tests-spec : {M : Type 1} → statement M
 bench-tests-spec =

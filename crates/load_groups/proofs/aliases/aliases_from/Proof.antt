@@ -21,7 +21,7 @@ use Rattle.nets.specs.View.{noAlias, aliasesOf}
 use Rattle.record_bytes.specs.Bytes.{part, zeros}
 use Rattle.files.proofs.PutLaws.{alias-append}
 use Rattle.load_groups.proofs.AliasLaws.{few-aliases}
-use Rattle.load_walk.proofs.WalkLaws.{Group, withGroup, listChecks, leads-refl, list-stops, list-grows, next-in, next-fits, next-less, gone-on, gone-off, gone-by, passed}
+use Rattle.load_walk.proofs.WalkLaws.{Group, withGroup, listChecks, leads-refl, list-stops, list-grows, next-in, next-fits, next-less, went-on, went-off, went-by, passed}
 use Rattle.load_groups.proofs.aliases.aliases_from.Statement.{statement}
 use Rattle.load_groups.proofs.aliases.aliases_from.Tie as tie
 
@@ -110,7 +110,7 @@ loop-again c =
       one-more (l .aliases) (l .count) _ _ _ _ (i .if2 .left) (f .ensures) (m .ensures) (n .ensures) (l .inv .1) (l .inv .0) _ (c .before .alias-in .ensures),
       list-grows group _ _ _ _ (t .before .next-group .ensures) (l .count) (l .aliases) (l .inv .2) (l .inv .3) (t .if1 .taken) _ (b .record-at .ensures .0) _ _ (m .ensures) (n .ensures) _ (f .ensures) _ _ (i .if2 .left) (l .inv .0)
           (one-left (l .aliases) (l .count) _ _ _ _ (i .if2 .left) (f .ensures) (m .ensures) (n .ensures) (l .inv .1)) (c .before .alias-in .ensures),
-      search (gone-on 1 pos),
+      search (went-on 1 pos),
     )
 
 pub aliases-from-spec : {M : Type 1} → statement M
@@ -126,7 +126,7 @@ aliases-from-spec =
     (λ c κs. search needs)
     (λ c κs. search needs)
     (λ c κs. search needs)
-    (λ c. search (list-stops group, gone-off 1 pos))
+    (λ c. search (list-stops group, went-off 1 pos))
     (λ c κs. search needs)
     (λ c. omega arith)
     (λ c. search one-left)
@@ -134,4 +134,4 @@ aliases-from-spec =
     (λ c. search (next-fits 1 pos))
     (λ c. search (next-less 1 pos))
     loop-again
-    (λ c. search (gone-by 1)))
+    (λ c. search (went-by 1)))

@@ -22,7 +22,7 @@ use Rattle.nets.specs.Steps.{check}
 use Rattle.nets.specs.View.{tableOf}
 use Rattle.record_bytes.specs.Bytes.{part, operandsIn}
 use Rattle.record_bytes.specs.Decoding.{rowIn, rowForm}
-use Rattle.load_walk.specs.Walking.{numberOf, formThen}
+use Rattle.load_walk.specs.Walking.{firstFailing, formThen}
 use Rattle.load_walk.proofs.FormLaws.{unformed}
 use Rattle.load_groups.proofs.RowLaws.{row-fits}
 use borrow.Author.Needs.{needs}
@@ -37,13 +37,13 @@ constants bs b e h =
 
 module _ (t : Table) (bs : List ℕ) (d : Draft) (given : draftOf d ≡ map (eval []) (operandsIn (part 56 88 bs))) where
   judged : (b : Bool) (f : ℕ) → b ≡ rowForm bs → b ≡ true →
-      f ≡ numberOf (check 7 (fits (relationOf (t .content) .columns) (draftOf d)) ∷ check 8 (ltb (length (relationOf (t .content) .rows)) 16) ∷ []) →
+      f ≡ firstFailing (check 7 (fits (relationOf (t .content) .columns) (draftOf d)) ∷ check 8 (ltb (length (relationOf (t .content) .rows)) 16) ∷ []) →
       f ≡ formThen (rowForm bs) (check 7 (fitsRow (relationOf (t .content) .columns) (rowIn (part 56 88 bs))) ∷ check 8 (ltb (length (relationOf (t .content) .rows)) 16) ∷ [])
   unfolding formThen
   judged b f e h z = rw (sym e, h, row-fits (relationOf (t .content) .columns) (part 56 88 bs) d given (constants bs b e h)) z
 
   passed : (b : Bool) (f : ℕ) → b ≡ rowForm bs → b ≡ true → f ≡ 0 →
-      f ≡ numberOf (check 7 (fits (relationOf (t .content) .columns) (draftOf d)) ∷ check 8 (ltb (length (relationOf (t .content) .rows)) 16) ∷ []) →
+      f ≡ firstFailing (check 7 (fits (relationOf (t .content) .columns) (draftOf d)) ∷ check 8 (ltb (length (relationOf (t .content) .rows)) 16) ∷ []) →
       0 ≡ formThen (rowForm bs) (check 7 (fitsRow (relationOf (t .content) .columns) (rowIn (part 56 88 bs))) ∷ check 8 (ltb (length (relationOf (t .content) .rows)) 16) ∷ [])
   passed b f e h y z = sym y ∙ judged b f e h z
 

@@ -22,7 +22,7 @@ use Rattle.load_walk.specs.Walking.{recordAt, putTables, AllShaped, Leads, grou
 use Rattle.load_walk.proofs.PlaceTies.{other-shaped}
 use Rattle.load_groups.proofs.RowTies as at-place
 use Rattle.load_groups.proofs.RowTies.{rowChecks}
-use Rattle.load_walk.proofs.WalkLaws.{withGroup, past, stop, leads-trans, leads-refl, leads-on, leads-off, next-in, next-fits, next-less, gone-on, gone-off, gone-by}
+use Rattle.load_walk.proofs.WalkLaws.{withGroup, past, stop, leads-trans, leads-refl, leads-on, leads-off, next-in, next-fits, next-less, went-on, went-off, went-by}
 use Rattle.load_groups.proofs.contents.rows_from.Statement.{statement}
 use Rattle.load_groups.proofs.contents.rows_from.Tie as tie
 
@@ -40,7 +40,7 @@ module _ (g : ℕ) (ts : List M.Table) (s : Site) (n : ℕ) (x : Row) (l : Progr
   unfolding advance put
   added = rw (append-nil (l .picks))
 
--- ── a turn ──
+-- ── one record ──
 
 abbrev row : List ℕ → Row
 row bs = rowIn (part 56 88 bs)
@@ -56,7 +56,7 @@ module _ (file : List ℕ) (from r : Reach) (n : ℕ) (e : n ≡ groupNext file 
       subst (λ (v : TablesRead). Leads file from (v .reach) p (putTables (tablesOf (v .count) (v .tables))) × Going file 4 (v .reach) × (v .count ≤ 8)) (sym same) (
         leads-trans file from r (stop r 3 f) _ _ _ h
             (leads-off 3 pos file r n e e′ g (putTables (tablesOf c ts)) _ _ _ refl (λ l. same-checks (r .group) (tablesOf c ts) _ _ _ l (g .group)) _ f fault k),
-        gone-off 3 pos file r n e e′ g f k,
+        went-off 3 pos file r n e e′ g f k,
         few,
       )
 
@@ -115,7 +115,7 @@ loop-again c =
       on _ _ _ _ (t .before .next-group .ensures) (t .if1 .taken) (l .inv .3) (a .read .count) _ (l .tables) _ (b .record-at .ensures .0) _
           (at-place.found (l .tables) _ _ _ _ (u .before .row-place .ensures) (u .if2 .left) _ x _ (k .ensures .0))
           (l .inv .2) (set (l .tables) (u .before .row-place .result) (k .result .table)) y (at-place.added (l .tables) _ _ _ _ (u .before .row-place .ensures) (u .if2 .left) x (k .result .table) r (k .ensures .1 y)),
-      search (gone-on 3 pos),
+      search (went-on 3 pos),
     )
 
 pub rows-from-spec : {M : Type 1} → statement M
@@ -141,4 +141,4 @@ rows-from-spec =
     (λ c. search (next-fits 3 pos))
     (λ c. search (next-less 3 pos))
     loop-again
-    (λ c. let l = c .before .before .loop in (l .inv .2, search (gone-by 3), l .inv .1 .0)))
+    (λ c. let l = c .before .before .loop in (l .inv .2, search (went-by 3), l .inv .1 .0)))

@@ -14,7 +14,7 @@ use Rattle.load_walk.specs.Walking.{Leads, Going, putNodes}
 use Rattle.nets.specs.declared.Node.{Node}
 use Rattle.nets.specs.Nets as M
 use Rattle.nets.specs.View.{noNode, nodeOf, nodesOf}
-use Rattle.load_walk.proofs.WalkLaws.{Group, withGroup, listChecks, leads-refl, list-stops, list-grows, next-in, next-fits, next-less, gone-on, gone-off, gone-by, room-left, room-after}
+use Rattle.load_walk.proofs.WalkLaws.{Group, withGroup, listChecks, leads-refl, list-stops, list-grows, next-in, next-fits, next-less, went-on, went-off, went-by, room-left, room-after}
 use Rattle.load_groups.proofs.nodes.nodes_from.Statement.{statement}
 use Rattle.load_groups.proofs.nodes.nodes_from.Tie as tie
 
@@ -70,7 +70,7 @@ loop-again c =
       search room-after,
       list-grows group _ _ _ _ (t .before .next-group .ensures) (l .count) (l .nodes) (l .inv .2) (l .inv .3) (t .if1 .taken) _ (b .record-at .ensures .0) _ _ (d .ensures .0) refl _ (f .ensures) _ _ (i .if2 .left) (l .inv .0)
           (room-left _ _ _ _ _ (i .if2 .left) (f .ensures)) (d .ensures .1),
-      search (gone-on 4 pos),
+      search (went-on 4 pos),
     )
 
 pub nodes-from-spec : {M : Type 1} → statement M
@@ -85,11 +85,11 @@ nodes-from-spec =
     (λ c κs. search (next-in 4 pos))
     (λ c κs. search needs)
     (λ c κs. search needs)
-    (λ c. search (list-stops group, gone-off 4 pos))
+    (λ c. search (list-stops group, went-off 4 pos))
     (λ c. omega arith)
     (λ c. search room-left)
     (λ c. omega arith)
     (λ c. search (next-fits 4 pos))
     (λ c. search (next-less 4 pos))
     loop-again
-    (λ c. search (gone-by 4)))
+    (λ c. search (went-by 4)))

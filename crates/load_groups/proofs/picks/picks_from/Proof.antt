@@ -14,7 +14,7 @@ use Rattle.load_walk.specs.Walking.{Leads, groupNext, Going, putPicks}
 use Rattle.nets.specs.declared.Pick.{Pick}
 use Rattle.nets.specs.View.{noPick}
 use Rattle.files.specs.Engine.{firstPicks}
-use Rattle.load_walk.proofs.WalkLaws.{Group, withGroup, listChecks, leads-refl, list-stops, list-grows, next-in, next-fits, next-less, gone-on, gone-off, gone-by}
+use Rattle.load_walk.proofs.WalkLaws.{Group, withGroup, listChecks, leads-refl, list-stops, list-grows, next-in, next-fits, next-less, went-on, went-off, went-by}
 use Rattle.load_groups.proofs.picks.picks_from.Statement.{statement}
 use Rattle.load_groups.proofs.picks.picks_from.Tie as tie
 
@@ -73,7 +73,7 @@ loop-again c =
       omega (arith, l .inv .1),
       list-grows group _ _ _ _ (t .before .next-group .ensures) (l .count) (l .picks) (l .inv .2) (l .inv .3) (t .if1 .taken) _ (b .record-at .ensures .0) _ _ (i .before .before .pick-form .ensures) refl _ (f .ensures) _ _ (i .if2 .left) (l .inv .0)
           (below-256 _ _ _ _ (t .before .next-group .ensures) (t .if1 .taken) (l .inv .3) (l .inv .1)) (c .before .pick-in .ensures),
-      search (gone-on 6 pos),
+      search (went-on 6 pos),
     )
 
 pub picks-from-spec : {M : Type 1} → statement M
@@ -87,7 +87,7 @@ picks-from-spec =
     (λ c κs. search (next-in 6 pos))
     (λ c κs. search needs)
     (λ c κs. search needs)
-    (λ c. search (list-stops group, gone-off 6 pos))
+    (λ c. search (list-stops group, went-off 6 pos))
     (λ c κs. search needs)
     (λ c. omega arith)
     (λ c. search below-256)
@@ -95,4 +95,4 @@ picks-from-spec =
     (λ c. search (next-fits 6 pos))
     (λ c. search (next-less 6 pos))
     loop-again
-    (λ c. search (gone-by 6)))
+    (λ c. search (went-by 6)))

@@ -15,7 +15,7 @@ use Rattle.nets.specs.declared.Thread.{Thread}
 use Rattle.nets.specs.Nets as M
 use Rattle.nets.specs.View.{noThread, threadOf, threadsOf}
 use Rattle.record_bytes.specs.Bytes.{at}
-use Rattle.load_walk.proofs.WalkLaws.{Group, withGroup, listChecks, leads-refl, list-stops, list-grows, next-in, next-fits, next-less, gone-on, gone-off, gone-by, room-left, room-after}
+use Rattle.load_walk.proofs.WalkLaws.{Group, withGroup, listChecks, leads-refl, list-stops, list-grows, next-in, next-fits, next-less, went-on, went-off, went-by, room-left, room-after}
 use Rattle.load_groups.proofs.starts.starts_from.Statement.{statement}
 use Rattle.load_groups.proofs.starts.starts_from.Tie as tie
 
@@ -70,7 +70,7 @@ loop-again c =
       search room-after,
       list-grows group _ _ _ _ (t .before .next-group .ensures) (l .count) (l .threads) (l .inv .2) (l .inv .3) (t .if1 .taken) _ (b .record-at .ensures .0) _ _ (i .before .before .start-form .ensures) refl _ (f .ensures) _ _ (i .if2 .left) (l .inv .0)
           (room-left _ _ _ _ _ (i .if2 .left) (f .ensures)) (c .before .start-in .ensures),
-      search (gone-on 5 pos),
+      search (went-on 5 pos),
     )
 
 pub starts-from-spec : {M : Type 1} → statement M
@@ -85,7 +85,7 @@ starts-from-spec =
     (λ c κs. search (next-in 5 pos))
     (λ c κs. search needs)
     (λ c κs. search needs)
-    (λ c. search (list-stops group, gone-off 5 pos))
+    (λ c. search (list-stops group, went-off 5 pos))
     (λ c κs. search needs)
     (λ c. omega arith)
     (λ c. search room-left)
@@ -93,4 +93,4 @@ starts-from-spec =
     (λ c. search (next-fits 5 pos))
     (λ c. search (next-less 5 pos))
     loop-again
-    (λ c. search (gone-by 5)))
+    (λ c. search (went-by 5)))

@@ -13,7 +13,7 @@ use Rattle.rows.specs.declared.Relation.{Relation}
 use Rattle.rows.specs.Fit.{fits}
 use Rattle.rows.specs.View.{noRow, valuesOf, relationOf, draftOf}
 use Rattle.nets.specs.Steps.{Check, check}
-use Rattle.load_walk.specs.Walking.{numberOf}
+use Rattle.load_walk.specs.Walking.{firstFailing}
 use Rattle.load_walk.proofs.contents.content_fault.Statement.{statement}
 use Rattle.load_walk.proofs.contents.content_fault.Tie as tie
 
@@ -24,13 +24,13 @@ module _ (r : Relation) (d : Draft) (b : Bool) (e : b ≡ fits (relationOf r .co
   counted : length (relationOf r .rows) ≡ r .count
   counted = length-firsts (valuesOf (r .columns)) noRow (r .count) (r .rows)
 
-  misfit : b ≡ false → 7 ≡ numberOf checks
+  misfit : b ≡ false → 7 ≡ firstFailing checks
   misfit h = rw (sym e, h)
 
-  fine : b ≡ true → r .count < 16 → 0 ≡ numberOf checks
+  fine : b ≡ true → r .count < 16 → 0 ≡ firstFailing checks
   fine h l = rw (sym e, h, counted, lt-ltb (r .count) 16 l)
 
-  full : b ≡ true → 16 ≤ r .count → 8 ≡ numberOf checks
+  full : b ≡ true → 16 ≤ r .count → 8 ≡ firstFailing checks
   full h l = rw (sym e, h, counted, le-ltb (r .count) 16 l)
 
 pub content-fault-spec : {M : Type 1} → statement M

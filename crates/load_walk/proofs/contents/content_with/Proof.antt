@@ -21,16 +21,16 @@ use Rattle.rows.specs.View.{noRow, noSlot, valuesOf, relationOf, draftOf}
 use Rattle.row_change.specs.Contracts.{Holds}
 use Rattle.row_change.proofs.Prepared.{fits-long, fits-got, row-given}
 use Rattle.nets.specs.Steps.{check}
-use Rattle.load_walk.specs.Walking.{numberOf}
+use Rattle.load_walk.specs.Walking.{firstFailing}
 use Rattle.load_walk.proofs.contents.content_with.Statement.{statement}
 use Rattle.load_walk.proofs.contents.content_with.Tie as tie
 
-both-pass : (a b : Bool) → numberOf (check 7 a ∷ check 8 b ∷ []) ≡ 0 → (a ≡ true) × (b ≡ true)
+both-pass : (a b : Bool) → firstFailing (check 7 a ∷ check 8 b ∷ []) ≡ 0 → (a ≡ true) × (b ≡ true)
 both-pass true true h = (refl, refl)
 both-pass true false h = absurd (omega arith)
 both-pass false b h = absurd (omega arith)
 
-module _ (r : Relation) (d : Draft) (z : numberOf (check 7 (fits (relationOf r .columns) (draftOf d)) ∷ check 8 (ltb (length (relationOf r .rows)) 16) ∷ []) ≡ 0) where
+module _ (r : Relation) (d : Draft) (z : firstFailing (check 7 (fits (relationOf r .columns) (draftOf d)) ∷ check 8 (ltb (length (relationOf r .rows)) 16) ∷ []) ≡ 0) where
   passed : (fits (relationOf r .columns) (draftOf d) ≡ true) × (ltb (length (relationOf r .rows)) 16 ≡ true)
   passed = both-pass (fits (relationOf r .columns) (draftOf d)) (ltb (length (relationOf r .rows)) 16) z
 

@@ -18,7 +18,7 @@ use Rattle.record_bytes.specs.Decoding.{Record, tableRecord, wholeRecords, site
 use Rattle.files.specs.Loading.{Progress, loadChecks, failing, bare, put, advance}
 use Rattle.load_walk.specs.Walking.{putTables, AllShaped, Leads, Going}
 use Rattle.load_walk.proofs.PlaceTies.{more-shaped}
-use Rattle.load_walk.proofs.WalkLaws.{Group, withGroup, listChecks, leads-refl, list-stops, list-grows, next-in, next-fits, next-less, gone-on, gone-off, gone-by, room-left}
+use Rattle.load_walk.proofs.WalkLaws.{Group, withGroup, listChecks, leads-refl, list-stops, list-grows, next-in, next-fits, next-less, went-on, went-off, went-by, room-left}
 use Rattle.load_walk.proofs.tables.tables_from.Statement.{statement}
 use Rattle.load_walk.proofs.tables.tables_from.Tie as tie
 
@@ -78,7 +78,7 @@ loop-again c =
       more-shaped (l .tables) (l .count) _ (omega (arith, l .inv .0, room)) (c .before .table-in .ensures .1) room (l .inv .1),
       list-grows tables _ _ _ _ (t .before .next-group .ensures) (l .count) (l .tables) (l .inv .2) (l .inv .3) (t .if1 .taken) _ (b .record-at .ensures .0) _ _
           (i .before .before .before .table-form .ensures) (i .before .before .table-new .ensures) _ (f .ensures) _ _ (i .if2 .left) (l .inv .0) room (c .before .table-in .ensures .0),
-      search (gone-on 2 pos),
+      search (went-on 2 pos),
     )
 
 pub tables-from-spec : {M : Type 1} → statement M
@@ -94,7 +94,7 @@ tables-from-spec =
     (λ c κs. search needs)
     (λ c κs. search needs)
     (λ c κs. search needs)
-    (λ c. search (list-stops tables, gone-off 2 pos))
+    (λ c. search (list-stops tables, went-off 2 pos))
     (λ c κs. search needs)
     (λ c. omega arith)
     (λ c. search room-left)
@@ -102,4 +102,4 @@ tables-from-spec =
     (λ c. search (next-fits 2 pos))
     (λ c. search (next-less 2 pos))
     loop-again
-    (λ c. search (gone-by 2)))
+    (λ c. search (went-by 2)))

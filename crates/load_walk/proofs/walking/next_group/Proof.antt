@@ -5,7 +5,7 @@ use mathlib.Core.List.{List}
 use lib.ListN.{length}
 use borrow.Author.Tests.{eq-eqb, ne-eqb, lt-ltb, le-ltb}
 use Rattle.record_bytes.specs.Bytes.{at}
-use Rattle.record_bytes.specs.Judging.{groupAt}
+use Rattle.record_bytes.specs.RecordKinds.{groupAt}
 use Rattle.load_walk.specs.declared.Reach.{Reach}
 use Rattle.load_walk.specs.Walking.{recordAt, groupNext}
 use borrow.Author.Needs.{needs}

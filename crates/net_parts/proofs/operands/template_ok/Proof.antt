@@ -16,7 +16,7 @@ use Rattle.rows.specs.declared.Field.{Field}
 use Rattle.rows.specs.declared.Operands.{Operands}
 use Rattle.rows.specs.View.{noField, operandsOf}
 use Rattle.nets.specs.Sound.{tagged, operandsOk, differ, templateOk}
-use Rattle.net_parts.specs.SoundParts.{formalPlace}
+use Rattle.net_parts.specs.SoundParts.{formalVariable}
 use Rattle.net_parts.proofs.Counts.{operands-count}
 use Rattle.net_parts.proofs.DistinctLaws.{operandTest, operands-are}
 use Rattle.net_parts.proofs.MarkLaws.{tails-dropped, Held, none-held, formal-low, one-held, held-twice}
@@ -27,7 +27,7 @@ use Rattle.net_parts.proofs.operands.template_ok.Tie as tie
 no-template : (t : Operands) → false ≡ operandsOk 6 (operandsOf t) → false ≡ templateOk (operandsOf t)
 no-template t e = ap (λ (b : Bool). b && differ (formals (operandsOf t))) e
 
-low : (o : Operand) {t : Bool} {n : ℕ} → t ≡ tagged 6 o → t ≡ true → n ≡ formalPlace o → n < 17
+low : (o : Operand) {t : Bool} {n : ℕ} → t ≡ tagged 6 o → t ≡ true → n ≡ formalVariable o → n < 17
 low o q y e = omega (arith, e, formal-low o (sym q ∙ y))
 
 start : (t : Operands) → Held (replicate 17 false) (drop (t .count) (operandsOf t))
@@ -61,7 +61,7 @@ module _ (t : Operands) (s : t .count ≡ 0 → ⊥) (f : t .count ≤ 4) where
       wrong : x ≡ false → false ≡ templateOk (operandsOf t)
       wrong y = fails (rw (sym q ∙ y))
 
-      module _ {seen : List Bool} (p : Held seen (drop i (operandsOf t))) (y : x ≡ true) {at : ℕ} (e : at ≡ formalPlace op) where
+      module _ {seen : List Bool} (p : Held seen (drop i (operandsOf t))) (y : x ≡ true) {at : ℕ} (e : at ≡ formalVariable op) where
         twice : getD seen at false ≡ true → false ≡ templateOk (operandsOf t)
         twice z = fails (held-twice p op (sym q ∙ y) (ap (λ (j : ℕ). getD seen j false) (sym e) ∙ z))
 
@@ -90,26 +90,26 @@ array-read : tie.Need-array-read-if4 Inv-loop μ-loop
 array-read c =
     let t = c .before .before .before .before .before .before .before .before .args .t1 in
     let l = c .before .before .before .before .before .loop in
-    low (getD (t .fields) (l .i - 1) noField .operand) (c .before .before .tagged .ensures) (c .before .if3 .taken) (c .formal-place .ensures)
+    low (getD (t .fields) (l .i - 1) noField .operand) (c .before .before .tagged .ensures) (c .before .if3 .taken) (c .formal-variable .ensures)
 
 returns-3 : tie.Need-returns-3 Inv-loop μ-loop
 returns-3 c =
     let t = c .before .before .before .before .before .before .before .before .before .args .t1 in
     let l = c .before .before .before .before .before .before .loop in
-    twice t (search needs) (search needs) (l .i) (search needs) (l .inv .0) (c .before .before .before .tagged .ensures) (l .inv .1) (c .before .before .if3 .taken) (c .before .formal-place .ensures) (c .if4 .taken)
+    twice t (search needs) (search needs) (l .i) (search needs) (l .inv .0) (c .before .before .before .tagged .ensures) (l .inv .1) (c .before .before .if3 .taken) (c .before .formal-variable .ensures) (c .if4 .taken)
 
 array-write : tie.Need-array-write-seen Inv-loop μ-loop
 array-write c =
     let t = c .before .before .before .before .before .before .before .before .before .args .t1 in
     let l = c .before .before .before .before .before .before .loop in
-    low (getD (t .fields) (l .i - 1) noField .operand) (c .before .before .before .tagged .ensures) (c .before .before .if3 .taken) (c .before .formal-place .ensures)
+    low (getD (t .fields) (l .i - 1) noField .operand) (c .before .before .before .tagged .ensures) (c .before .before .if3 .taken) (c .before .formal-variable .ensures)
 
 loop-again : tie.Need-loop-again Inv-loop μ-loop
 loop-again c =
     let t = c .before .before .before .before .before .before .before .before .before .args .t1 in
     let l = c .before .before .before .before .before .before .loop in (
       search needs,
-      more t (search needs) (search needs) (l .i) (search needs) (l .inv .0) (c .before .before .before .tagged .ensures) (l .inv .1) (c .before .before .if3 .taken) (c .before .formal-place .ensures) (c .if4 .left),
+      more t (search needs) (search needs) (l .i) (search needs) (l .inv .0) (c .before .before .before .tagged .ensures) (l .inv .1) (c .before .before .if3 .taken) (c .before .formal-variable .ensures) (c .if4 .left),
     )
 
 returns-4 : tie.Need-returns-4 Inv-loop μ-loop

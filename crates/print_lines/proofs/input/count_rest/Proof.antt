@@ -5,10 +5,10 @@ use Rattle.print_lines.proofs.input.count_rest.Statement.{statement}
 use Rattle.print_lines.proofs.input.count_rest.Tie as tie
 
 abbrev Inv-loop : tie.InvT-loop
-Inv-loop space₀ total₀ turns₀ space total turns = (total + turns * 65536 ≤ 72057594037927936)
+Inv-loop space₀ total₀ turns₀ space total tries = (total + tries * 65536 ≤ 72057594037927936)
 
 abbrev μ-loop : tie.MeasureT-loop
-μ-loop space₀ total₀ turns₀ space total turns = turns
+μ-loop space₀ total₀ turns₀ space total tries = tries
 
 pub count-rest-spec : {M : Type 1} → statement M
 count-rest-spec =

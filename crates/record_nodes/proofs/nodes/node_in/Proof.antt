@@ -13,7 +13,7 @@ use Rattle.nets.specs.Nets.{isCreate, isAggregate, Node}
 use Rattle.nets.specs.View.{kindAt}
 use Rattle.record_bytes.specs.Bytes.{at, part, operandIn, operandsIn, columnsIn, functionAt}
 use Rattle.record_bytes.specs.Decoding.{nameIn, nodeIn}
-use Rattle.record_bytes.specs.Judging.{selectorIn}
+use Rattle.record_bytes.specs.RecordKinds.{selectorIn}
 use borrow.Author.Needs.{needs}
 use Rattle.record_nodes.proofs.nodes.node_in.Statement.{statement}
 use Rattle.record_nodes.proofs.nodes.node_in.Tie as tie

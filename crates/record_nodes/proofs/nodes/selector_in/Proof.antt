@@ -6,7 +6,7 @@ use Rattle.values.specs.declared.Operand.{Operand}
 use Rattle.rows.specs.declared.Test.{Test}
 use Rattle.rows.specs.Relations.{Selector}
 use Rattle.record_bytes.specs.Bytes.{at, part, operandIn, operandsIn, testAt}
-use Rattle.record_bytes.specs.Judging.{selectorIn}
+use Rattle.record_bytes.specs.RecordKinds.{selectorIn}
 use borrow.Author.Needs.{needs}
 use Rattle.record_nodes.proofs.nodes.selector_in.Statement.{statement}
 use Rattle.record_nodes.proofs.nodes.selector_in.Tie as tie

@@ -7,7 +7,7 @@ use Rattle.nets.specs.Sound.{sound}
 use Rattle.nets.specs.View.{view}
 use Rattle.step_bytes.specs.PickBytes.{picksIn}
 use Rattle.runs.specs.Runs.{RunIs}
-use Rattle.runs.proofs.BytesLaws.{lent-long, lent-sure, lent-picks, run-gone}
+use Rattle.runs.proofs.BytesLaws.{lent-long, lent-sure, lent-picks, run-carried}
 use Rattle.runs.proofs.bytes.run_bytes.Statement.{statement}
 use Rattle.runs.proofs.bytes.run_bytes.Tie as tie
 
@@ -36,7 +36,7 @@ returns c =
     let a = start t .args in
     let flag = t .sound-parts .result in
     subst (λ (m : Net). RunIs (a .net) (picksIn (a .picks .now)) (record { net = m; sound = flag; added = g .result .added; taken = g .result .taken })) (sym (l .left-by .ensures))
-    (run-gone (a .net) (picksIn (a .picks .now)) _ _ flag (t .sound-parts .ensures) (lent-picks (a .picks .now) flag (n .count-if .ensures)) (g .ensures .0))
+    (run-carried (a .net) (picksIn (a .picks .now)) _ _ flag (t .sound-parts .ensures) (lent-picks (a .picks .now) flag (n .count-if .ensures)) (g .ensures .0))
 
 pub run-bytes-spec : {M : Type 1} → statement M
 run-bytes-spec =

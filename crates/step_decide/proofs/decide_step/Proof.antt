@@ -1,23 +1,23 @@
--- `step_decide::decide_act` meets its contract: the answer is the step's, and a done one changes what the step changes. Assumes nothing.
+-- `step_decide::decide_step` meets its contract: the answer is the step's, and a done one changes what the step changes. Assumes nothing.
 use mathlib.Core.Path.{_≡_, ap, sym, subst, _∙_}
 use lib.Dec.{T}
 use borrow.Author.Needs.{needs}
 use Rattle.values.specs.Operands.{varsOf}
 use Rattle.nets.specs.Answers.{Said, isDoing, stepSaid, saidOf}
-use Rattle.step_effect.specs.Contracts.{partsOf, Doing, ActReady}
+use Rattle.step_effect.specs.Contracts.{partsOf, Doing, StepReady}
 use Rattle.step_meets.specs.Situations.{Situation, situation, Rest, whole}
-use Rattle.step_meets.proofs.SituationLaws.{source-met, known-12, act-ready}
+use Rattle.step_meets.proofs.SituationLaws.{source-met, known-12, step-ready}
 use Rattle.step_meets.proofs.DecideLaws.{never-done, refused-at, done-parts, act-answers, act-change}
 use Rattle.step_meets.proofs.MovedLaws.{goes-on}
-use Rattle.step_decide.proofs.decide_act.Statement.{statement}
-use Rattle.step_decide.proofs.decide_act.Tie as tie
+use Rattle.step_decide.proofs.decide_step.Statement.{statement}
+use Rattle.step_decide.proofs.decide_step.Tie as tie
 
 abbrev met : tie.Start → Rest → Situation
 met s w = let a = s .args in situation (whole (a .vars) (a .depth) w) (a .frame) (a .node) (a .content) (a .s)
 
 -- what the step's own functions ask for
-ready : (s : tie.Start) → ActReady (s .args .node) (s .args .content) (s .args .source) (s .args .vars)
-ready s = let f = s .pre .2 .facts in act-ready (met s (s .pre .2 .rest)) (s .args .source) (f .2) (f .0) (f .1)
+ready : (s : tie.Start) → StepReady (s .args .node) (s .args .content) (s .args .source) (s .args .vars)
+ready s = let f = s .pre .2 .facts in step-ready (met s (s .pre .2 .rest)) (s .args .source) (f .2) (f .0) (f .1)
 
 says-requires : tie.Need-says-requires
 says-requires c κs =
@@ -72,8 +72,8 @@ returns-2 c =
       λ h. does (v .before),
     )
 
-pub decide-act-spec : {M : Type 1} → statement M
-decide-act-spec =
+pub decide-step-spec : {M : Type 1} → statement M
+decide-step-spec =
     tie.close
     (tie.spec
     says-requires
