@@ -75,14 +75,14 @@ fn renewed(terms: Terms, columns: usize, kinds: [u8; 4], row: Row) -> Renewed
     requires { ⌜ (columns ≤ 4) × (terms .count ≤ 4) ⌝ }
     ensures { λ o. ⌜ RenewedIs terms columns kinds row o ⌝ }
 {
-    let place0 = terms.components[0];
-    let place1 = terms.components[1];
-    let place2 = terms.components[2];
-    let place3 = terms.components[3];
-    let term0 = place0.term;
-    let term1 = place1.term;
-    let term2 = place2.term;
-    let term3 = place3.term;
+    let component0 = terms.components[0];
+    let component1 = terms.components[1];
+    let component2 = terms.components[2];
+    let component3 = terms.components[3];
+    let term0 = component0.term;
+    let term1 = component1.term;
+    let term2 = component2.term;
+    let term3 = component3.term;
     let made0 = made(term0, row, kinds[0]);
     let made1 = made(term1, row, kinds[1]);
     let made2 = made(term2, row, kinds[2]);
@@ -106,7 +106,7 @@ fn renewed(terms: Terms, columns: usize, kinds: [u8; 4], row: Row) -> Renewed
 
 // ---- the pass
 
-// A row that the plan selects is marked. With drafts it gives way to what t gives for it, and is marked only if that fits, unless `any` says that it need not.
+// A row that the plan selects is marked. For update and select (`drafts`) it gives way to what t gives for it; an update marks it only if that fits, a select (`any`) always.
 fn judge(
     plan: Plan,
     drafts: bool,
