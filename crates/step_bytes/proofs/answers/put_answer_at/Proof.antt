@@ -30,7 +30,7 @@ add-put-answer : tie.Need-add-put-answer
 add-put-answer c = record { fits = omega (arith, within c) }
 
 part-put-answer-end : tie.Need-part-put-answer-end
-part-put-answer-end c = within c
+part-put-answer-end c = omega (arith, within c)
 
 put : (room : Bool) (i : ℕ) (a : Answer) (o ys : List ℕ) → room ≡ true → ys ≡ answerBytes (saidOf a) →
     putMid (i * 24) (i * 24 + 24 - i * 24) o ys ≡ cond room (putAt (i * 24) (answerBytes (saidOf a)) o) o
