@@ -1,16 +1,17 @@
 // Relations in their ranges, and the tables and table variables that hold them.
 use crate::Extent;
-use crate::ranges::in_range;
 use crate::ranges::is_text;
+use crate::ranges::locality_ok;
 use crate::ranges::site_ok;
 use nets::Table;
 use nets::TableVariable;
 use rows::Cell;
 use rows::Relation;
 use rows::Row;
-use rows::fits_column;
+use values::Value;
 use values::kinds::INT;
 use values::kinds::LOC;
+use values::kinds::TEXT;
 ghost use mathlib.Core.Path.{_≡_};
 ghost use mathlib.Core.Bool.{_&&_};
 ghost use mathlib.Core.List.{List};
@@ -51,12 +52,17 @@ pub fn columns_ok(columns: usize, kinds: [u8; 4]) -> bool
     true
 }
 
-// A value of its column's kind, in range.
+// A value of its column's kind, in range. One match for both, in place of `fits_column` and `in_range`: it is asked of every cell at each step, and
+// two matches cost a step 4 %. Any i32 is in range; its arm binds it so that the proof has its bounds.
 fn cell_ok(kind: u8, c: Cell) -> bool
     ensures { λ r. ⌜ r ≡ cellOk kind (c .value) ⌝ }
 {
     let v = c.value;
-    fits_column(kind, v) & in_range(v)
+    match v {
+        Value::Int(_i) => kind == INT,
+        Value::Text(t) => (kind == TEXT) & is_text(t),
+        Value::Loc(l) => (kind == LOC) & locality_ok(l),
+    }
 }
 
 // Fixed places, so that the row is read where it stands.
