@@ -34,18 +34,18 @@ use Rattle.call_rules.specs.declared.Opened.{Opened}
 use Rattle.value_bytes.specs.Bytes.{putAll}
 use Rattle.step_bytes.specs.PickBytes.{picksIn}
 use Rattle.call_rules.specs.Calls.{Called, refusing, putting, ifRoom, onLoaded, called, Gives}
-use Rattle.call_rules.specs.Openings.{openingBy, refusalReply, judged, OpenIs, replyTo}
+use Rattle.call_rules.specs.Openings.{openingBy, refusalReply, openingGives, OpenIs, replyTo}
 
 abbrev told : Option L.Fault → Called
 told none = refusing 0 0
 told (some f) = refusing (f .number) (f .place)
 
 -- the verdict of loading is the rule's
-judged-loaded : (v : Verdict) (x : LoadAnswer) (bytes : Net → List ℕ) (buffer : List ℕ) → faultIn v ≡ faultOf x → onLoaded bytes buffer x ≡ judged (openingBy v) (bytes (netLoaded x)) buffer
-judged-loaded verdict.Accepted (accepted net own) bytes buffer e = refl
-judged-loaded (verdict.Fault n i) (rejected m j) bytes buffer e = sym (ap told e)
-judged-loaded verdict.Accepted (rejected m j) bytes buffer e = let z : _≡_ {A = ℕ} 0 1 = cc in absurd (omega arith)
-judged-loaded (verdict.Fault n i) (accepted net own) bytes buffer e = let z : _≡_ {A = ℕ} 0 1 = cc in absurd (omega arith)
+opening-loaded : (v : Verdict) (x : LoadAnswer) (bytes : Net → List ℕ) (buffer : List ℕ) → faultIn v ≡ faultOf x → onLoaded bytes buffer x ≡ openingGives (openingBy v) (bytes (netLoaded x)) buffer
+opening-loaded verdict.Accepted (accepted net own) bytes buffer e = refl
+opening-loaded (verdict.Fault n i) (rejected m j) bytes buffer e = sym (ap told e)
+opening-loaded verdict.Accepted (rejected m j) bytes buffer e = let z : _≡_ {A = ℕ} 0 1 = cc in absurd (omega arith)
+opening-loaded (verdict.Fault n i) (accepted net own) bytes buffer e = let z : _≡_ {A = ℕ} 0 1 = cc in absurd (omega arith)
 
 verdict-of : (v : Verdict) → openingBy v ≡ Accepted → v ≡ verdict.Accepted
 verdict-of verdict.Accepted e = refl
@@ -63,7 +63,7 @@ pub opens-even : (file picks : List ℕ) (l : Loaded) (r : Opened) → length pi
 unfolding called
 opens-even file picks l r h is v n = record {
   called = λ bytes buffer.
-      rw (eq-eqb (length picks % 2) 0 h, v, n, is .net) (judged-loaded (l .verdict) (loadBytes file) (λ (net : Net). bytes net (picksIn picks)) buffer (is .fault));
+      rw (eq-eqb (length picks % 2) 0 h, v, n, is .net) (opening-loaded (l .verdict) (loadBytes file) (λ (net : Net). bytes net (picksIn picks)) buffer (is .fault));
   isSound = λ a. rw (n, is .net) (file-loaded file (verdict-accepts file l is (verdict-of (l .verdict) (sym v ∙ a))) .isSound);
 }
 

@@ -13,7 +13,7 @@ use Rattle.nets.specs.Nets.{toRun, visiting, Thread}
 use Rattle.nets.specs.Tables.{distinct, change}
 use Rattle.nets.specs.Sound.{fieldsOkAs, linksOkAs, sound}
 use Rattle.nets.specs.Scenes.{sceneOf, siteOfL, site, table, relation, source, anyReady, opens}
-use Rattle.nets.specs.Steps.{readsOk, check12, check13, check14, check15, check16, check17, check18, check19, check20, rowsBy, tablesBy, addedBy, takenBy, boundBy, varsBy, bindingsBy, threadsAfter, netAfter, performed, judge, checks, step}
+use Rattle.nets.specs.Steps.{readsOk, check12, check13, check14, check15, check16, check17, check18, check19, check20, rowsBy, tablesBy, addedBy, takenBy, boundBy, varsBy, bindingsBy, threadsAfter, netAfter, performed, firstRefusal, checks, step}
 use Rattle.nets.specs.Accounts.{nextNet, after, answers}
 use Rattle.nets.specs.View.{kindAt}
 use Rattle.record_bytes.specs.Bytes.{operandForm, operandIn, operandsForm, operandsIn}
@@ -52,7 +52,7 @@ twice = z 4
 
 -- all definitions that a call computes with: to unfold this is to unfold them all
 opened : Unit {0}
-unfolding bind textOrder matches hits draft tupleFor changes selectedColumns aggregated distinct change fieldsOkAs linksOkAs sound sceneOf siteOfL site table relation source anyReady opens readsOk check12 check13 check14 check15 check16 check17 check18 check19 check20 rowsBy tablesBy addedBy takenBy boundBy varsBy bindingsBy threadsAfter netAfter performed judge checks step nextNet after answers kindAt operandForm operandIn operandsForm operandsIn nodeIn aliasForm tableForm rowForm nodeBytes startForm pickForm recordIn recordsIn loadChecks put advance readAll firstBadLink load loadBytes tupleBytes tableBytes rowBytes written eightBytes threeBytes answerBytes visitBytes headBytes threadBytes tablesPut answersPut threadsPut ifRoom called
+unfolding bind textOrder matches hits draft tupleFor changes selectedColumns aggregated distinct change fieldsOkAs linksOkAs sound sceneOf siteOfL site table relation source anyReady opens readsOk check12 check13 check14 check15 check16 check17 check18 check19 check20 rowsBy tablesBy addedBy takenBy boundBy varsBy bindingsBy threadsAfter netAfter performed firstRefusal checks step nextNet after answers kindAt operandForm operandIn operandsForm operandsIn nodeIn aliasForm tableForm rowForm nodeBytes startForm pickForm recordIn recordsIn loadChecks put advance readAll firstBadLink load loadBytes tupleBytes tableBytes rowBytes written eightBytes threeBytes answerBytes visitBytes headBytes threadBytes tablesPut answersPut threadsPut ifRoom called
 opened = tt
 
 -- done with one row added; then 11

@@ -36,13 +36,13 @@ refusalReply (Fault n i) = record { number = n; place = i }
 refusalReply OddPicks = record { number = oddPicksNumber; place = 0 }
 
 -- by what is said of file and picks
-abbrev pub judged : Opening → List ℕ → List ℕ → Called
-judged Accepted bs buffer = ifRoom bs buffer
-judged (Refused why) bs buffer = refusing (refusalReply why .number) (refusalReply why .place)
+abbrev pub openingGives : Opening → List ℕ → List ℕ → Called
+openingGives Accepted bs buffer = ifRoom bs buffer
+openingGives (Refused why) bs buffer = refusing (refusalReply why .number) (refusalReply why .place)
 
 -- whatever a call hands out of net and picks
 pub record OpenIs (file picks : List ℕ) (r : Opened) : Type 0 where
-  pub called : (bytes : Net → List Pick → List ℕ) (buffer : List ℕ) → called bytes file picks buffer ≡ judged (r .opening) (bytes (view (r .net)) (picksIn picks)) buffer
+  pub called : (bytes : Net → List Pick → List ℕ) (buffer : List ℕ) → called bytes file picks buffer ≡ openingGives (r .opening) (bytes (view (r .net)) (picksIn picks)) buffer
   pub isSound : r .opening ≡ Accepted → T (sound (view (r .net)))
 
 -- ── writing ──

@@ -19,7 +19,7 @@ use Rattle.nets.specs.Nets.{Table, code, Node, Net, Outcome}
 use Rattle.nets.specs.Tables.{distinct, change}
 use Rattle.nets.specs.Sound.{isEmpty, fieldsOkAs, linksOkAs, sound}
 use Rattle.nets.specs.Scenes.{sceneOf, siteOfL, site, table, relation, source, anyReady, opens}
-use Rattle.nets.specs.Steps.{readsOk, check12, check13, check14, check15, check16, check17, check18, check19, check20, rowsBy, tablesBy, addedBy, takenBy, boundBy, varsBy, bindingsBy, threadsAfter, netAfter, performed, judge, checks, step}
+use Rattle.nets.specs.Steps.{readsOk, check12, check13, check14, check15, check16, check17, check18, check19, check20, rowsBy, tablesBy, addedBy, takenBy, boundBy, varsBy, bindingsBy, threadsAfter, netAfter, performed, firstRefusal, checks, step}
 use Rattle.nets.specs.Accounts.{nextNet, after, answers}
 use Rattle.nets.specs.View.{kindAt}
 use Rattle.nets.specs.Examples as Nets
@@ -242,7 +242,7 @@ faults =
 
 -- all definitions that a test computes with: to unfold this is to unfold them all
 opened : Unit {0}
-unfolding bind textOrder matches hits draft tupleFor changes selectedColumns aggregated distinct change fieldsOkAs linksOkAs sound sceneOf siteOfL site table relation source anyReady opens readsOk check12 check13 check14 check15 check16 check17 check18 check19 check20 rowsBy tablesBy addedBy takenBy boundBy varsBy bindingsBy threadsAfter netAfter performed judge checks step nextNet after answers kindAt operandForm operandIn operandsForm operandsIn nodeIn aliasForm tableForm rowForm nodeBytes startForm pickForm recordIn recordsIn loadChecks put advance readAll firstBadLink load loadBytes tupleBytes tableBytes rowBytes written write
+unfolding bind textOrder matches hits draft tupleFor changes selectedColumns aggregated distinct change fieldsOkAs linksOkAs sound sceneOf siteOfL site table relation source anyReady opens readsOk check12 check13 check14 check15 check16 check17 check18 check19 check20 rowsBy tablesBy addedBy takenBy boundBy varsBy bindingsBy threadsAfter netAfter performed firstRefusal checks step nextNet after answers kindAt operandForm operandIn operandsForm operandsIn nodeIn aliasForm tableForm rowForm nodeBytes startForm pickForm recordIn recordsIn loadChecks put advance readAll firstBadLink load loadBytes tupleBytes tableBytes rowBytes written write
 opened = tt
 
 pub examples-hold : T (all (λ b. b) examples)

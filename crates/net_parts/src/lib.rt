@@ -21,7 +21,7 @@ pub struct Label {
 
 // Whether the nodes are right, and of each its shape: the table variable that a loop reads, 0 or 1, and 2 of a node that is no loop.
 // A shape is a number and no enum, since an array of 128 numbers is filled and read with no struct around each.
-pub struct NodesJudged {
+pub struct NodesTested {
     pub right: bool,
     pub shapes: [u8; 128],
 }

@@ -1,5 +1,5 @@
 // Nodes: their fields by kind (check 4) and their links (check 9).
-use crate::NodesJudged;
+use crate::NodesTested;
 use crate::operands::function_ok;
 use crate::operands::is_absent;
 use crate::operands::locality_operand_ok;
@@ -220,12 +220,12 @@ fn shape_of(d: Node) -> u8
 }
 
 // Each node is judged and its shape noted in one pass.
-pub fn nodes_ok(nodes: [Node; 128], count: usize) -> NodesJudged
+pub fn nodes_ok(nodes: [Node; 128], count: usize) -> NodesTested
     ensures { λ r. ⌜ (r .right ≡ (leb count 128 && nodesOk count 0 (nodesOf count nodes))) × (r .right ≡ true → ShapesOf (r .shapes) count (nodesOf count nodes)) ⌝ }
 {
     let mut shapes: [u8; 128] = [2; 128];
     if 128 < count {
-        return NodesJudged {
+        return NodesTested {
             right: false,
             shapes,
         };
@@ -237,13 +237,13 @@ pub fn nodes_ok(nodes: [Node; 128], count: usize) -> NodesJudged
         if fields_ok(d) & links_ok(d, i, count) {
             i += 1;
         } else {
-            return NodesJudged {
+            return NodesTested {
                 right: false,
                 shapes,
             };
         }
     }
-    NodesJudged {
+    NodesTested {
         right: true,
         shapes,
     }

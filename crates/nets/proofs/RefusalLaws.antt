@@ -10,7 +10,7 @@ use Rattle.nets.specs.declared.Pick.{Pick}
 use Rattle.nets.specs.Nets.{Net, Outcome, refused, done}
 use Rattle.nets.specs.Sound.{isEmpty}
 use Rattle.nets.specs.Scenes.{sceneOf}
-use Rattle.nets.specs.Steps.{performed, Check, verdict, judge, checks, step}
+use Rattle.nets.specs.Steps.{performed, Check, verdict, firstRefusal, checks, step}
 use Rattle.nets.specs.Accounts.{nextNet, addedAt, takenAt, isDone}
 
 -- a refusal has a number of 10..20 and no values
@@ -19,24 +19,24 @@ numbered (refused n vs) = leb 10 n && leb n 20 && isEmpty vs
 numbered (done a t net) = true
 
 -- a test that the checks' refusals and the outcome pass
-judge-all : (q : Outcome → Bool) (ks : List Check) (o : Outcome) → T (all (λ k. q (refused (k .number) (k .values))) ks) → T (q o) → T (q (judge refused ks o))
-unfolding judge
+judge-all : (q : Outcome → Bool) (ks : List Check) (o : Outcome) → T (all (λ k. q (refused (k .number) (k .values))) ks) → T (q o) → T (q (firstRefusal refused ks o))
+unfolding firstRefusal
 judge-all q [] o h g = g
 judge-all q (k ∷ ks) o h g = go (k .passes) (judge-all q ks o (and-r here (all (λ j. q (refused (j .number) (j .values))) ks) h) g)
   where
     here : Bool
     here = q (refused (k .number) (k .values))
 
-    go : (b : Bool) → T (q (judge refused ks o)) → T (q (verdict refused b (k .number) (k .values) (judge refused ks o)))
+    go : (b : Bool) → T (q (firstRefusal refused ks o)) → T (q (verdict refused b (k .number) (k .values) (firstRefusal refused ks o)))
     go true ih = ih
     go false ih = and-l here (all (λ j. q (refused (j .number) (j .values))) ks) h
 
-judge-done : (ks : List Check) (o : Outcome) → isDone o ≡ true → isDone (judge refused ks o) ≡ all (λ k. k .passes) ks
-unfolding judge
+judge-done : (ks : List Check) (o : Outcome) → isDone o ≡ true → isDone (firstRefusal refused ks o) ≡ all (λ k. k .passes) ks
+unfolding firstRefusal
 judge-done [] o e = e
 judge-done (k ∷ ks) o e = go (k .passes) (judge-done ks o e)
   where
-    go : (b : Bool) → isDone (judge refused ks o) ≡ all (λ j. j .passes) ks → isDone (verdict refused b (k .number) (k .values) (judge refused ks o)) ≡ (b && all (λ j. j .passes) ks)
+    go : (b : Bool) → isDone (firstRefusal refused ks o) ≡ all (λ j. j .passes) ks → isDone (verdict refused b (k .number) (k .values) (firstRefusal refused ks o)) ≡ (b && all (λ j. j .passes) ks)
     go true ih = ih
     go false ih = refl
 

@@ -17,7 +17,7 @@ use Rattle.nets.specs.Nets.{Table, Kind, acts, hasTemplate, isAggregate,
 use Rattle.nets.specs.Tables.{tableAt, rowsOf, rowsFit, distinct}
 use Rattle.nets.specs.Sound.{sound}
 use Rattle.nets.specs.Scenes.{Scene, sceneOf, site, Parts, parts}
-use Rattle.nets.specs.Steps.{insertFits, check12, check13, check14, check15, check16, held, check17, check18, check19, check20, tablesBy, netAfter, performed, Check, verdict, judge, checks, step}
+use Rattle.nets.specs.Steps.{insertFits, check12, check13, check14, check15, check16, held, check17, check18, check19, check20, tablesBy, netAfter, performed, Check, verdict, firstRefusal, checks, step}
 use Rattle.nets.specs.Accounts.{netLeft, addedIn, takenIn, post, times, rowsAdded, rowsTaken, isDone, ifDone, postings, standing}
 use Rattle.nets.proofs.TableLaws.{sameKey, key-site, key-name}
 use Rattle.nets.proofs.SourceLaws.{source-fits}
@@ -30,12 +30,12 @@ Passed [] = Unit {0}
 Passed (k ∷ ks) = T (k .passes) × Passed ks
 
 -- what holds of every refusal, and of the outcome where all checks pass, holds of the judged outcome
-pub judged : (P : Outcome → Type 0) → ((n : ℕ) (vs : List ℕ) → P (refused n vs)) → (ks : List Check) (o : Outcome) → (Passed ks → P o) → P (judge refused ks o)
-unfolding judge
+pub judged : (P : Outcome → Type 0) → ((n : ℕ) (vs : List ℕ) → P (refused n vs)) → (ks : List Check) (o : Outcome) → (Passed ks → P o) → P (firstRefusal refused ks o)
+unfolding firstRefusal
 judged P r [] o h = h tt
 judged P r (k ∷ ks) o h = go (k .passes) (λ t. judged P r ks o (λ u. h (t, u)))
   where
-    go : (b : Bool) → (T b → P (judge refused ks o)) → P (verdict refused b (k .number) (k .values) (judge refused ks o))
+    go : (b : Bool) → (T b → P (firstRefusal refused ks o)) → P (verdict refused b (k .number) (k .values) (firstRefusal refused ks o))
     go true f = f tt
     go false f = r (k .number) (k .values)
 

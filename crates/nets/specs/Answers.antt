@@ -13,7 +13,7 @@ use Rattle.nets.specs.declared.Net.{Net}
 use Rattle.nets.specs.declared.Stepped.{Stepped}
 use Rattle.nets.specs.Nets.{Outcome, refused, done}
 use Rattle.nets.specs.Scenes.{Parts}
-use Rattle.nets.specs.Steps.{addedBy, takenBy, judge, partChecks, step}
+use Rattle.nets.specs.Steps.{addedBy, takenBy, firstRefusal, partChecks, step}
 use Rattle.nets.specs.Accounts.{netLeft}
 use Rattle.nets.specs.View.{view}
 
@@ -32,7 +32,7 @@ isDoing (doing a t) = true
 
 -- what a step that is no loop answers once checks 10 to 15 have passed. Only the code speaks of it: the rule is `step`
 unfoldable pub stepSaid : Parts → Bool → ℕ → Said
-stepSaid p isHeld tables = judge refusing (partChecks p isHeld tables) (doing (addedBy (p .node .kind) p) (takenBy (p .node .kind) p))
+stepSaid p isHeld tables = firstRefusal refusing (partChecks p isHeld tables) (doing (addedBy (p .node .kind) p) (takenBy (p .node .kind) p))
 
 -- the counts in an answer; a refused pick reports none
 abbrev pub addedSaid : Said → ℕ

@@ -28,7 +28,7 @@ use Rattle.nets.specs.Nets.{Table, Kind, acting, other, insert, insertTa
 use Rattle.nets.specs.Tables.{tableAt, distinct, change}
 use Rattle.nets.specs.Sound.{noThread, fieldsOkAs, linksOkAs, sound}
 use Rattle.nets.specs.Scenes.{sceneOf, siteOfL, site, table, relation, source, anyReady, opens}
-use Rattle.nets.specs.Steps.{readsOk, check12, check13, check14, check15, check16, check17, check18, check19, check20, rowsBy, tablesBy, addedBy, takenBy, boundBy, varsBy, bindingsBy, threadsAfter, netAfter, performed, judge, checks, step}
+use Rattle.nets.specs.Steps.{readsOk, check12, check13, check14, check15, check16, check17, check18, check19, check20, rowsBy, tablesBy, addedBy, takenBy, boundBy, varsBy, bindingsBy, threadsAfter, netAfter, performed, firstRefusal, checks, step}
 use Rattle.nets.specs.Accounts.{nextNet}
 
 -- ── nets of one table, CARD at site 0, and one thread there ──
@@ -166,5 +166,5 @@ examples =
     ∷ []
 
 pub examples-hold : T (all (λ b. b) examples)
-unfolding bind textOrder matches hits draft tupleFor changes selectedColumns aggregated distinct change fieldsOkAs linksOkAs sound sceneOf siteOfL site table relation source anyReady opens readsOk check12 check13 check14 check15 check16 check17 check18 check19 check20 rowsBy tablesBy addedBy takenBy boundBy varsBy bindingsBy threadsAfter netAfter performed judge checks step nextNet
+unfolding bind textOrder matches hits draft tupleFor changes selectedColumns aggregated distinct change fieldsOkAs linksOkAs sound sceneOf siteOfL site table relation source anyReady opens readsOk check12 check13 check14 check15 check16 check17 check18 check19 check20 rowsBy tablesBy addedBy takenBy boundBy varsBy bindingsBy threadsAfter netAfter performed firstRefusal checks step nextNet
 examples-hold = tt

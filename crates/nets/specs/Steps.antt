@@ -256,9 +256,9 @@ abbrev pub verdict : {A : Type 0} → (ℕ → List ℕ → A) → Bool → ℕ 
 verdict r true n vs o = o
 verdict r false n vs o = r n vs
 
-unfoldable pub judge : {A : Type 0} → (ℕ → List ℕ → A) → List Check → A → A
-judge r [] o = o
-judge r (k ∷ ks) o = verdict r (k .passes) (k .number) (k .values) (judge r ks o)
+unfoldable pub firstRefusal : {A : Type 0} → (ℕ → List ℕ → A) → List Check → A → A
+firstRefusal r [] o = o
+firstRefusal r (k ∷ ks) o = verdict r (k .passes) (k .number) (k .values) (firstRefusal r ks o)
 
 unfoldable pub checks : Scene → List Check
 checks c =
@@ -276,7 +276,7 @@ checks c =
     ∷ []
 
 unfoldable pub step : Net → Pick → Outcome
-step net p = judge refused (checks (sceneOf net p)) (performed (sceneOf net p))
+step net p = firstRefusal refused (checks (sceneOf net p)) (performed (sceneOf net p))
 
 -- what is left of `checks` for a step that is no loop, after 10 to 15; with whether its table variable is held, and the number of tables. Only the code speaks of it
 abbrev pub partChecks : Parts → Bool → ℕ → List Check

@@ -25,7 +25,7 @@ use Rattle.nets.specs.Nets as M
 use Rattle.nets.specs.Nets.{Kind, code, isLoop, hasLocality, needsTable, isCreate, bindsRelation}
 use Rattle.nets.specs.Tables.{rowsOf, columnsOf, tableAt}
 use Rattle.nets.specs.Scenes.{Scene, below, Parts, parts, site, table, source}
-use Rattle.nets.specs.Steps.{held, check12, check13, check14, check15, check17, rowsBy, tablesBy, boundBy, varsBy, bindingsBy, withBindings, goOn, settle, threadsAfter, judge, checks, partChecks}
+use Rattle.nets.specs.Steps.{held, check12, check13, check14, check15, check17, rowsBy, tablesBy, boundBy, varsBy, bindingsBy, withBindings, goOn, settle, threadsAfter, firstRefusal, checks, partChecks}
 use Rattle.nets.specs.Answers.{refusing, isDoing, stepSaid, answerOf, saidOf}
 use Rattle.nets.specs.View.{kindAt, bindingsOf, threadOf}
 use Rattle.step_effect.specs.Contracts.{isStep, putsRows, partsOf, Doing}
@@ -54,21 +54,21 @@ module _ (c : Scene) where
       subst (λ (z : Bool × Answer). ChangeIs c (record { answer = z .1; content = x .content; thread = moved (s .thread) r (x .above) (x .body) (x .relations); forks = z .0; fork = x .fork })) (λ i. (sym f i, sym e i))
 
   pub refuses-12 : check12 c ≡ false → refusing 12 [] ≡ answerOf (outcomeAt c)
-  unfolding judge checks
+  unfolding firstRefusal checks
   refuses-12 e = rw e
 
   module _ (twelve : check12 c ≡ true) where
     pub refuses-13 : check13 c ≡ false → refusing 13 [] ≡ answerOf (outcomeAt c)
-    unfolding judge checks
+    unfolding firstRefusal checks
     refuses-13 e = rw (twelve, e)
 
     module _ (thirteen : check13 c ≡ true) where
       pub refuses-14 : check14 c ≡ false → refusing 14 [] ≡ answerOf (outcomeAt c)
-      unfolding judge checks
+      unfolding firstRefusal checks
       refuses-14 e = rw (twelve, thirteen, e)
 
       pub refuses-15 : check14 c ≡ true → check15 c ≡ false → refusing 15 [] ≡ answerOf (outcomeAt c)
-      unfolding judge checks
+      unfolding firstRefusal checks
       refuses-15 fourteen e = rw (twelve, thirteen, fourteen, e)
 
 -- at every scene

@@ -10,7 +10,7 @@ use Rattle.rows.specs.Relations.{Relation}
 use Rattle.nets.specs.Nets.{Kind, code, needsTable, readsRelation, isLoop}
 use Rattle.nets.specs.Tables.{tableAt, contentOf, rowsOf}
 use Rattle.nets.specs.Scenes.{Scene, below, parts, site, table, relation, source, opens}
-use Rattle.nets.specs.Steps.{held, check12, check13, check14, check15, check19, check20, rowsBy, withRowsBy, tablesBy, addedBy, takenBy, bindingsBy, withBindings, goOn, settle, threadsAfter, performed, judge, checks}
+use Rattle.nets.specs.Steps.{held, check12, check13, check14, check15, check19, check20, rowsBy, withRowsBy, tablesBy, addedBy, takenBy, bindingsBy, withBindings, goOn, settle, threadsAfter, performed, firstRefusal, checks}
 use Rattle.nets.specs.Answers.{Said, refusing, doing, stepSaid, answerOf}
 use Rattle.step_effect.specs.Contracts.{isStep, putsRows}
 use Rattle.step_meets.specs.Contracts.{laterChecks, outcomeAt}
@@ -24,10 +24,10 @@ use Rattle.step_effect.proofs.KindTies.{puts-needs}
 
 -- by the checks from 16 on
 abbrev pub laterSaid : Scene → Said
-laterSaid c = judge refusing (drop 6 (checks c)) (doing (addedBy (c .node .kind) (parts c)) (takenBy (c .node .kind) (parts c)))
+laterSaid c = firstRefusal refusing (drop 6 (checks c)) (doing (addedBy (c .node .kind) (parts c)) (takenBy (c .node .kind) (parts c)))
 
 pub later-said : (c : Scene) → check12 c ≡ true → check13 c ≡ true → check14 c ≡ true → check15 c ≡ true → answerOf (outcomeAt c) ≡ laterSaid c
-unfolding judge checks performed
+unfolding firstRefusal checks performed
 later-said c twelve thirteen fourteen fifteen = judge-said (laterChecks c) (performed c) ∙ rw (twelve, thirteen, fourteen, fifteen)
 
 -- ── the source of rows ──
@@ -66,7 +66,7 @@ module _ (c : Scene) (step : T (isStep (c .node .kind))) where
 
   -- its answer is that of its parts
   pub effect-answer : check12 c ≡ true → check13 c ≡ true → check14 c ≡ true → check15 c ≡ true → answerOf (outcomeAt c) ≡ stepSaid (parts c) (held c) (length (c .net .tables))
-  unfolding stepSaid judge checks check19 check20
+  unfolding stepSaid firstRefusal checks check19 check20
   effect-answer twelve thirteen fourteen fifteen = later-said c twelve thirteen fourteen fifteen ∙ rw (not-opens, and-true)
 
   pub effect-threads :

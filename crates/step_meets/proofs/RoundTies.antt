@@ -13,7 +13,7 @@ use Rattle.values.proofs.Bools.{is-true}
 use Rattle.rows.specs.Relations.{Relation}
 use Rattle.nets.specs.Nets.{hasLocality, needsTable, isCreate, isLoop, isParallel, Bindings}
 use Rattle.nets.specs.Scenes.{Scene, below, vars, template, siteOfL, table, relation, source, stillToVisit, visit, rowAt, ready, anyReady, pickReady, opens}
-use Rattle.nets.specs.Steps.{check12, check13, check14, check15, check16, check17, check18, check19, check20, roomForRound, addedBy, takenBy, varsBy, bindingsBy, withBindings, goOn, settle, sequentialRound, parallelRound, threadsAfter, verdict, judge, checks}
+use Rattle.nets.specs.Steps.{check12, check13, check14, check15, check16, check17, check18, check19, check20, roomForRound, addedBy, takenBy, varsBy, bindingsBy, withBindings, goOn, settle, sequentialRound, parallelRound, threadsAfter, verdict, firstRefusal, checks}
 use Rattle.nets.specs.Answers.{Said, refusing, doing, answerOf}
 use Rattle.step_thread.specs.Contracts.{RoundSaid, over, opened, stopped, roundBy, readyAt}
 use Rattle.step_meets.specs.Contracts.{outcomeAt}
@@ -68,7 +68,7 @@ module _ (c : Scene) (loop : T (isLoop (c .node .kind))) where
       isLoop ((refl, refl, refl) ▸ (refl, refl, refl) ▸ tt) (c .node .kind) loop
 
   round-said : laterSaid c ≡ saidRound (roundHere c)
-  unfolding judge checks check16 check17 check18 check19 check20 opens addedBy takenBy
+  unfolding firstRefusal checks check16 check17 check18 check19 check20 opens addedBy takenBy
   round-said =
       let t = rounds-said (long c) (anyReady c) (pickReady c) (roomForRound c) in
       of-class (λ k. c .node .kind ≡ k → laterSaid c ≡ saidRound (roundHere c)) isLoop ((λ e. simp (e, and-true) t) ▸ (λ e. simp (e, and-true) t) ▸ tt) (c .node .kind) loop refl

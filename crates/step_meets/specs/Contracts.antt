@@ -24,7 +24,7 @@ use Rattle.nets.specs.Nets.{isLoop, readsRelation, bindsRelation, toRun, Outcom
 use Rattle.nets.specs.Tables.{tableAt, contentOf, rowsOf, columnsOf}
 use Rattle.nets.specs.Sound.{nodeOkAs, bindingsOk}
 use Rattle.nets.specs.Scenes.{Scene, Parts, site, siteOfL, table}
-use Rattle.nets.specs.Steps.{isBound, isBoundTable, readsOk, held, rowsBy, tablesBy, boundBy, settle, threadsAfter, performed, Check, judge, checks}
+use Rattle.nets.specs.Steps.{isBound, isBoundTable, readsOk, held, rowsBy, tablesBy, boundBy, settle, threadsAfter, performed, Check, firstRefusal, checks}
 use Rattle.nets.specs.View.{kindAt, nodeOf, entryOf, variableOf, bindingsOf, threadOf}
 use Rattle.nets.specs.Answers.{isDoing, answerOf, saidOf}
 use Rattle.step_reads.specs.Contracts.{flagAt}
@@ -44,7 +44,7 @@ abbrev pub laterChecks : Scene → List Check
 laterChecks c = drop 2 (checks c)
 
 abbrev pub outcomeAt : Scene → Outcome
-outcomeAt c = judge refused (laterChecks c) (performed c)
+outcomeAt c = firstRefusal refused (laterChecks c) (performed c)
 
 -- the parts that a pick meets are those of a scene
 pub record Meets (s : Situation) (c : Scene) : Type 0 where

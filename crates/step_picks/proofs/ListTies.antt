@@ -12,7 +12,7 @@ use Rattle.rows.specs.Relations.{Row}
 use Rattle.nets.specs.Nets.{Table, Kind, acting, drop, Net, refused, done}
 use Rattle.nets.specs.Tables.{tableAt, rowsOf, columnsOf, withRows, change}
 use Rattle.nets.specs.Scenes.{Scene, parts, site, table}
-use Rattle.nets.specs.Steps.{rowsBy, tablesBy, addedBy, takenBy, threadsAfter, netAfter, performed, Check, verdict, judge}
+use Rattle.nets.specs.Steps.{rowsBy, tablesBy, addedBy, takenBy, threadsAfter, netAfter, performed, Check, verdict, firstRefusal}
 use Rattle.nets.specs.Accounts.{netLeft}
 use Rattle.nets.specs.Answers.{isDoing, answerOf}
 use Rattle.step_effect.specs.Contracts.{putsRows}
@@ -68,12 +68,12 @@ net-after c = refl
 
 -- a judged outcome that is done is the one judged
 module _ (net : Net) where
-  judge-done : (ks : List Check) (a t : ℕ) (m : Net) → T (isDoing (answerOf (judge refused ks (done a t m)))) → netLeft net (judge refused ks (done a t m)) ≡ m
-  unfolding judge
+  judge-done : (ks : List Check) (a t : ℕ) (m : Net) → T (isDoing (answerOf (firstRefusal refused ks (done a t m)))) → netLeft net (firstRefusal refused ks (done a t m)) ≡ m
+  unfolding firstRefusal
   judge-done [] a t m h = refl
   judge-done (k ∷ ks) a t m h = go (k .passes) h (judge-done ks a t m)
     where
-      go : (b : Bool) → T (isDoing (answerOf (verdict refused b (k .number) (k .values) (judge refused ks (done a t m))))) → (T (isDoing (answerOf (judge refused ks (done a t m)))) → netLeft net (judge refused ks (done a t m)) ≡ m) → netLeft net (verdict refused b (k .number) (k .values) (judge refused ks (done a t m))) ≡ m
+      go : (b : Bool) → T (isDoing (answerOf (verdict refused b (k .number) (k .values) (firstRefusal refused ks (done a t m))))) → (T (isDoing (answerOf (firstRefusal refused ks (done a t m)))) → netLeft net (firstRefusal refused ks (done a t m)) ≡ m) → netLeft net (verdict refused b (k .number) (k .values) (firstRefusal refused ks (done a t m))) ≡ m
       go true h ih = ih h
       go false h ih = absurd h
 

@@ -27,7 +27,7 @@ use Rattle.nets.specs.Sound as S
 use Rattle.nets.specs.Sound.{sound, aliasOk, tableOk, threadOk, entryOk, entryNode, nodeOkAs, bindingsOk}
 use Rattle.nets.specs.Tables.{isAt, tableAt, contentOf}
 use Rattle.nets.specs.Scenes.{Scene, sceneOf, site, table, stillToVisit}
-use Rattle.nets.specs.Steps.{judge, checks, step}
+use Rattle.nets.specs.Steps.{firstRefusal, checks, step}
 use Rattle.nets.specs.View.{noAlias, noTable, noFrame, noNode, noThread, nodeOf, tableOf, entryOf, stackOf, threadOf, tablesOf, view}
 use Rattle.step_thread.specs.Contracts.{Stacked}
 use Rattle.step_meets.specs.Contracts.{outcomeAt, Meets, relationRead, Fine}
@@ -71,7 +71,7 @@ stack-within t ds h =
 module _ (m : M.Net) (p : Pick) (ok : T (sound m)) (there : p .thread < length (m .threads)) where
   -- checks 10 and 11 pass
   pub step-later : step m p ≡ outcomeAt (sceneOf m p)
-  unfolding step judge checks sceneOf
+  unfolding step firstRefusal checks sceneOf
   step-later = rw (is-true (sound m) ok, is-true (ltb (p .thread) (length (m .threads))) (lt→ltb (p .thread) (length (m .threads)) there))
 
   pub thread-fine : T (threadOk (m .nodes) (sceneOf m p .thread))
