@@ -1,5 +1,5 @@
 -- What a call comes to, by its first two checks. Assumes nothing.
-use Prim.Native.Nat.{ℕ, _-_, _%_, _≤_, _<_}
+use Prim.Native.Nat.{ℕ, _-_, _%_, _^_, _≤_, _<_}
 use mathlib.Core.Path.{_≡_, refl, sym, ap, _∙_}
 use mathlib.Core.Bool.{Bool, true, false, cond}
 use mathlib.Core.List.{List, _++_}
@@ -17,13 +17,9 @@ use Rattle.nets.specs.View.{view}
 use Rattle.files.specs.declared.Verdict.{Verdict}
 use Rattle.files.specs.declared.Verdict.the-variants as verdict
 use Rattle.files.specs.declared.Loaded.{Loaded}
-use Rattle.files.specs.declared.Written.{Written}
-use Rattle.files.specs.declared.Written.the-variants.{Length, Unsound, Short}
-use Rattle.files.specs.Writing as W
-use Rattle.files.specs.Writing.{written, write, bufferAfter, writtenAnswer}
 use Rattle.files.specs.Loading as L
 use Rattle.files.specs.Loading.{LoadAnswer, rejected, accepted, loadBytes, faultOf, netLoaded}
-use Rattle.files.specs.Engine.{faultIn, LoadIs, saidWritten}
+use Rattle.files.specs.Engine.{faultIn, LoadIs}
 use Rattle.files.proofs.FileLaws.{file-loaded}
 use Rattle.files.proofs.EngineLaws.{verdict-accepts}
 use Rattle.call_rules.specs.declared.Reply.{Reply}
@@ -33,19 +29,20 @@ use Rattle.call_rules.specs.declared.Opening.the-variants.{Accepted, Ref
 use Rattle.call_rules.specs.declared.Opened.{Opened}
 use Rattle.value_bytes.specs.Bytes.{putAll}
 use Rattle.step_bytes.specs.PickBytes.{picksIn}
-use Rattle.call_rules.specs.Calls.{Called, refusing, putting, ifRoom, onLoaded, called, Gives}
-use Rattle.call_rules.specs.Openings.{openingBy, refusalReply, openingGives, OpenIs, replyTo}
+use Rattle.call_rules.specs.Replies.{Called, refusing, putting, needed, ifRoom}
+use Rattle.call_rules.specs.Calls.{onLoaded, called, Gives}
+use Rattle.call_rules.specs.Openings.{openingBy, refusalReply, openingGives, OpenIs}
 
 abbrev told : Option L.Fault → Called
 told none = refusing 0 0
 told (some f) = refusing (f .number) (f .place)
 
 -- the verdict of loading is the rule's
-opening-loaded : (v : Verdict) (x : LoadAnswer) (bytes : Net → List ℕ) (buffer : List ℕ) → faultIn v ≡ faultOf x → onLoaded bytes buffer x ≡ openingGives (openingBy v) (bytes (netLoaded x)) buffer
-opening-loaded verdict.Accepted (accepted net own) bytes buffer e = refl
-opening-loaded (verdict.Fault n i) (rejected m j) bytes buffer e = sym (ap told e)
-opening-loaded verdict.Accepted (rejected m j) bytes buffer e = let z : _≡_ {A = ℕ} 0 1 = cc in absurd (omega arith)
-opening-loaded (verdict.Fault n i) (accepted net own) bytes buffer e = let z : _≡_ {A = ℕ} 0 1 = cc in absurd (omega arith)
+opening-loaded : (v : Verdict) (x : LoadAnswer) (made : Net → Called) → faultIn v ≡ faultOf x → onLoaded (λ net own. made net) x ≡ openingGives (openingBy v) (made (netLoaded x))
+opening-loaded verdict.Accepted (accepted net own) made e = refl
+opening-loaded (verdict.Fault n i) (rejected m j) made e = sym (ap told e)
+opening-loaded verdict.Accepted (rejected m j) made e = let z : _≡_ {A = ℕ} 0 1 = cc in absurd (omega arith)
+opening-loaded (verdict.Fault n i) (accepted net own) made e = let z : _≡_ {A = ℕ} 0 1 = cc in absurd (omega arith)
 
 verdict-of : (v : Verdict) → openingBy v ≡ Accepted → v ≡ verdict.Accepted
 verdict-of verdict.Accepted e = refl
@@ -55,57 +52,40 @@ verdict-of (verdict.Fault n i) e = let z : _≡_ {A = ℕ} 0 1 = cc in absurd (o
 pub opens-odd : (file picks : List ℕ) (r : Opened) → (length picks % 2 ≡ 0 → ⊥) → r .opening ≡ Refused OddPicks → OpenIs file picks r
 unfolding called
 opens-odd file picks r h e = record {
-  called = λ bytes buffer. rw (ne-eqb (length picks % 2) 0 h, e) refl;
+  called = λ made. rw (ne-eqb (length picks % 2) 0 h, e) refl;
   isSound = λ a. let z : _≡_ {A = ℕ} 0 1 = cc in absurd (omega arith);
 }
 
 pub opens-even : (file picks : List ℕ) (l : Loaded) (r : Opened) → length picks % 2 ≡ 0 → LoadIs file l → r .opening ≡ openingBy (l .verdict) → r .net ≡ l .net → OpenIs file picks r
 unfolding called
 opens-even file picks l r h is v n = record {
-  called = λ bytes buffer.
-      rw (eq-eqb (length picks % 2) 0 h, v, n, is .net) (opening-loaded (l .verdict) (loadBytes file) (λ (net : Net). bytes net (picksIn picks)) buffer (is .fault));
+  called = λ made.
+      rw (eq-eqb (length picks % 2) 0 h, v, n, is .net) (opening-loaded (l .verdict) (loadBytes file) (λ (net : Net). made net (picksIn picks)) (is .fault));
   isSound = λ a. rw (n, is .net) (file-loaded file (verdict-accepts file l is (verdict-of (l .verdict) (sym v ∙ a))) .isSound);
 }
-
--- ── tables written ──
-
-abbrev length-said : W.WriteSaid → ℕ
-length-said (W.refusing n) = 0
-length-said (W.writing n) = n
-
--- a sound net is written where there is room
-pub wrote-all : (w : Written) (m : Net) (o out : List ℕ) → T (sound m) → saidWritten w ≡ writtenAnswer (write m o) → out ≡ bufferAfter o (write m o) →
-    Gives (ifRoom (written (m .tables)) o) o out (replyTo w .number) (replyTo w .place)
-unfolding write ifRoom
-wrote-all w m o out s = rw (is-true (sound m) s) (go w (written (m .tables)) (leb (length (written (m .tables))) (length o)))
-  where
-    go : (w : Written) (bs : List ℕ) (b : Bool) → saidWritten w ≡ writtenAnswer (cond b (W.wrote bs) (W.notWritten 21)) → out ≡ bufferAfter o (cond b (W.wrote bs) (W.notWritten 21)) →
-        Gives (cond b (putting bs) (refusing 21 0)) o out (replyTo w .number) (replyTo w .place)
-    go (Length n) bs true e k = record { number = refl; place = ap length-said e; buffer = k }
-    go Short bs false e k = record { number = refl; place = refl; buffer = k }
-    go (Length n) bs false e k = let z : _≡_ {A = ℕ} 0 1 = cc in absurd (omega arith)
-    go Unsound bs true e k = let z : _≡_ {A = ℕ} 0 1 = cc in absurd (omega arith)
-    go Unsound bs false e k = let z : _≡_ {A = ℕ} 10 21 = cc in absurd (omega arith)
-    go Short bs true e k = let z : _≡_ {A = ℕ} 0 1 = cc in absurd (omega arith)
 
 -- ── a call, by what it opened ──
 
 pub call-sound : (file picks : List ℕ) (r : Opened) → OpenIs file picks r → r .opening ≡ Accepted → T (sound (view (r .net)))
 call-sound file picks r is e = is .isSound e
 
-module _ (bytes : Net → List Pick → List ℕ) (file picks o : List ℕ) (r : Opened) (is : OpenIs file picks r) where
-  pub call-refused : (why : NotOpened) (reply : Reply) → r .opening ≡ Refused why → reply ≡ refusalReply why → Gives (called bytes file picks o) o o (reply .number) (reply .place)
-  call-refused why reply e q = rw (is .called bytes o, e, q) (record { number = refl; place = refl; buffer = refl })
+module _ (made : Net → List Pick → Called) (file picks o : List ℕ) (r : Opened) (is : OpenIs file picks r) where
+  pub call-refused : (why : NotOpened) (reply : Reply) → r .opening ≡ Refused why → reply ≡ refusalReply why → Gives (called made file picks) o o (reply .number) (reply .place)
+  call-refused why reply e q = rw (is .called made, e, q) (record { number = refl; place = refl; buffer = refl })
 
-  pub call-given : (out : List ℕ) (n i : ℕ) → r .opening ≡ Accepted → Gives (ifRoom (bytes (view (r .net)) (picksIn picks)) o) o out n i → Gives (called bytes file picks o) o out n i
-  call-given out n i e g = rw (is .called bytes o, e) g
+  pub call-given : (out : List ℕ) (n i : ℕ) → r .opening ≡ Accepted → Gives (made (view (r .net)) (picksIn picks)) o out n i → Gives (called made file picks) o out n i
+  call-given out n i e g = rw (is .called made, e) g
 
 -- ── a buffer, by its room ──
 
+-- a length within 64 bits is told as it is
+pub needed-is : (n : ℕ) → n < 2 ^ 64 → n ≡ needed n
+needed-is n h = rw (le-leb n (2 ^ 64 - 1) (omega arith)) refl
+
 module _ (bs o : List ℕ) (n : ℕ) (l : length bs ≡ n) where
-  pub gives-short : length o < n → Gives (ifRoom bs o) o o 21 0
+  pub gives-short : (p : ℕ) → length o < n → p ≡ needed n → Gives (ifRoom bs o) o o 21 p
   unfolding ifRoom
-  gives-short h = rw (l, lt-leb n (length o) h) (record { number = refl; place = refl; buffer = refl })
+  gives-short p h q = rw (l, lt-leb n (length o) h) (record { number = refl; place = q; buffer = refl })
 
   pub gives-put : (ys : List ℕ) → n ≤ length o → ys ≡ bs → Gives (ifRoom bs o) o (ys ++ drop (n - 0) o) 0 n
   unfolding ifRoom

@@ -1,5 +1,5 @@
--- The contracts of the three calls: the answer, and every byte of the lent buffer. A call has a file, picks of two bytes each, and a buffer.
-use Prim.Native.Nat.{ℕ, _%_}
+-- The contracts of the calls: the answer, and every byte of the lent buffer. A call has a file, most have picks of two bytes each, and a buffer.
+use Prim.Native.Nat.{ℕ, _-_, _%_, _^_}
 use mathlib.Core.Path.{_≡_}
 use mathlib.Core.Bool.{cond}
 use mathlib.Core.List.{List, _++_}
@@ -10,30 +10,23 @@ use Rattle.nets.specs.Nets.{Net}
 use Rattle.files.specs.Loading.{LoadAnswer, rejected, accepted, loadBytes}
 use Rattle.step_bytes.specs.PickBytes.{picksIn}
 use Rattle.step_bytes.specs.AnswerBytes.{answersPut}
-use Rattle.call_rules.specs.Layouts.{tablesPut, threadsPut}
-
--- ── what a call comes to ──
+use Rattle.call_rules.specs.Layouts.{tablesPut, threadsPut, picksPut}
+use Rattle.call_rules.specs.Traces.{traced}
+use Rattle.call_rules.specs.Replies.{Called, refusing, putting, ifRoom}
 
 -- picks of an odd length; numbers that only calls have begin at 100, so that they never meet a number of the papers
 abbrev pub oddPicksNumber : ℕ
 oddPicksNumber = 100
 
--- refused with a number and a place; or these bytes go to the start of the buffer
-pub data Called : Type 0 where
-  refusing : ℕ → ℕ → Called
-  putting : List ℕ → Called
+-- a refused file, or what is made of its net and its own picks
+abbrev pub onLoaded : (Net → List Pick → Called) → LoadAnswer → Called
+onLoaded made (rejected n i) = refusing n i
+onLoaded made (accepted net own) = made net own
 
-unfoldable pub ifRoom : List ℕ → List ℕ → Called
-ifRoom bs buffer = cond (leb (length bs) (length buffer)) (putting bs) (refusing 21 0)
-
-abbrev pub onLoaded : (Net → List ℕ) → List ℕ → LoadAnswer → Called
-onLoaded bytes buffer (rejected n i) = refusing n i
-onLoaded bytes buffer (accepted net own) = ifRoom (bytes net) buffer
-
--- the file's own picks are no matter
-unfoldable pub called : (Net → List Pick → List ℕ) → List ℕ → List ℕ → List ℕ → Called
-called bytes file picks buffer =
-    cond (eqb (length picks % 2) 0) (onLoaded (λ (net : Net). bytes net (picksIn picks)) buffer (loadBytes file)) (refusing oddPicksNumber 0)
+-- what is made of the file's net and the picks handed in; the file's own picks are no matter
+unfoldable pub called : (Net → List Pick → Called) → List ℕ → List ℕ → Called
+called made file picks =
+    cond (eqb (length picks % 2) 0) (onLoaded (λ (net : Net). λ (own : List Pick). made net (picksIn picks)) (loadBytes file)) (refusing oddPicksNumber 0)
 
 -- ── what the caller gets ──
 
@@ -42,7 +35,7 @@ abbrev pub numberIn : Called → ℕ
 numberIn (refusing n i) = n
 numberIn (putting bs) = 0
 
--- the place of a fault, or the number of bytes
+-- the place of a fault, the length that is needed, or the number of bytes put
 abbrev pub placeIn : Called → ℕ
 placeIn (refusing n i) = i
 placeIn (putting bs) = length bs
@@ -57,13 +50,21 @@ pub record Gives (c : Called) (before after : List ℕ) (n i : ℕ) : Type 0 whe
   pub place : i ≡ placeIn c
   pub buffer : after ≡ bufferIn before c
 
--- ── the three calls ──
+-- ── the calls ──
 
 abbrev pub TablesIs : (file picks before after : List ℕ) (number place : ℕ) → Type 0
-TablesIs file picks before after number place = Gives (called tablesPut file picks before) before after number place
+TablesIs file picks before after number place = Gives (called (λ net ps. ifRoom (tablesPut net ps) before) file picks) before after number place
 
 abbrev pub AnswersIs : (file picks before after : List ℕ) (number place : ℕ) → Type 0
-AnswersIs file picks before after number place = Gives (called answersPut file picks before) before after number place
+AnswersIs file picks before after number place = Gives (called (λ net ps. ifRoom (answersPut net ps) before) file picks) before after number place
 
 abbrev pub ThreadsIs : (file picks before after : List ℕ) (number place : ℕ) → Type 0
-ThreadsIs file picks before after number place = Gives (called threadsPut file picks before) before after number place
+ThreadsIs file picks before after number place = Gives (called (λ net ps. ifRoom (threadsPut net ps) before) file picks) before after number place
+
+-- from the net after the first `from` picks on
+abbrev pub TraceIs : (file picks : List ℕ) (from : ℕ) (before after : List ℕ) (number place : ℕ) → Type 0
+TraceIs file picks from before after number place = Gives (called (λ net ps. traced from net ps before) file picks) before after number place
+
+-- the file's own picks
+abbrev pub PicksIs : (file before after : List ℕ) (number place : ℕ) → Type 0
+PicksIs file before after number place = Gives (onLoaded (λ net own. ifRoom (picksPut own) before) (loadBytes file)) before after number place

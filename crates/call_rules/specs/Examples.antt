@@ -9,7 +9,8 @@ use Rattle.rows.specs.Matching.{matches, hits}
 use Rattle.rows.specs.Fit.{draft}
 use Rattle.row_change.specs.Changes.{tupleFor, changes, selectedColumns}
 use Rattle.row_change.specs.Aggregates.{aggregated}
-use Rattle.nets.specs.Nets.{toRun, visiting, Thread}
+use Rattle.nets.specs.declared.Pick.{Pick}
+use Rattle.nets.specs.Nets.{toRun, visiting, Thread, Net}
 use Rattle.nets.specs.Tables.{distinct, change}
 use Rattle.nets.specs.Sound.{fieldsOkAs, linksOkAs, sound}
 use Rattle.nets.specs.Scenes.{sceneOf, siteOfL, site, table, relation, source, anyReady, opens}
@@ -23,8 +24,11 @@ use Rattle.files.specs.Loading.{loadChecks, put, advance, readAll, firstBadLink
 use Rattle.files.specs.Writing.{written}
 use Rattle.value_bytes.specs.Bytes.{eightBytes}
 use Rattle.step_bytes.specs.AnswerBytes.{threeBytes, answerBytes, answersPut}
-use Rattle.call_rules.specs.Layouts.{visitBytes, headBytes, threadBytes, tablesPut, threadsPut}
-use Rattle.call_rules.specs.Calls.{refusing, putting, ifRoom, called, bufferIn}
+use Rattle.call_rules.specs.Layouts.{visitBytes, headBytes, threadBytes, tablesPut, threadsPut, picksPut}
+use Rattle.call_rules.specs.Replies.{Called, refusing, putting, ifRoom}
+use Rattle.call_rules.specs.Moments.{valuesRecord, variableRecords, relationHead, entryRecord, threadHead, momentHead, momentPut}
+use Rattle.call_rules.specs.Traces.{tracePut, tracedFrom, traced}
+use Rattle.call_rules.specs.Calls.{onLoaded, called, bufferIn}
 
 abbrev z : ℕ → List ℕ
 z n = replicate n 0
@@ -52,33 +56,38 @@ twice = z 4
 
 -- all definitions that a call computes with: to unfold this is to unfold them all
 opened : Unit {0}
-unfolding bind textOrder matches hits draft tupleFor changes selectedColumns aggregated distinct change fieldsOkAs linksOkAs sound sceneOf siteOfL site table relation source anyReady opens readsOk check12 check13 check14 check15 check16 check17 check18 check19 check20 rowsBy tablesBy addedBy takenBy boundBy varsBy bindingsBy threadsAfter netAfter performed firstRefusal checks step nextNet after answers kindAt operandForm operandIn operandsForm operandsIn nodeIn aliasForm tableForm rowForm nodeBytes startForm pickForm recordIn recordsIn loadChecks put advance readAll firstBadLink load loadBytes tupleBytes tableBytes rowBytes written eightBytes threeBytes answerBytes visitBytes headBytes threadBytes tablesPut answersPut threadsPut ifRoom called
+unfolding bind textOrder matches hits draft tupleFor changes selectedColumns aggregated distinct change fieldsOkAs linksOkAs sound sceneOf siteOfL site table relation source anyReady opens readsOk check12 check13 check14 check15 check16 check17 check18 check19 check20 rowsBy tablesBy addedBy takenBy boundBy varsBy bindingsBy threadsAfter netAfter performed firstRefusal checks step nextNet after answers kindAt operandForm operandIn operandsForm operandsIn nodeIn aliasForm tableForm rowForm nodeBytes startForm pickForm recordIn recordsIn loadChecks put advance readAll firstBadLink load loadBytes tupleBytes tableBytes rowBytes written eightBytes threeBytes answerBytes visitBytes headBytes threadBytes tablesPut answersPut threadsPut picksPut ifRoom called valuesRecord variableRecords relationHead entryRecord threadHead momentHead momentPut tracePut tracedFrom
 opened = tt
 
+-- a call that hands out these bytes, with a buffer of n bytes
+abbrev handing : (Net → List Pick → List ℕ) → ℕ → List ℕ → Called
+handing bytes n picks = called (λ net ps. ifRoom (bytes net ps) (replicate n 7)) file picks
+
 -- done with one row added; then 11
-pub answers-to-two : called answersPut file twice (replicate 48 7) ≡ putting (z 8 ++ (1 ∷ z 15 ++ (11 ∷ z 23)))
+pub answers-to-two : handing answersPut 48 twice ≡ putting (z 8 ++ (1 ∷ z 15 ++ (11 ∷ z 23)))
 unfolding opened
 answers-to-two = refl
 
-pub no-room : called answersPut file twice (replicate 47 7) ≡ refusing 21 0
+-- 48 bytes are needed
+pub no-room : handing answersPut 47 twice ≡ refusing 21 48
 unfolding opened
 no-room = refl
 
 -- the table, and its row
-pub tables-after-two : called tablesPut file twice (replicate 210 7) ≡ putting (nums ++ (3 ∷ z 3 ++ (NUMS ++ (z 48 ++ (five ++ z 40)))))
+pub tables-after-two : handing tablesPut 210 twice ≡ putting (nums ++ (3 ∷ z 3 ++ (NUMS ++ (z 48 ++ (five ++ z 40)))))
 unfolding opened
 tables-after-two = refl
 
 -- before any pick: site 0, one entry, node 0 to run
-pub thread-at-start : called threadsPut file [] (replicate 30 7) ≡ putting (0 ∷ 1 ∷ z 22)
+pub thread-at-start : handing threadsPut 30 [] ≡ putting (0 ∷ 1 ∷ z 22)
 unfolding opened
 thread-at-start = refl
 
-pub bytes-after : bufferIn (replicate 30 7) (called threadsPut file [] (replicate 30 7)) ≡ 0 ∷ 1 ∷ z 22 ++ replicate 6 7
+pub bytes-after : bufferIn (replicate 30 7) (handing threadsPut 30 []) ≡ 0 ∷ 1 ∷ z 22 ++ replicate 6 7
 unfolding opened
 bytes-after = refl
 
-pub no-thread-left : called threadsPut file twice [] ≡ putting []
+pub no-thread-left : handing threadsPut 0 twice ≡ putting []
 unfolding opened
 no-thread-left = refl
 
@@ -88,10 +97,35 @@ unfolding opened
 thread-in-loop t = refl
 
 -- 100 comes before the file's own fault
-pub odd-first : called answersPut (z 103) (0 ∷ []) [] ≡ refusing 100 0
+pub odd-first : called (λ net ps. ifRoom (answersPut net ps) []) (z 103) (0 ∷ []) ≡ refusing 100 0
 unfolding opened
 odd-first = refl
 
-pub file-fault : called answersPut (file ++ z 104) [] [] ≡ refusing 3 3
+pub file-fault : called (λ net ps. ifRoom (answersPut net ps) []) (file ++ z 104) [] ≡ refusing 3 3
 unfolding opened
 file-fault = refl
+
+-- the file's own picks
+pub own-picks : onLoaded (λ net own. ifRoom (picksPut own) (z 4)) (loadBytes (file ++ (33 ∷ 4 ∷ 255 ∷ z 101))) ≡ putting (4 ∷ 255 ∷ [])
+unfolding opened
+own-picks = refl
+
+-- ── a trace ──
+
+-- after the insert no thread is left: the table and its row stand
+abbrev inserted : List ℕ
+inserted = 64 ∷ 1 ∷ 0 ∷ 0 ∷ 3 ∷ z 99 ++ (nums ++ (3 ∷ z 3 ++ (NUMS ++ (z 48 ++ (five ++ z 40)))))
+
+-- from the first pick on, both moments left are the same: the second pick is refused
+pub trace-from-one : called (λ net ps. traced 1 net ps (replicate 700 7)) file twice ≡ putting (inserted ++ inserted)
+unfolding opened
+trace-from-one = refl
+
+-- there is room for one of them
+pub trace-of-one : called (λ net ps. traced 1 net ps (replicate 623 7)) file twice ≡ putting inserted
+unfolding opened
+trace-of-one = refl
+
+pub trace-short : called (λ net ps. traced 9 net ps (replicate 311 7)) file twice ≡ refusing 21 312
+unfolding opened
+trace-short = refl

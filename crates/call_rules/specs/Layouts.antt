@@ -1,4 +1,4 @@
--- The bytes that calls hand out for a net's tables and for its threads. `step_bytes` has those of answers.
+-- The bytes that calls hand out for a net's tables, for its threads and for picks. `step_bytes` has those of answers.
 use Prim.Native.Nat.{ℕ}
 use mathlib.Core.List.{List, [], _∷_, _++_, map}
 use lib.ListN.{length}
@@ -40,3 +40,8 @@ threadBytes t = headBytes (t .site .0) (length (t .stack)) (top (t .stack)) ++ v
 
 unfoldable pub threadsPut : Net → List Pick → List ℕ
 threadsPut net ps = endToEnd (map threadBytes (after net ps .threads))
+
+-- ── picks: thread place and row place ──
+
+unfoldable pub picksPut : List Pick → List ℕ
+picksPut ps = endToEnd (map (λ (p : Pick). p .thread ∷ p .row ∷ []) ps)

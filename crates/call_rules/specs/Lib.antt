@@ -2,4 +2,7 @@
 pub mod Calls
 pub mod Examples
 pub mod Layouts
+pub mod Moments
 pub mod Openings
+pub mod Replies
+pub mod Traces

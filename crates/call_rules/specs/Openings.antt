@@ -12,8 +12,6 @@ use Rattle.nets.specs.View.{noThread, view}
 use Rattle.step_thread.specs.Contracts.{Stacked}
 use Rattle.files.specs.declared.Verdict.{Verdict}
 use Rattle.files.specs.declared.Verdict.the-variants as verdict
-use Rattle.files.specs.declared.Written.{Written}
-use Rattle.files.specs.declared.Written.the-variants.{Length, Unsound, Short}
 use Rattle.call_rules.specs.declared.Reply.{Reply}
 use Rattle.call_rules.specs.declared.NotOpened.{NotOpened}
 use Rattle.call_rules.specs.declared.NotOpened.the-variants.{Fault, OddPicks}
@@ -21,7 +19,8 @@ use Rattle.call_rules.specs.declared.Opening.{Opening}
 use Rattle.call_rules.specs.declared.Opening.the-variants.{Accepted, Refused}
 use Rattle.call_rules.specs.declared.Opened.{Opened}
 use Rattle.step_bytes.specs.PickBytes.{picksIn}
-use Rattle.call_rules.specs.Calls.{oddPicksNumber, Called, refusing, ifRoom, called}
+use Rattle.call_rules.specs.Replies.{Called, refusing}
+use Rattle.call_rules.specs.Calls.{oddPicksNumber, called}
 
 -- ── what a call begins with ──
 
@@ -35,23 +34,15 @@ abbrev pub refusalReply : NotOpened → Reply
 refusalReply (Fault n i) = record { number = n; place = i }
 refusalReply OddPicks = record { number = oddPicksNumber; place = 0 }
 
--- by what is said of file and picks
-abbrev pub openingGives : Opening → List ℕ → List ℕ → Called
-openingGives Accepted bs buffer = ifRoom bs buffer
-openingGives (Refused why) bs buffer = refusing (refusalReply why .number) (refusalReply why .place)
+-- by what is said of file and picks: refused, or what is made of them
+abbrev pub openingGives : Opening → Called → Called
+openingGives Accepted made = made
+openingGives (Refused why) made = refusing (refusalReply why .number) (refusalReply why .place)
 
--- whatever a call hands out of net and picks
+-- whatever a call makes of net and picks
 pub record OpenIs (file picks : List ℕ) (r : Opened) : Type 0 where
-  pub called : (bytes : Net → List Pick → List ℕ) (buffer : List ℕ) → called bytes file picks buffer ≡ openingGives (r .opening) (bytes (view (r .net)) (picksIn picks)) buffer
+  pub called : (made : Net → List Pick → Called) → called made file picks ≡ openingGives (r .opening) (made (view (r .net)) (picksIn picks))
   pub isSound : r .opening ≡ Accepted → T (sound (view (r .net)))
-
--- ── writing ──
-
--- a run leaves no unsound net
-abbrev pub replyTo : Written → Reply
-replyTo (Length n) = record { number = 0; place = n }
-replyTo Unsound = record { number = 10; place = 0 }
-replyTo Short = record { number = 21; place = 0 }
 
 -- ── threads ──
 

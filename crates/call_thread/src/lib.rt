@@ -42,7 +42,7 @@ fn flag_of(f: Frame, i: usize) -> u8
     }
 }
 
-fn put_visit(out: &mut [u8], f: Frame)
+pub fn put_visit(out: &mut [u8], f: Frame)
     requires { ⌜ length (now out) ≡ 16 ⌝ }
     ensures { λ _. ⌜ now (out .exit) ≡ visitBytes (toVisit (entryOf f)) ⌝ }
 {
@@ -54,7 +54,7 @@ fn put_visit(out: &mut [u8], f: Frame)
 }
 
 // 0 for a node to run, 1 for a loop.
-fn entry_kind(f: Frame) -> u8
+pub fn entry_kind(f: Frame) -> u8
     ensures { λ r. ⌜ r ≡ entryKind (entryOf f) ⌝ }
 {
     let e = f.entry;

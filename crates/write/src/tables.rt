@@ -34,6 +34,14 @@ fn total_rows(tables: [Table; 8], count: usize) -> usize
     total
 }
 
+// How long the records of all tables and rows are.
+pub fn tables_size(tables: [Table; 8], count: usize) -> usize
+    requires { ⌜ (count ≤ 8) × T (all tableOk (tablesOf count tables)) ⌝ }
+    ensures { λ r. ⌜ (r ≡ length (written (tablesOf count tables))) × (r ≤ 14144) ⌝ }
+{
+    count * RECORD + total_rows(tables, count) * RECORD
+}
+
 // The table records.
 fn put_tables(out: &mut [u8], tables: [Table; 8], count: usize)
     requires { ⌜ (count ≤ 8) × (length (now out) ≡ count * 104) ⌝ }
@@ -71,7 +79,7 @@ pub fn write_tables(out: &mut [u8], tables: [Table; 8], count: usize) -> Written
     ensures { λ r. ⌜ (saidWritten r ≡ writtenAnswer (ifRoom (written (tablesOf count tables)) (now (out .entry)))) × (now (out .exit) ≡ bufferAfter (now (out .entry)) (ifRoom (written (tablesOf count tables)) (now (out .entry)))) ⌝ }
 {
     let heads = count * RECORD;
-    let size = heads + total_rows(tables, count) * RECORD;
+    let size = tables_size(tables, count);
     if out.len() < size {
         return Written::Short;
     }

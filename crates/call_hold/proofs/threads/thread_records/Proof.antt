@@ -1,0 +1,15 @@
+-- `call_hold::threads::thread_records` meets its contract: the counts of its parts. Assumes nothing.
+use native.Mathlib.Omega.{arith}
+use Rattle.call_hold.proofs.HoldLaws.{thread-count}
+use borrow.Author.Needs.{needs}
+use Rattle.call_hold.proofs.threads.thread_records.Statement.{statement}
+use Rattle.call_hold.proofs.threads.thread_records.Tie as tie
+
+pub thread-records-spec : {M : Type 1} → statement M
+thread-records-spec =
+    tie.close
+    (tie.spec
+    (λ c κs. search needs)
+    (λ c. search needs)
+    (λ c. search needs)
+    (λ c. let h = thread-count (c .before .before .before .args .t) in (omega (arith, h), omega arith)))

@@ -1,0 +1,2 @@
+-- What the functions on what a thread holds require.
+pub mod Holdings

@@ -1,0 +1,33 @@
+-- A trace: the moments of a run from a given one on, as many as the buffer has room for.
+use Prim.Native.Nat.{ℕ, _-_}
+use mathlib.Core.Bool.{cond}
+use mathlib.Core.List.{List, [], _∷_, _++_, map}
+use lib.Dec.{leb}
+use lib.ListN.{length, take, drop}
+use Rattle.nets.specs.declared.Pick.{Pick}
+use Rattle.nets.specs.Nets.{Net}
+use Rattle.nets.specs.Accounts.{nextNet, after}
+use Rattle.call_rules.specs.Moments.{momentPut}
+use Rattle.call_rules.specs.Replies.{Called, refusing, putting}
+
+-- the net before all picks, and after each
+abbrev pub netsAlong : Net → List Pick → List Net
+netsAlong net [] = net ∷ []
+netsAlong net (p ∷ ps) = net ∷ netsAlong (nextNet net p) ps
+
+-- as many parts, each whole and in order, as there is room for
+abbrev pub inRoom : ℕ → List (List ℕ) → List ℕ
+inRoom room [] = []
+inRoom room (bs ∷ l) = cond (leb (length bs) room) (bs ++ inRoom (room - length bs) l) []
+
+unfoldable pub tracePut : Net → List Pick → ℕ → List ℕ
+tracePut net ps room = inRoom room (map momentPut (netsAlong net ps))
+
+-- 21, with the length that is needed, where not even the first moment has room
+unfoldable pub tracedFrom : Net → List Pick → List ℕ → Called
+tracedFrom net ps buffer =
+    cond (leb (length (momentPut net)) (length buffer)) (putting (tracePut net ps (length buffer))) (refusing 21 (length (momentPut net)))
+
+-- the first `from` picks are carried out and leave no moment but the last
+abbrev pub traced : ℕ → Net → List Pick → List ℕ → Called
+traced from net ps buffer = tracedFrom (after net (take from ps)) (drop from ps) buffer
