@@ -9,7 +9,7 @@ use lib.ListN.{length, getD, length-append, length-map, List·getD-map}
 use Rattle.values.specs.declared.Value.the-variants.{Int, Text, Loc}
 use Rattle.values.specs.declared.Got.{Got}
 use Rattle.values.specs.declared.Got.the-variants.{Nothing, One}
-use Rattle.values.specs.Lists.{places, firsts}
+use Rattle.values.specs.Lists.{places}
 use Rattle.values.specs.declared.Slot.{Slot}
 use Rattle.values.specs.Operands.{Vars, varsOf, valuesIn}
 use Rattle.values.proofs.Firsts.{length-firsts, map-firsts}
@@ -28,7 +28,7 @@ use Rattle.value_bytes.proofs.Stores.{ends-append, ends-length}
 use Rattle.call_rules.specs.Layouts.{toVisit, visitBytes}
 use Rattle.call_rules.specs.Moments.{valuesRecord, variableRecord, variableRecords, relationHead, relationRecords, bindingsRecords, entryRecord, threadHead, threadRecords}
 use Rattle.call_hold.specs.Holdings.{VariableShaped, RelationsShaped, rowsHeld, recordsHeld}
-use Rattle.call_hold.proofs.RecordLaws.{Sized, sized-length, sized-append, sized-map, values-length}
+use Rattle.call_hold.proofs.RecordLaws.{Sized, sized-length, sized-append, sized-map, sized-firsts, values-length}
 
 -- ── variables ──
 
@@ -82,22 +82,11 @@ rows-length i r k =
     ap (λ (l : List (List ℕ)). length (endToEnd l)) (map-firsts (valuesRecord 68 i) (valuesOf (r .columns)) noRow (r .count) (r .rows))
     ∙ ends-length (λ (x : Row). valuesRecord 68 i (valuesOf (r .columns) x)) noRow 104 (λ x. values-length (r .columns) x (k .columns) 68 i) (r .count) (r .rows)
 
-sized-firsts : (i : ℕ) (r : Relation) → Shaped r → Sized (map (valuesRecord 68 i) (relationOf r .rows))
-sized-firsts i r k = go (r .count) (r .rows)
-  where
-    each : (x : Row) → length (valuesRecord 68 i (valuesOf (r .columns) x)) ≡ 104
-    each x = values-length (r .columns) x (k .columns) 68 i
-
-    go : (n : ℕ) (l : List Row) → Sized (map (valuesRecord 68 i) (firsts (valuesOf (r .columns)) noRow n l))
-    go zero l = tt
-    go (suc n) [] = (each noRow, go n [])
-    go (suc n) (x ∷ l) = (each x, go n l)
-
 relation-sized : (i : ℕ) (v : TableVariable) → VariableShaped v → Sized (relationRecords i (variableOf v))
 relation-sized i v k = go (v .bound) (k .shaped)
   where
     go : (b : Bool) → (b ≡ true → Shaped (v .content)) → Sized (relationRecords i (cond b (some (relationOf (v .content))) none))
-    go true h = (head-length i 1 _, sized-firsts i (v .content) (h refl))
+    go true h = (head-length i 1 _, sized-firsts (valuesRecord 68 i) (valuesOf (v .content .columns)) noRow (λ x. values-length (v .content .columns) x (h refl .columns) 68 i) (v .content .count) (v .content .rows))
     go false h = (head-length i 0 _, tt)
 
 -- ── the stack ──

@@ -7,7 +7,7 @@ use native.Mathlib.Numerals.{add-one}
 use lib.ListN.{length, take, drop, replicate, length-append, length-take, length-drop, drop-of-length-le}
 use lib.Seq.{drop-at}
 use borrow.Rule.Slice.PartMut.{putMid}
-use Rattle.values.specs.Lists.{places}
+use Rattle.values.specs.Lists.{places, firsts}
 use Rattle.rows.specs.declared.Row.{Row}
 use Rattle.rows.specs.View.{valuesOf}
 use Rattle.rows.specs.Relations.{Columns}
@@ -111,6 +111,11 @@ pub sized-map : {A : Type 0} (g : A → List ℕ) → ((a : A) → length (g a) 
 sized-map g h [] = tt
 sized-map g h (a ∷ l) = (h a, sized-map g h l)
 
+pub sized-firsts : {A B : Type 0} (g : B → List ℕ) (f : A → B) (z : A) → ((a : A) → length (g (f a)) ≡ 104) → (n : ℕ) (l : List A) → Sized (map g (firsts f z n l))
+sized-firsts g f z h zero l = tt
+sized-firsts g f z h (suc n) [] = (h z, sized-firsts g f z h n [])
+sized-firsts g f z h (suc n) (a ∷ l) = (h a, sized-firsts g f z h n l)
+
 -- two and three parts that fill a buffer
 pub two-fill : (o x y : List ℕ) (a n : ℕ) → length x ≡ a → length o ≡ a + n → putMid a n (x ++ drop a o) y ≡ x ++ y
 two-fill o x y a n lx lo = rw (part-written x o y a n lx, drop-of-length-le o {i = a + n} (omega arith), append-nil)
@@ -125,3 +130,7 @@ pub part-left : (o x y : List ℕ) (a n m : ℕ) → length x ≡ a → length y
 part-left o x y a n m lx ly lo =
     let l : length (x ++ y) ≡ a + n = simp length-append (omega arith) in
     rw (part-written x o y a n lx, drop-at (x ++ y) (drop (a + n) o) (a + n) l) (simp (length-take, length-drop) (omega arith))
+
+-- what one part leaves for a second
+pub part-first : (o x : List ℕ) (a n : ℕ) → length x ≡ a → a + n ≤ length o → length (take n (drop a (x ++ drop a o))) ≡ n
+part-first o x a n lx lo = rw (drop-at x (drop a o) a lx) (simp (length-take, length-drop) (omega arith))

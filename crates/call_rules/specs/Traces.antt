@@ -10,18 +10,19 @@ use Rattle.nets.specs.Accounts.{nextNet, after}
 use Rattle.call_rules.specs.Moments.{momentPut}
 use Rattle.call_rules.specs.Replies.{Called, refusing, putting}
 
--- the net before all picks, and after each
-abbrev pub netsAlong : Net → List Pick → List Net
-netsAlong net [] = net ∷ []
-netsAlong net (p ∷ ps) = net ∷ netsAlong (nextNet net p) ps
+-- the net after each pick
+abbrev pub netsAfter : Net → List Pick → List Net
+netsAfter net [] = []
+netsAfter net (p ∷ ps) = nextNet net p ∷ netsAfter (nextNet net p) ps
 
 -- as many parts, each whole and in order, as there is room for
 abbrev pub inRoom : ℕ → List (List ℕ) → List ℕ
 inRoom room [] = []
 inRoom room (bs ∷ l) = cond (leb (length bs) room) (bs ++ inRoom (room - length bs) l) []
 
+-- the net before all picks, and after each
 unfoldable pub tracePut : Net → List Pick → ℕ → List ℕ
-tracePut net ps room = inRoom room (map momentPut (netsAlong net ps))
+tracePut net ps room = inRoom room (map momentPut (net ∷ netsAfter net ps))
 
 -- 21, with the length that is needed, where not even the first moment has room
 unfoldable pub tracedFrom : Net → List Pick → List ℕ → Called

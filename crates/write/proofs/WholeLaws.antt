@@ -23,7 +23,7 @@ use Rattle.write_fields.proofs.WriteLaws.{row-length, table-length}
 
 -- ── counts of a table in its ranges ──
 
-all-firsts : {A B : Type 0} (p : B → Bool) (f : A → B) (z : A) (n : ℕ) (l : List A) (i : ℕ) → i < n → T (all p (firsts f z n l)) → T (p (f (getD l i z)))
+pub all-firsts : {A B : Type 0} (p : B → Bool) (f : A → B) (z : A) (n : ℕ) (l : List A) (i : ℕ) → i < n → T (all p (firsts f z n l)) → T (p (f (getD l i z)))
 all-firsts p f z zero l i h t = absurd (omega arith)
 all-firsts p f z (suc n) [] zero h t = and-l (p (f z)) (all p (firsts f z n [])) t
 all-firsts p f z (suc n) (a ∷ l) zero h t = and-l (p (f a)) (all p (firsts f z n l)) t
@@ -56,7 +56,7 @@ bodies n ts = endToEnd (allRows (tablesOf n ts))
 abbrev pub body : Table → List ℕ
 body t = endToEnd (rowsBytes (tableOf t))
 
-rows-append : (ts us : List M.Table) → allRows (ts ++ us) ≡ allRows ts ++ allRows us
+pub rows-append : (ts us : List M.Table) → allRows (ts ++ us) ≡ allRows ts ++ allRows us
 rows-append [] us = refl
 rows-append (t ∷ ts) us = rw (rows-append ts us, append-assoc)
 

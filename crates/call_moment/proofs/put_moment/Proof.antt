@@ -1,0 +1,103 @@
+-- `call_moment::put_moment` meets its contract: three adjacent parts. Assumes nothing.
+use Prim.Native.Nat.{ℕ, _+_, _-_, _*_, _/_, _≤_}
+use mathlib.Core.Path.{_≡_, refl, sym, ap, _∙_}
+use mathlib.Core.Bool.{true}
+use mathlib.Core.List.{List, _++_, append-nil}
+use native.Mathlib.Omega.{arith}
+use lib.Dec.{T, leb}
+use lib.ListN.{length, take, drop, length-take, length-drop, drop-of-length-le}
+use borrow.Author.Tests.{le-leb}
+use borrow.Rule.Slice.PartMut.{putMid}
+use Rattle.values.proofs.Firsts.{length-firsts}
+use Rattle.nets.specs.declared.Net.{Net}
+use Rattle.nets.specs.Sound.{sound}
+use Rattle.nets.specs.View.{noTable, noThread, tableOf, tablesOf, threadOf, threadsOf, view}
+use Rattle.value_bytes.specs.Bytes.{endToEnd}
+use Rattle.value_bytes.proofs.Stores.{part-size}
+use Rattle.files.specs.Writing.{written, bufferAfter}
+use Rattle.write.specs.WriteCall.{ifRoom}
+use Rattle.call_rules.specs.Moments.{allThreads, momentHead, momentPut}
+use Rattle.call_hold.proofs.RecordLaws.{three-fill, part-left, part-first}
+use Rattle.call_moment.proofs.SoundParts.{few-threads, few-tables, tables-ok, all-shaped}
+use Rattle.call_moment.proofs.MomentLaws.{head-length, moment-length, moment-parts}
+use borrow.Author.Needs.{needs}
+use Rattle.call_moment.proofs.put_moment.Statement.{statement}
+use Rattle.call_moment.proofs.put_moment.Tie as tie
+
+-- bytes written into a part that they fill
+written-whole : (w part y : List ℕ) → length part ≡ length w → y ≡ bufferAfter part (ifRoom w part) → y ≡ w
+unfolding ifRoom
+written-whole w part y l e =
+    let q : leb (length w) (length part) ≡ true = le-leb (length w) (length part) (omega arith) in
+    e ∙ rw (q, drop-of-length-le part {i = length w} (omega arith), append-nil)
+
+module _ (net : Net) (ok : T (sound (view net))) (o : List ℕ) (l : length o ≡ length (momentPut (view net))) (s n : ℕ) (es : s ≡ length (written (tablesOf (net .tablecount) (net .tables)))) (en : n ≡ length (momentPut (view net))) where
+  abbrev m : ℕ
+  m = length (allThreads (threadsOf (net .threadcount) (net .threads))) * 104
+
+  -- the three parts fill the buffer
+  pub whole : n ≡ 104 + s + m
+  whole = omega (arith, moment-length net ok)
+
+  pub rest : n - (104 + s) ≡ m
+  rest = omega (arith, whole)
+
+  abbrev headOf : List ℕ
+  headOf = momentHead (net .tablecount) (net .threadcount) (n / 104)
+
+  abbrev part : List ℕ → List ℕ
+  part x = take (104 + s - 104) (drop 104 (x ++ drop 104 o))
+
+  pub part-long : (x : List ℕ) → x ≡ headOf → length (part x) ≡ s
+  part-long x hx = rw (part-size 104 s) (part-first o x 104 s (ap length hx ∙ head-length (net .tablecount) (net .threadcount) (n / 104)) (omega (arith, whole)))
+
+  tables-are : (x y : List ℕ) → x ≡ headOf → y ≡ bufferAfter (part x) (ifRoom (written (tablesOf (net .tablecount) (net .tables))) (part x)) → y ≡ written (tablesOf (net .tablecount) (net .tables))
+  tables-are x y hx hy = written-whole (written (tablesOf (net .tablecount) (net .tables))) (part x) y (part-long x hx ∙ es) hy
+
+  moment-is : momentPut (view net) ≡ headOf ++ (written (tablesOf (net .tablecount) (net .tables)) ++ endToEnd (allThreads (threadsOf (net .threadcount) (net .threads))))
+  moment-is =
+      moment-parts net ok
+      ∙ rw (length-firsts tableOf noTable (net .tablecount) (net .tables), length-firsts threadOf noThread (net .threadcount) (net .threads), sym en) refl
+
+  put-all : (x y z : List ℕ) → x ≡ headOf → y ≡ bufferAfter (part x) (ifRoom (written (tablesOf (net .tablecount) (net .tables))) (part x)) → z ≡ endToEnd (allThreads (threadsOf (net .threadcount) (net .threads))) →
+      putMid (104 + s) (n - (104 + s)) (putMid 104 (104 + s - 104) (x ++ drop 104 o) y) z ≡ momentPut (view net)
+  put-all x y z hx hy hz =
+      let ty = tables-are x y hx hy in
+      rw (part-size 104 s, rest)
+      (three-fill o x y z 104 s m (ap length hx ∙ head-length (net .tablecount) (net .threadcount) (n / 104)) (ap length ty ∙ sym es) (omega (arith, whole)) ∙ rw (hx, ty, hz) (sym moment-is))
+
+  same : (x y z : List ℕ) → x ≡ headOf → y ≡ bufferAfter (part x) (ifRoom (written (tablesOf (net .tablecount) (net .tables))) (part x)) → z ≡ endToEnd (allThreads (threadsOf (net .threadcount) (net .threads))) →
+      length (putMid (104 + s) (n - (104 + s)) (putMid 104 (104 + s - 104) (x ++ drop 104 o) y) z) ≡ length o
+  same x y z hx hy hz = ap length (put-all x y z hx hy hz) ∙ sym l
+
+  last-part : (x y : List ℕ) → x ≡ headOf → y ≡ bufferAfter (part x) (ifRoom (written (tablesOf (net .tablecount) (net .tables))) (part x)) →
+      length (take (n - (104 + s)) (drop (104 + s) (putMid 104 (104 + s - 104) (x ++ drop 104 o) y))) ≡ m
+  last-part x y hx hy =
+      rw (part-size 104 s, rest) (part-left o x y 104 s m (ap length hx ∙ head-length (net .tablecount) (net .threadcount) (n / 104)) (ap length (tables-are x y hx hy) ∙ sym es) (omega (arith, whole)))
+
+fits : (c : tie.After-moment-size) → c .moment-size .result ≡ 104 + c .before .tables-size .result + m (c .before .before .before .before .before .args .net) (c .before .before .before .before .before .pre .0) (c .before .before .before .before .before .args .out .now) (c .before .before .before .before .before .pre .1) (c .before .tables-size .result) (c .moment-size .result) (c .before .tables-size .ensures .0) (c .moment-size .ensures .0)
+fits c = whole (c .before .before .before .before .before .args .net) (c .before .before .before .before .before .pre .0) (c .before .before .before .before .before .args .out .now) (c .before .before .before .before .before .pre .1) (c .before .tables-size .result) (c .moment-size .result) (c .before .tables-size .ensures .0) (c .moment-size .ensures .0)
+
+pub put-moment-spec : {M : Type 1} → statement M
+put-moment-spec =
+    tie.close
+    (tie.spec
+    (λ c κs. let s = c .before .before .before in (few-tables (s .args .net) (s .pre .0), tables-ok (s .args .net) (s .pre .0)))
+    (λ c. search needs)
+    (λ c κs. search needs)
+    (λ c. search needs)
+    (λ c. search needs)
+    (λ c. omega (arith, fits c))
+    (λ c. omega (arith, few-tables (c .before .before .before .before .before .before .before .args .net) (c .before .before .before .before .before .before .before .pre .0)))
+    (λ c. omega (arith, few-threads (c .before .before .before .before .before .before .before .before .args .net) (c .before .before .before .before .before .before .before .before .pre .0)))
+    (λ c κs. search needs)
+    (λ c. search needs)
+    (λ c. search needs)
+    (λ c. omega (arith, fits (c .before .before .before .before .before .before)))
+    (λ c κs. let s = c .before .before .before .before .before .before .before .before .before .before .before .before in (few-tables (s .args .net) (s .pre .0), tables-ok (s .args .net) (s .pre .0)))
+    (λ c. omega (arith, fits (c .before .before .before .before .before .before .before .before .before .before)))
+    (λ c. omega (arith, fits (c .before .before .before .before .before .before .before .before .before .before)))
+    (λ c. search needs)
+    (λ c κs. let s = c .before .before .before .before .before .before .before .before .before .before .before .before .before .before .before .before in (few-threads (s .args .net) (s .pre .0), all-shaped (s .args .net) (s .pre .0), search last-part))
+    (λ c. search same)
+    (λ c. search put-all))
