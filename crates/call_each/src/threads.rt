@@ -12,7 +12,8 @@ ghost use Rattle.nets.specs.Sound.{sound};
 ghost use Rattle.nets.specs.View.{view};
 ghost use Rattle.call_rules.specs.Layouts.{threadsPut};
 ghost use Rattle.step_bytes.specs.PickBytes.{picksIn};
-ghost use Rattle.call_rules.specs.Calls.{ifRoom, Gives, ThreadsIs};
+ghost use Rattle.call_rules.specs.Replies.{ifRoom};
+ghost use Rattle.call_rules.specs.Calls.{Gives, ThreadsIs};
 
 // Of a file and picks that are accepted.
 fn threads_left(net: Net, picks: &[u8], out: &mut [u8]) -> Reply
@@ -25,7 +26,7 @@ fn threads_left(net: Net, picks: &[u8], out: &mut [u8]) -> Reply
     if out.len() < size {
         return Reply {
             number: 21,
-            place: 0,
+            place: size,
         };
     }
     let threads = left.threads;

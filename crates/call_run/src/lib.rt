@@ -12,7 +12,9 @@ ghost use Rattle.nets.specs.Accounts.{after};
 ghost use Rattle.nets.specs.View.{view};
 ghost use Rattle.step_bytes.specs.PickBytes.{picksIn};
 ghost use Rattle.step_bytes.specs.AnswerBytes.{answersPut};
-ghost use Rattle.call_rules.specs.Calls.{ifRoom, Gives};
+ghost use Prim.Native.Nat.{_*_};
+ghost use Rattle.call_rules.specs.Replies.{needed, ifRoom};
+ghost use Rattle.call_rules.specs.Calls.{Gives};
 
 // The net after all picks. No step makes a sound net unsound, so soundness is not tested.
 pub fn run_picks(start: Net, picks: &[u8]) -> Net
@@ -24,6 +26,16 @@ pub fn run_picks(start: Net, picks: &[u8]) -> Net
     left_by(start, g)
 }
 
+// The length of so many answers; one past 64 bits is told as the largest number of 64 bits.
+fn answers_length(count: usize) -> usize
+    ensures { λ r. ⌜ r ≡ needed (count * 24) ⌝ }
+{
+    if count > 768614336404564650 {
+        return 18446744073709551615;
+    }
+    count * ANSWER
+}
+
 // The answer to each pick. There is one for each, so whether there is room is known before the picks are carried out.
 pub fn answers_given(net: Net, picks: &[u8], out: &mut [u8]) -> Reply
     requires { ⌜ T (sound (view net)) ⌝ }
@@ -33,7 +45,7 @@ pub fn answers_given(net: Net, picks: &[u8], out: &mut [u8]) -> Reply
     if !has_room(out.len(), count) {
         return Reply {
             number: 21,
-            place: 0,
+            place: answers_length(count),
         };
     }
     carry_out(net, picks, out);

@@ -15,7 +15,8 @@ use Rattle.step_bytes.specs.PickBytes.{picksIn}
 use Rattle.step_bytes.specs.AnswerBytes.{answersPut}
 use Rattle.step_bytes.proofs.PickLaws.{picks-length}
 use Rattle.step_bytes.proofs.AnswerLaws.{answers-size}
-use Rattle.call_rules.specs.Calls.{ifRoom, Gives}
+use Rattle.call_rules.specs.Replies.{needed, ifRoom}
+use Rattle.call_rules.specs.Calls.{Gives}
 use Rattle.call_rules.proofs.CallLaws.{gives-short, gives-all}
 use Rattle.call_run.proofs.answers_given.Statement.{statement}
 use Rattle.call_run.proofs.answers_given.Tie as tie
@@ -24,16 +25,16 @@ module _ (m : Net) (picks o : List ℕ) where
   size : length (answersPut m (picksIn picks)) ≡ length picks / 2 * 24
   size = let h = picks-length picks in answers-size m (picksIn picks) ∙ ap (λ (n : ℕ). n * 24) (omega (arith, h .0, h .1))
 
-  short : leb (length picks / 2 * 24) (length o) ≡ false → Gives (ifRoom (answersPut m (picksIn picks)) o) o o 21 0
-  short h = gives-short (answersPut m (picksIn picks)) o (length picks / 2 * 24) size (leb-false _ _ h)
+  short : (p : ℕ) → leb (length picks / 2 * 24) (length o) ≡ false → p ≡ needed (length picks / 2 * 24) → Gives (ifRoom (answersPut m (picksIn picks)) o) o o 21 p
+  short p h e = gives-short (answersPut m (picksIn picks)) o (length picks / 2 * 24) size p (leb-false _ _ h) e
 
   given : (out : List ℕ) → leb (length picks / 2 * 24) (length o) ≡ true → out ≡ putAll (answersPut m (picksIn picks)) o → Gives (ifRoom (answersPut m (picksIn picks)) o) o out 0 (length picks / 2 * 24)
   given out h e = gives-all (answersPut m (picksIn picks)) o (length picks / 2 * 24) size out (leb-true _ _ h) e
 
 returns : tie.Need-returns
 returns c =
-    let a = c .before .before .before .before .args in
-    short (view (a .net)) (a .picks .now) (a .out .now) (sym (c .before .has-room .ensures) ∙ not-true _ (c .if1 .taken))
+    let a = c .before .before .before .before .before .args in
+    short (view (a .net)) (a .picks .now) (a .out .now) _ (sym (c .before .before .has-room .ensures) ∙ not-true _ (c .before .if1 .taken)) (c .answers-length .ensures)
 
 -- there is room for all
 fits : (c : tie.After-slice-known2) →
@@ -56,6 +57,7 @@ pub answers-given-spec : {M : Type 1} → statement M
 answers-given-spec =
     tie.close
     (tie.spec
+    (λ c κs. search needs)
     (λ c κs. search needs)
     returns
     (λ c κs. search needs)

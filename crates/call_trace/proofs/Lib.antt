@@ -1,0 +1,2 @@
+-- Laws of traces.
+pub mod TraceLaws
