@@ -1,2 +1,3 @@
--- Laws that belong to no one function.
+-- Laws of what calls put out.
+pub mod OwnPicks
 pub mod ThreadsLeft

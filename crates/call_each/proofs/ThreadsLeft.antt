@@ -3,30 +3,21 @@ use Prim.Native.Nat.{_*_, _≤_}
 use mathlib.Core.Path.{_≡_, refl, sym, ap}
 use mathlib.Core.List.{List, map}
 use native.Mathlib.Omega.{arith}
-use lib.Dec.{T, leb→le}
+use lib.Dec.{T}
 use lib.ListN.{length}
-use Rattle.values.proofs.Firsts.{length-firsts}
 use Rattle.nets.specs.declared.Pick.{Pick}
 use Rattle.nets.specs.declared.Net.{Net}
 use Rattle.nets.specs.Nets as M
 use Rattle.nets.specs.Sound.{sound}
 use Rattle.nets.specs.Accounts.{after}
 use Rattle.nets.specs.View.{noThread, threadOf, threadsOf, view}
-use Rattle.nets.proofs.SoundLaws.{clauses}
 use Rattle.step_picks.proofs.SceneTies.{thread-stacked}
 use Rattle.value_bytes.specs.Bytes.{endToEnd}
 use Rattle.value_bytes.proofs.Stores.{ends-length}
 use Rattle.call_rules.specs.Layouts.{threadBytes, threadsPut}
 use Rattle.call_rules.specs.Openings.{AllStacked}
+use Rattle.call_moment.proofs.SoundParts.{threads-of}
 use Rattle.call_thread.proofs.ThreadLaws.{bytesOf, thread-length, threads-are}
-
-threads-of : (net : Net) → view net .threads ≡ threadsOf (net .threadcount) (net .threads)
-unfolding view
-threads-of net = refl
-
-pub few-threads : (net : Net) → T (sound (view net)) → net .threadcount ≤ 8
-few-threads net ok =
-    omega (arith, leb→le (length (view net .threads)) 8 (clauses (view net) ok .fewThreads), ap length (threads-of net), length-firsts threadOf noThread (net .threadcount) (net .threads))
 
 pub all-stacked : (net : Net) → T (sound (view net)) → AllStacked (net .threadcount) (net .threads)
 all-stacked net ok i h = thread-stacked net (record { thread = i; row = 0 }) ok h

@@ -1,4 +1,6 @@
-// The three calls that other programs make: the answers to all picks, and the tables and the threads that the picks leave, as bytes.
+// The calls that other programs make: the answers to all picks, the tables and the threads that they leave, a trace of the run, and a file's own picks, as bytes.
 pub mod answers;
+pub mod picks;
 pub mod tables;
 pub mod threads;
+pub mod trace;

@@ -37,6 +37,7 @@ shaped v h = record { shaped = λ e. go e }
   where
     ok : v .bound ≡ true → T (relationOk (some (relationOf (v .content))))
     ok e = rw e at h
+
     go : v .bound ≡ true → Shaped (v .content)
     go e =
         let r = v .content in
@@ -60,7 +61,7 @@ few-entries ds t h = search (and-l, and-r) depth 12
 thread-shaped : (ds : List M.Node) (t : Thread) → T (threadOk ds (threadOf t)) → ThreadShaped t
 thread-shaped ds t h =
     let at : (i : ℕ) → T (relationOk (variableOf (getD (t .relations) i noVariable))) =
-          λ i. subst (λ (r : Option Relation). T (relationOk r)) (List·getD-map variableOf (t .relations) i noVariable) (all-at (threadOf t .bindings .relations) i (relations-ok ds (threadOf t) h)) in
+    λ i. subst (λ (r : Option Relation). T (relationOk r)) (List·getD-map variableOf (t .relations) i noVariable) (all-at (threadOf t .bindings .relations) i (relations-ok ds (threadOf t) h)) in
     record {
       relations = record { first = shaped (getD (t .relations) 0 noVariable) (at 0); second = shaped (getD (t .relations) 1 noVariable) (at 1) };
       depth = omega (arith, leb→le (length (threadOf t .stack)) 8 (few-entries ds (threadOf t) h), length-stack (t .depth) (t .stack));
@@ -91,5 +92,5 @@ module _ (net : Net) (ok : T (sound (view net))) where
   pub all-shaped : AllShaped (net .threadcount) (net .threads)
   all-shaped i h =
       let oks : T (all (threadOk (view net .nodes)) (threadsOf (net .threadcount) (net .threads))) =
-            subst (λ (l : List M.Thread). T (all (threadOk (view net .nodes)) l)) (threads-of net) (clauses (view net) ok .threads) in
+      subst (λ (l : List M.Thread). T (all (threadOk (view net .nodes)) l)) (threads-of net) (clauses (view net) ok .threads) in
       thread-shaped (view net .nodes) (getD (net .threads) i noThread) (all-firsts (threadOk (view net .nodes)) threadOf noThread (net .threadcount) (net .threads) i h oks)

@@ -1,8 +1,10 @@
 // The engine for programs in C and Rust: a net file and picks in, bytes out. Every call answers every input.
 use call_each::answers::call_answers;
+use call_each::picks::call_picks;
 use call_each::tables::call_tables;
 use call_each::threads::call_threads;
-ghost use Rattle.call_rules.specs.Calls.{TablesIs, AnswersIs, ThreadsIs};
+use call_each::trace::call_trace;
+ghost use Rattle.call_rules.specs.Calls.{TablesIs, AnswersIs, ThreadsIs, TraceIs, PicksIs};
 
 // The tables left after all picks, as records that load again.
 #[no_mangle]
@@ -45,6 +47,32 @@ pub extern "C" fn tivgeral_threads(
     ensures { λ r. ⌜ ThreadsIs (now (file .entry)) (now (picks .entry)) (now (out .entry)) (now (out .exit)) r (now (place .exit)) ⌝ }
 {
     let reply = call_threads(file, picks, out);
+    *place = reply.place;
+    reply.number
+}
+
+// The net after the first `from` picks and after each further one, with all that threads hold, as long as there is room.
+#[no_mangle]
+pub extern "C" fn tivgeral_trace(
+    file: &[u8],
+    picks: &[u8],
+    from: usize,
+    out: &mut [u8],
+    place: &mut usize,
+) -> u8
+    ensures { λ r. ⌜ TraceIs (now (file .entry)) (now (picks .entry)) from (now (out .entry)) (now (out .exit)) r (now (place .exit)) ⌝ }
+{
+    let reply = call_trace(file, picks, from, out);
+    *place = reply.place;
+    reply.number
+}
+
+// The file's own picks.
+#[no_mangle]
+pub extern "C" fn tivgeral_picks(file: &[u8], out: &mut [u8], place: &mut usize) -> u8
+    ensures { λ r. ⌜ PicksIs (now (file .entry)) (now (out .entry)) (now (out .exit)) r (now (place .exit)) ⌝ }
+{
+    let reply = call_picks(file, out);
     *place = reply.place;
     reply.number
 }

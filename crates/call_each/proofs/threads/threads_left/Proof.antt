@@ -14,15 +14,17 @@ use Rattle.nets.specs.Accounts.{after}
 use Rattle.nets.specs.View.{threadsOf, view}
 use Rattle.value_bytes.specs.Bytes.{endToEnd}
 use Rattle.call_rules.specs.Layouts.{threadBytes, threadsPut}
-use Rattle.call_rules.specs.Calls.{ifRoom, Gives}
-use Rattle.call_rules.proofs.CallLaws.{gives-short, gives-put}
-use Rattle.call_each.proofs.ThreadsLeft.{few-threads, all-stacked, threads-put, threads-size}
+use Rattle.call_rules.specs.Replies.{ifRoom}
+use Rattle.call_rules.specs.Calls.{Gives}
+use Rattle.call_rules.proofs.CallLaws.{needed-is, gives-short, gives-put}
+use Rattle.call_moment.proofs.SoundParts.{few-threads}
+use Rattle.call_each.proofs.ThreadsLeft.{all-stacked, threads-put, threads-size}
 use Rattle.call_each.proofs.threads.threads_left.Statement.{statement}
 use Rattle.call_each.proofs.threads.threads_left.Tie as tie
 
 module _ (m : Net) (ps : List Pick) (net : Code.Net) (e : (view net ≡ after m ps) × T (sound (view net))) (o : List ℕ) where
-  short : length o < net .threadcount * 24 → Gives (ifRoom (threadsPut m ps) o) o o 21 0
-  short h = gives-short (threadsPut m ps) o (net .threadcount * 24) (threads-size m ps net (e .0)) h
+  short : length o < net .threadcount * 24 → Gives (ifRoom (threadsPut m ps) o) o o 21 (net .threadcount * 24)
+  short h = gives-short (threadsPut m ps) o (net .threadcount * 24) (threads-size m ps net (e .0)) (net .threadcount * 24) h (needed-is (net .threadcount * 24) (omega (arith, few-threads net (e .1))))
 
   given : (ys : List ℕ) → net .threadcount * 24 ≤ length o → ys ≡ endToEnd (map threadBytes (threadsOf (net .threadcount) (net .threads))) →
       Gives (ifRoom (threadsPut m ps) o) o (ys ++ drop (net .threadcount * 24 - 0) o) 0 (net .threadcount * 24)
