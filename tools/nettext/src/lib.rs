@@ -22,3 +22,8 @@ pub use names::Names;
 pub use numbers::{number, refused_file, Number};
 pub use print::{columns, dump, name, row, step};
 pub use token::Place;
+
+/// Bytes of a text at most. A net has at most 256 records, so none needs more.
+pub const TEXT_LIMIT: usize = 1 << 20;
+/// Bytes of a file of records at most, far over what loading accepts.
+pub const FILE_LIMIT: usize = 1 << 26;

@@ -1,7 +1,8 @@
 //! netasm: assembles the text of a net to records.
 
 use nettext::cli::{self, Failure, Input, Program};
-use nettext::{assemble, read_text, Assembled, Error};
+use nettext::{assemble, read_text, Assembled, Error, TEXT_LIMIT};
+use std::io::Write;
 use std::process::ExitCode;
 
 const HELP: &str = "\
@@ -24,16 +25,18 @@ or a file can't be read or written. The grammar is in docs/TEXT.md.
 ";
 
 fn main() -> ExitCode {
-    cli::run(&Program { name: "netasm", help: HELP, flags: &["--unchecked"], settings: &[], work })
+    let (flags, settings) = (&["--unchecked"], &[]);
+    let limit = TEXT_LIMIT;
+    cli::run(&Program { name: "netasm", help: HELP, flags, settings, limit, work })
 }
 
-fn work(input: &Input) -> Result<Vec<u8>, Failure> {
+fn work(input: &Input, out: &mut dyn Write) -> Result<(), Failure> {
     let shown = |error: Error, text: &str| error.shown(&input.name, text);
     let text = read_text(&input.bytes)
         .map_err(|error| shown(error, &String::from_utf8_lossy(&input.bytes)))?;
     let assembled =
         assembled(text, input.has("--unchecked")).map_err(|error| shown(error, text))?;
-    Ok(assembled.file)
+    Ok(out.write_all(&assembled.file)?)
 }
 
 fn assembled(text: &str, unchecked: bool) -> Result<Assembled, Error> {

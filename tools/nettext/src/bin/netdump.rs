@@ -1,7 +1,8 @@
 //! netdump: writes the text of a file of records.
 
 use nettext::cli::{self, Failure, Input, Program};
-use nettext::{dump, refused_file};
+use nettext::{dump, refused_file, FILE_LIMIT};
+use std::io::Write;
 use std::process::ExitCode;
 
 const HELP: &str = "\
@@ -23,12 +24,14 @@ file can't be read or written. The grammar is in docs/TEXT.md.
 ";
 
 fn main() -> ExitCode {
-    cli::run(&Program { name: "netdump", help: HELP, flags: &[], settings: &[], work })
+    let (flags, settings) = (&[], &[]);
+    let limit = FILE_LIMIT;
+    cli::run(&Program { name: "netdump", help: HELP, flags, settings, limit, work })
 }
 
-fn work(input: &Input) -> Result<Vec<u8>, Failure> {
+fn work(input: &Input, out: &mut dyn Write) -> Result<(), Failure> {
     match dump(&input.bytes) {
-        Ok(text) => Ok(text.into_bytes()),
+        Ok(text) => Ok(out.write_all(text.as_bytes())?),
         Err(fault) => Err(refused_file(&input.name, fault.number, fault.place).into()),
     }
 }
