@@ -80,4 +80,53 @@ cmp -s through "$ROOT/examples/update.net" || complains "the pipe did not carry 
 tries netasm a.nettext -o .
 exits 2; says "netasm: .: Is a directory"
 
+# Whatever is given, netasm takes no more than 200 MB for 100 MB of it.
+hundred_megabytes() {
+    case $1 in
+        zeros) head -c 100000000 /dev/zero ;;
+        letters) yes a | tr -d '\n' | head -c 100000000 ;;
+        newlines) yes '' | head -c 100000000 ;;
+        noise) head -c 100000000 /dev/urandom ;;
+        *) yes "$1" | head -c 100000000 ;;
+    esac
+}
+for what in zeros letters newlines noise "pick thread 0" "drop A @1" "(" '"' "# a comment" "p: q: r:" "1" "row (1" "@ ! - <"; do
+    tried="netasm on 100 MB of $what"
+    hundred_megabytes "$what" 2>/dev/null | (ulimit -v 200000; exec netasm -o big.net) >out 2>err
+    status=$?
+    exits 1; says "<stdin>: over 1048576 bytes, and no net needs so much: it has at most 256 records"
+    [ ! -e big.net ] || complains "big.net was written"
+    # As much of it as a text may have is read whole.
+    tried="netasm on 1 MiB of $what"
+    hundred_megabytes "$what" 2>/dev/null | head -c 1048576 | (ulimit -v 200000; exec netasm --unchecked) >out 2>err
+    status=$?
+    [ "$status" -le 1 ] || complains "exit status $status, expected 0 or 1"
+done
+
+# What Notepad writes, and the wrong file.
+printf '\357\273\277pick thread 0\r\n' >marked.nettext
+printf 'pick thread 0\n' >plain.nettext
+netasm plain.nettext -o plain.net
+tries netasm marked.nettext
+exits 0; says_nothing
+cmp -s out plain.net || complains "other records than without the byte order mark"
+printf '\357\273\277pick thread x\r\n' >marked.nettext
+tries netasm marked.nettext
+exits 1; says 'marked.nettext:1:13: found "x", expected a thread place 0..255'
+printf '\377\376p\000i\000c\000k\000' >wide.nettext
+tries netasm wide.nettext
+exits 1; prints_nothing; says "wide.nettext: this is text in UTF-16"; says "save it as UTF-8"
+tries netasm "$ROOT/examples/update.net"
+exits 1; prints_nothing; says "update.net: these are records"; says "netdump"; says "netrun"
+
+# All errors at once, and warnings beside the records.
+printf 'pick thread x\nrow (1) in CARD at site 0\npick thread y\n' >several.nettext
+tries netasm several.nettext
+exits 1; prints_nothing
+says 'several.nettext:1:13: found "x"'; says "several.nettext:2:1: load 5 at 1: "; says 'several.nettext:3:13: found "y"'
+printf 'table CARD at site 0 (Int)\nprocess p:\n    drop CRAD @self\nstart p at site 0\n' >warned.nettext
+tries netasm warned.nettext -o warned.net
+exits 0; says "warned.nettext:3:5: warning: no table CRAD is declared or created; did you mean CARD?"
+[ "$(stat -c %s warned.net)" = 312 ] || complains "the records are not written"
+
 finish

@@ -30,13 +30,16 @@ fn spoilt_texts() -> impl Iterator<Item = String> {
 fn errors_have_a_place_in_the_text() {
     let mut errors = 0;
     for text in spoilt_texts() {
-        let Err(error) = assemble(&text) else {
+        let Err(all) = assemble(&text) else {
             continue;
         };
         errors += 1;
-        let line = text.lines().nth(error.place.line - 1).unwrap_or_default();
-        assert!(error.place.column <= line.chars().count() + 1, "{error:?} in {line}");
-        assert!(error.shown("net", &text).ends_with("^\n"), "{error:?}");
+        for error in all.told() {
+            let place = error.place.expect("a place");
+            let line = text.lines().nth(place.line - 1).unwrap_or_default();
+            assert!(place.column <= line.chars().count() + 1, "{error:?} in {line}");
+            assert!(error.shown("net", &text).ends_with("^\n"), "{error:?}");
+        }
     }
     assert!(errors > 1_000, "{errors}");
 }

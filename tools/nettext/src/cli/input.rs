@@ -37,11 +37,11 @@ pub struct Opened {
 }
 
 impl Opened {
-    pub fn new(path: Option<&Path>) -> Result<Opened, String> {
+    pub fn new(path: Option<&Path>) -> Result<Opened, Failure> {
         let name = path.map_or(STANDARD_INPUT.to_owned(), |path| path.display().to_string());
         let file = path.map_or_else(standard_input, File::open);
         let opened = file.and_then(|file| Ok((file.metadata()?, file)));
-        let (metadata, file) = opened.map_err(|error| format!("{name}: {error}"))?;
+        let (metadata, file) = opened.map_err(|error| unread(&name, &error))?;
         Ok(Opened { name, file, metadata })
     }
 
@@ -50,7 +50,7 @@ impl Opened {
         let Opened { name, file, .. } = self;
         let mut bytes = Vec::new();
         let read = file.take((limit as u64).saturating_add(1)).read_to_end(&mut bytes);
-        read.map_err(|error| Failure::Unusable(format!("{name}: {error}")))?;
+        read.map_err(|error| unread(&name, &error))?;
         if bytes.len() > limit {
             return Err(too_long(&name, limit).into());
         }
@@ -60,6 +60,10 @@ impl Opened {
 
 fn standard_input() -> io::Result<File> {
     Ok(File::from(io::stdin().as_fd().try_clone_to_owned()?))
+}
+
+fn unread(name: &str, error: &io::Error) -> Failure {
+    Failure::Unusable(format!("{name}: {error}"))
 }
 
 fn too_long(name: &str, limit: usize) -> String {

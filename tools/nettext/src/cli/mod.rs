@@ -58,6 +58,7 @@ pub fn run(program: &Program) -> ExitCode {
         Ok(options) => options,
         Err(wrong) => return fail(UNUSABLE, &format!("{name}: {wrong}\n{}\n", usage(program))),
     };
+    let output = output::name(options.output.as_deref());
     match carried_out(program, options) {
         Ok(()) => ExitCode::SUCCESS,
         Err(Failure::AtFault(report)) => fail(AT_FAULT, &report),
@@ -66,7 +67,7 @@ pub fn run(program: &Program) -> ExitCode {
         Err(Failure::Unwritten(error)) if error.kind() == io::ErrorKind::BrokenPipe => {
             ExitCode::SUCCESS
         }
-        Err(Failure::Unwritten(error)) => fail(UNUSABLE, &format!("{name}: {error}\n")),
+        Err(Failure::Unwritten(error)) => fail(UNUSABLE, &format!("{name}: {output}: {error}\n")),
     }
 }
 
@@ -86,12 +87,13 @@ fn usage(program: &Program) -> &'static str {
 }
 
 fn carried_out(program: &Program, options: Options) -> Result<(), Failure> {
-    let destination = Destination::new(options.output.as_deref()).map_err(Failure::Unusable)?;
     if options.help {
-        return written(destination, |out| Ok(out.write_all(program.help.as_bytes())?));
+        let help = program.help.as_bytes();
+        return written(Destination::new(None)?, |out| Ok(out.write_all(help)?));
     }
-    let opened = Opened::new(options.input.as_deref()).map_err(Failure::Unusable)?;
-    destination.refuses(&opened).map_err(Failure::Unusable)?;
+    let destination = Destination::new(options.output.as_deref())?;
+    let opened = Opened::new(options.input.as_deref())?;
+    destination.refuses(&opened)?;
     let input = opened.read(program.limit, options)?;
     written(destination, |out| (program.work)(&input, out))
 }
@@ -101,18 +103,7 @@ fn written(
     destination: Destination,
     work: impl FnOnce(&mut dyn Write) -> Result<(), Failure>,
 ) -> Result<(), Failure> {
-    let name = destination.name();
-    let mut output = destination.open().map_err(Failure::Unusable)?;
-    let result = work(output.writer()).and_then(|()| Ok(output.finish()?));
-    result.map_err(|failure| named(failure, &name))
-}
-
-/// An output that can't be written is told by its name, but for a pipe that nobody reads.
-fn named(failure: Failure, name: &str) -> Failure {
-    match failure {
-        Failure::Unwritten(error) if error.kind() != io::ErrorKind::BrokenPipe => {
-            Failure::Unusable(format!("{name}: {error}"))
-        }
-        other => other,
-    }
+    let mut output = destination.open()?;
+    work(output.writer())?;
+    Ok(output.finish()?)
 }

@@ -2,7 +2,7 @@
 //! it had until all is written: the output goes to a new file beside it, which then takes its name.
 
 use super::input::Opened;
-use super::say;
+use super::{say, Failure};
 use std::fs::{self, File, Metadata, OpenOptions};
 use std::io::{self, BufWriter, ErrorKind, Write};
 use std::os::fd::AsFd;
@@ -35,7 +35,7 @@ pub struct NewFile {
 }
 
 impl Destination {
-    pub fn new(path: Option<&Path>) -> Result<Destination, String> {
+    pub fn new(path: Option<&Path>) -> Result<Destination, Failure> {
         let there = match path {
             Some(path) => fs::metadata(path),
             None => standard_output().and_then(|file| file.metadata()),
@@ -43,40 +43,36 @@ impl Destination {
         let there = match there {
             Ok(metadata) => Some(metadata),
             Err(error) if error.kind() == ErrorKind::NotFound => None,
-            Err(error) => return Err(format!("{}: {error}", name(path))),
+            Err(error) => return Err(Failure::Unwritten(error)),
         };
         Ok(Destination { given: path.map(Path::to_owned), there })
     }
 
-    pub fn name(&self) -> String {
-        name(self.given.as_deref())
-    }
-
     /// Fails if this is the very file that is read, by whatever name.
-    pub fn refuses(&self, input: &Opened) -> Result<(), String> {
+    pub fn refuses(&self, input: &Opened) -> Result<(), Failure> {
         let identity = |metadata: &Metadata| (metadata.dev(), metadata.ino());
         let there = self.there.as_ref().filter(|there| there.is_file());
         if there.map(identity) != Some(identity(&input.metadata)) {
             return Ok(());
         }
-        let (from, to) = (&input.name, self.name());
-        Err(format!("input {from} and output {to} are one file; write to another, with -o OTHER"))
+        let (from, to) = (&input.name, name(self.given.as_deref()));
+        let wrong = format!("input {from} and output {to} are one file");
+        Err(Failure::Unusable(format!("{wrong}; write to another, with -o OTHER")))
     }
 
-    pub fn open(self) -> Result<Output, String> {
-        let output = match (&self.given, &self.there) {
+    pub fn open(self) -> io::Result<Output> {
+        match (&self.given, &self.there) {
             (None, _) => Ok(Output::Direct(Box::new(io::stdout().lock()))),
             (Some(path), Some(there)) if !there.is_file() => {
                 let file = OpenOptions::new().write(true).open(path);
                 file.map(|file| Output::Direct(Box::new(file)))
             }
             (Some(path), there) => NewFile::new(path, there.as_ref()).map(Output::New),
-        };
-        output.map_err(|error| format!("{}: {error}", self.name()))
+        }
     }
 }
 
-fn name(path: Option<&Path>) -> String {
+pub fn name(path: Option<&Path>) -> String {
     path.map_or(STANDARD_OUTPUT.to_owned(), |path| path.display().to_string())
 }
 
