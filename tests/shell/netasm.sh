@@ -72,11 +72,13 @@ tries netasm a.nettext -o /dev/null
 exits 0; says_nothing
 [ -c /dev/null ] || complains "/dev/null is no device any more"
 mkfifo pipe
-cat pipe >through &
+timeout 10 cat pipe >through &
 tries netasm a.nettext -o pipe
 wait $!
 exits 0
 cmp -s through "$ROOT/examples/update.net" || complains "the pipe did not carry the records"
+tries netasm $'\377.nettext'
+exits 2; says ".nettext: No such file"
 tries netasm a.nettext -o .
 exits 2; says "netasm: .: Is a directory"
 

@@ -41,7 +41,7 @@ fn read(text: &str) -> (Assembled, Errors) {
     let mut file = Vec::new();
     let mut nodes = 0;
     for statement in &statements {
-        file.extend(record(statement, nodes, &labels, &mut errors));
+        file.extend(record(statement, nodes, &labels, &mut errors).into_iter().flatten());
         nodes += usize::from(statement.item.is_step());
     }
     errors.in_order();
@@ -88,9 +88,14 @@ impl Assembled {
     }
 }
 
-/// The record of a statement; `node` is the number that a step there has. That of a broken one, or
-/// of one with a target that is none, means nothing.
-fn record(statement: &Statement, node: usize, labels: &Labels, errors: &mut Errors) -> Bytes {
+/// The record of a statement, none of a broken one; `node` is the number that a step there has.
+fn record(
+    statement: &Statement,
+    node: usize,
+    labels: &Labels,
+    errors: &mut Errors,
+) -> Option<Bytes> {
+    // A target that is none has its error, and any byte.
     let mut byte = |target: Result<u8, NoByte>| {
         target.unwrap_or_else(|no_byte| {
             labels.complain(&no_byte, errors);
@@ -112,7 +117,7 @@ fn record(statement: &Statement, node: usize, labels: &Labels, errors: &mut Erro
         }
         Item::Start { site, node } => Record::new(32).head(&[site.0, byte(labels.target(node))]),
         Item::Pick(Pick { thread, row }) => Record::new(33).head(&[*thread, *row]),
-        Item::Broken(_) => Record::new(0),
+        Item::Broken(_) => return None,
     };
-    record.bytes()
+    Some(record.bytes())
 }

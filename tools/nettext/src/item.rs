@@ -25,7 +25,8 @@ pub enum Item {
         name: Text,
         row: Row,
     },
-    Step(Step),
+    /// Apart, since it is far larger than the others.
+    Step(Box<Step>),
     Start {
         site: Site,
         node: Target,

@@ -3,7 +3,7 @@
 
 use engine::load;
 use generate::{file, Class};
-use nettext::{assemble, dump};
+use nettext::{assemble, assemble_checked, dump, refused_file};
 
 const PARTS: [&str; 14] =
     ["", " ", "\n", "(", ")", "\"", ",", ":", "!", "@", "x16", "-", "then node 255", "process p:"];
@@ -73,4 +73,27 @@ fn what_assembles_has_known_kinds_and_fields_in_range() {
     let [_, length, _, kind, field, order, _, misfit, ..] = seen;
     assert_eq!([length, kind, field], [0; 3]);
     assert!(order > 100 && misfit > 10, "{seen:?}");
+}
+
+/// The loader decides; where it refuses, its number and place are told first, in words of the text.
+#[test]
+fn what_is_told_agrees_with_loading() {
+    let mut refused = 0;
+    for text in spoilt_texts().chain(shuffled_texts()) {
+        let checked = assemble_checked(&text).err();
+        let Ok(assembled) = assemble(&text) else {
+            assert!(checked.is_some());
+            continue;
+        };
+        let Err(fault) = load(&assembled.file) else {
+            assert_eq!(checked, None);
+            continue;
+        };
+        let errors = checked.expect("a net that is refused");
+        let first = &errors.told()[0].message;
+        assert!(first.starts_with(&format!("load {} at {}: ", fault.number, fault.place)));
+        assert!(!refused_file("", fault.number, fault.place).contains(first.as_str()), "{first}");
+        refused += 1;
+    }
+    assert!(refused > 200, "{refused}");
 }

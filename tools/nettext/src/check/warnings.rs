@@ -28,7 +28,7 @@ fn warn(place: Place, wrong: &str, to_do: &str) -> Error {
 /// The steps in the order of their numbers.
 fn steps(statements: &[Statement]) -> Vec<(Place, &Step)> {
     let steps = statements.iter().filter_map(|statement| match &statement.item {
-        Item::Step(step) => Some((statement.place, step)),
+        Item::Step(step) => Some((statement.place, &**step)),
         _ => None,
     });
     steps.collect()
@@ -60,7 +60,10 @@ fn unknown_table(place: Place, name: Text, names: &[String]) -> Error {
 fn makes(statement: &Statement) -> Option<Text> {
     match &statement.item {
         Item::Table { name, .. } => Some(*name),
-        Item::Step(Step { act: Act::Create { at, .. }, .. }) => Some(at.name),
+        Item::Step(step) => match &step.act {
+            Act::Create { at, .. } => Some(at.name),
+            _ => None,
+        },
         _ => None,
     }
 }

@@ -137,7 +137,9 @@ impl Parser<'_> {
             return Err(self.cursor.unexpected("\"process\" and a label before the first step"));
         }
         let read = match self.cursor.peek_word() {
-            Some(word) if begins_step(word) => return Ok(Item::Step(self.cursor.step()?)),
+            Some(word) if begins_step(word) => {
+                return Ok(Item::Step(Box::new(self.cursor.step()?)))
+            }
             Some("alias") => Cursor::alias,
             Some("table") => Cursor::table,
             Some("row") => Cursor::row_of_table,
