@@ -50,6 +50,11 @@ impl Labels {
         self.processes.insert(self.nodes, place);
     }
 
+    /// The first node of the process that a node belongs to.
+    pub fn process(&self, node: usize) -> Option<usize> {
+        self.processes.range(..=node).next_back().map(|(first, _)| *first)
+    }
+
     /// The node of a label, and where the label stands.
     pub fn node(&self, label: &str) -> Option<(usize, Place)> {
         self.named.get(label).copied()

@@ -134,25 +134,33 @@ fn limits() {
     refused(&starts, 11, &format!("load 8 at 9: {wrong}"), to_do);
 }
 
-const TO_NEXT: &str = "move the process below line 3, or end with \"then end\"";
+/// What to do about a next, after the part on the step that is named.
+const NEXT: &str = "or end with \"then end\"; only bodies of loops run again";
 
 /// A statement of several lines is named by its first.
 #[test]
-fn targets_that_stand_above() {
+fn nexts_that_stand_above() {
     let back = "process p:\ndrop CARD @1\ndrop CARD @1\n  then p\n";
     let wrong = "load 9 at 1: the next \"p\" (line 1) stands above its own step";
-    refused(back, 3, wrong, TO_NEXT);
+    let to_do = format!("name a step below line 3, {NEXT}");
+    refused(back, 3, wrong, &to_do);
     let back = back.replace("then p", "then node 0");
-    refused(&back, 3, "load 9 at 1: the next node 0 stands above its own step", TO_NEXT);
+    refused(&back, 3, "load 9 at 1: the next node 0 stands above its own step", &to_do);
     let itself = "process p:\nagain:\ndrop CARD @1 then again\n";
-    let wrong = "load 9 at 0: the next \"again\" (line 2) is its own step";
-    refused(itself, 3, wrong, "name a step below, or end with \"then end\"");
+    refused(itself, 3, "load 9 at 0: the next \"again\" (line 2) is its own step", &to_do);
+    let other = "process last:\ndrop CARD @1\nprocess p:\ndrop CARD @1 then last\n";
+    let wrong = "load 9 at 1: the next \"last\" (line 1) stands above its own step";
+    refused(other, 4, wrong, &format!("move the process below line 4, {NEXT}"));
+}
+
+#[test]
+fn bodies_that_stand_above() {
     let above = "process raise:\ndrop A @1\nprocess p:\nforeach (!x0) in T0 do raise\n";
     let wrong = "load 9 at 1: the body \"raise\" (line 1) stands above its loop";
     refused(above, 4, wrong, "move the process below line 4");
     let own_body = "process p:\nforeach (!x0) in T0 do p\n";
     let wrong = "load 9 at 0: the body \"p\" (line 1) is its loop itself";
-    refused(own_body, 2, wrong, "name another process, below the loop");
+    refused(own_body, 2, wrong, "name a step below line 2");
     assert!(loads("process p:\np2: drop CARD @1\n"));
 }
 

@@ -46,8 +46,10 @@ impl Links<'_> {
         let Some((named, line)) = self.named(target) else {
             return;
         };
-        let is_end = role == Role::Next && named == usize::from(END);
-        if !is_end && named >= self.labels.nodes {
+        if role == Role::Next && named == usize::from(END) {
+            return;
+        }
+        if named >= self.labels.nodes {
             faults.add(number::NO_NODE, self.at, || self.missing(role, named));
         } else if role != Role::Start && named <= self.node {
             let shown = shown(target, line);
@@ -66,18 +68,22 @@ impl Links<'_> {
     }
 
     fn above(&self, role: Role, named: usize, shown: &str) -> Words {
-        let line = self.at.place.line;
         let wrong = match (role, named == self.node) {
             (Role::Body, true) => format!("the body {shown} is its loop itself"),
             (Role::Body, false) => format!("the body {shown} stands above its loop"),
             (_, true) => format!("the next {shown} is its own step"),
             (_, false) => format!("the next {shown} stands above its own step"),
         };
-        let to_do = match (role, named == self.node) {
-            (Role::Body, true) => "name another process, below the loop".to_owned(),
-            (Role::Body, false) => format!("move the process below line {line}"),
-            (_, true) => "name a step below, or end with \"then end\"".to_owned(),
-            (_, false) => format!("move the process below line {line}, or end with \"then end\""),
+        // A process can't be moved below a step of its own.
+        let own_process = self.labels.process(named) == self.labels.process(self.node);
+        let line = self.at.place.line;
+        let moved = match own_process {
+            true => format!("name a step below line {line}"),
+            false => format!("move the process below line {line}"),
+        };
+        let to_do = match role {
+            Role::Body => moved,
+            _ => format!("{moved}, or end with \"then end\"; only bodies of loops run again"),
         };
         (wrong, to_do)
     }

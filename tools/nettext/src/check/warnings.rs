@@ -119,13 +119,12 @@ impl Links<'_> {
             Item::Start { node, .. } => self.node(node),
             _ => None,
         });
-        let mut reached: BTreeSet<usize> = started.map(|node| self.process(node)).collect();
+        let process = |node: usize| self.labels.process(node);
+        let mut reached: BTreeSet<usize> = started.filter_map(process).collect();
         for (number, (_, step)) in self.steps.iter().enumerate() {
             let body = step.body.as_ref().and_then(|body| self.node(body));
-            let named = self.next(number, step).into_iter().chain(body);
-            let others =
-                named.map(|node| self.process(node)).filter(|other| *other != self.process(number));
-            reached.extend(others);
+            let named = self.next(number, step).into_iter().chain(body).filter_map(process);
+            reached.extend(named.filter(|other| Some(*other) != process(number)));
         }
         for (first, place) in &self.labels.processes {
             if !reached.contains(first) {
@@ -133,11 +132,6 @@ impl Links<'_> {
                     .add(|| unreached(*place, self.labels.first_of(*first).unwrap_or_default()));
             }
         }
-    }
-
-    /// The first node of the process that a node is in.
-    fn process(&self, node: usize) -> usize {
-        self.labels.processes.range(..=node).next_back().map_or(0, |(first, _)| *first)
     }
 }
 

@@ -8,6 +8,8 @@ use engine::{decode, number, Fault, RECORD_SIZE};
 const GROUP: usize = 8;
 /// So many bytes at most are named as the one that is wrong.
 const NAMED: usize = 4;
+/// Every field takes one of these values.
+const TRIED: [u8; 9] = [0, 1, 2, 3, 4, 5, 6, 7, b' '];
 /// Records further down are past what loading looks at.
 const RECORDS: usize = 256;
 
@@ -51,16 +53,43 @@ fn suspects(place: usize, bytes: &[u8; RECORD_SIZE]) -> String {
     if place >= RECORDS {
         return String::new();
     }
-    let places = (1..RECORD_SIZE).filter(|at| {
-        let mut other = *bytes;
-        (0..=u8::MAX).any(|value| {
-            other[*at] = value;
-            decode(&other).is_some()
-        })
-    });
-    let places: Vec<String> = places.map(|at| at.to_string()).collect();
+    let places: Vec<String> = repairs(bytes, &TRIED).into_iter().map(|at| at.to_string()).collect();
     if places.is_empty() || places.len() > NAMED {
         return String::new();
     }
     format!(" (byte {})", places.join(" or "))
+}
+
+/// The places where one of the values makes the record read.
+fn repairs(bytes: &[u8; RECORD_SIZE], values: &[u8]) -> Vec<usize> {
+    let reads_with = |at: usize, value: u8| {
+        let mut other = *bytes;
+        other[at] = value;
+        decode(&other).is_some()
+    };
+    let reads = |at: &usize| values.iter().any(|value| reads_with(*at, *value));
+    (1..RECORD_SIZE).filter(reads).collect()
+}
+
+#[cfg(test)]
+mod tests {
+    use super::*;
+    use generate::{file, sweep, Class};
+
+    /// The values tried are as good as all values.
+    #[test]
+    fn every_field_takes_a_value_that_is_tried() {
+        let all: Vec<u8> = (0..=u8::MAX).collect();
+        let mut found = 0;
+        for index in (0..sweep::round() as u64).step_by(3) {
+            let file = file(Class::Sweep, index);
+            let broken = file.as_chunks().0.iter().filter(|record| decode(record).is_none());
+            for record in broken.filter(|record| matches!(record[0], 1..=3 | 16..=26 | 32 | 33)) {
+                let repairs = repairs(record, &TRIED);
+                assert_eq!(repairs, super::repairs(record, &all));
+                found += repairs.len();
+            }
+        }
+        assert!(found > 100, "{found}");
+    }
 }
