@@ -1,4 +1,4 @@
-//! The whole time of netrun as a program: start, reading, loading, picks and printing.
+//! The whole time of netrun and second-netrun as programs: start, reading, loading, picks and printing.
 
 use crate::nets::single;
 use crate::show::{beside, table};
@@ -30,7 +30,7 @@ pub fn section() -> String {
 
 /// Cargo puts it beside this program.
 fn second() -> PathBuf {
-    env::current_exe().expect("the place of this program").with_file_name("netrun")
+    env::current_exe().expect("the place of this program").with_file_name("second-netrun")
 }
 
 fn proved() -> PathBuf {

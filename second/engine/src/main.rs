@@ -1,13 +1,15 @@
-//! netrun: reads a file of records on standard input and prints what its picks come to.
+//! second-netrun: reads a file of records on standard input and prints what its picks come to, as
+//! the proved netrun does.
 
 use std::io::{self, Read, Write};
 use std::process::ExitCode;
 
 const HELP: &str = "\
-usage: netrun < FILE
+usage: second-netrun < FILE
 
 Reads the records of a net on standard input, runs its picks in order, and prints
-an answer for each pick and then each table with its rows.
+an answer for each pick and then each table with its rows. This is the second engine;
+the proved one is netrun.
 ";
 
 fn main() -> ExitCode {
@@ -25,7 +27,7 @@ fn main() -> ExitCode {
     match run() {
         Ok(()) => ExitCode::SUCCESS,
         Err(error) => {
-            eprintln!("netrun: {error}");
+            eprintln!("second-netrun: {error}");
             ExitCode::FAILURE
         }
     }

@@ -1,9 +1,11 @@
-//! From characters to tokens.
+//! From characters to tokens, one at a time.
 
-use crate::error::Error;
+use crate::error::{Error, BYTE_ORDER_MARK};
 use crate::token::{quoted_character, Place, Placed, Token};
 use crate::words::{begins_word, goes_on, in_word};
 use engine::Text;
+use std::iter::Enumerate;
+use std::str::Lines;
 
 /// Longer signs first, so that `<=` is not read as `<`.
 const SIGNS: [&str; 18] =
@@ -11,44 +13,76 @@ const SIGNS: [&str; 18] =
 
 const TEXT_LENGTH: usize = 4;
 
-/// The tokens of a text. A `LineEnd` is left only where a statement ends.
-pub fn tokens(text: &str) -> Vec<Placed> {
-    let mut all = Vec::new();
-    // Where the last token ended, before any comment.
-    let mut end = Place { line: 1, column: 1 };
-    for (number, line) in text.lines().enumerate() {
-        let mut reader = Reader { line: number + 1, column: 1, rest: line };
-        let before = all.len();
-        while let Some(placed) = reader.token() {
-            all.push(placed);
-            end = reader.place();
-        }
-        if all.len() > before {
-            all.push(Placed { token: Token::LineEnd, place: end });
-        }
-    }
-    let mut joined = joined(all);
-    joined.push(Placed { token: Token::TextEnd, place: end });
-    joined
+/// The tokens of a text. A `LineEnd` comes only where a statement ends.
+pub struct Tokens<'a> {
+    lines: Enumerate<Lines<'a>>,
+    reader: Reader<'a>,
+    /// Where the last token ended, before any comment.
+    end: Place,
+    /// The token after a line's end, which says whether the statement ends there.
+    held: Option<Placed>,
+    /// How many parentheses are open.
+    open: usize,
 }
 
-/// Takes out the line ends inside parentheses and before a word that goes on.
-fn joined(all: Vec<Placed>) -> Vec<Placed> {
-    let mut kept: Vec<Placed> = Vec::new();
-    let mut open = 0_usize;
-    for placed in all {
-        match &placed.token {
-            Token::Sign("(") => open += 1,
-            Token::Sign(")") => open = open.saturating_sub(1),
-            Token::LineEnd if open > 0 => continue,
-            Token::Word(word) if goes_on(word) => {
-                kept.pop_if(|last| last.token == Token::LineEnd);
-            }
-            _ => {}
-        }
-        kept.push(placed);
+impl<'a> Tokens<'a> {
+    pub fn new(text: &'a str) -> Tokens<'a> {
+        let text = text.strip_prefix(BYTE_ORDER_MARK).unwrap_or(text);
+        let mut lines = text.lines().enumerate();
+        let first = lines.next().map_or("", |(_, line)| line);
+        let reader = Reader { line: 1, column: 1, rest: first, began: false };
+        Tokens { lines, reader, end: Place { line: 1, column: 1 }, held: None, open: 0 }
     }
-    kept
+
+    /// Takes out the line ends inside parentheses and before a word that goes on.
+    pub fn next(&mut self) -> Placed {
+        loop {
+            let placed = self.held.take().unwrap_or_else(|| self.of_lines());
+            match placed.token {
+                Token::Sign("(") => self.open += 1,
+                Token::Sign(")") => self.open = self.open.saturating_sub(1),
+                Token::LineEnd if self.goes_on() => continue,
+                _ => {}
+            }
+            return placed;
+        }
+    }
+
+    /// Whether a statement goes on after the end of its line.
+    fn goes_on(&mut self) -> bool {
+        let after = self.of_lines();
+        let goes_on = matches!(&after.token, Token::Word(word) if goes_on(word));
+        self.held = Some(after);
+        goes_on || self.open > 0
+    }
+
+    /// Whether a colon follows in the line, after the token that came last.
+    pub fn colon_follows(&self) -> bool {
+        self.reader.rest.trim_start().starts_with(':')
+    }
+
+    /// A statement begins here, whatever was left open before.
+    pub fn close(&mut self) {
+        self.open = 0;
+    }
+
+    /// The next token, with the ends of all lines that have tokens.
+    fn of_lines(&mut self) -> Placed {
+        loop {
+            if let Some(placed) = self.reader.token() {
+                self.end = self.reader.place();
+                return placed;
+            }
+            if self.reader.began {
+                self.reader.began = false;
+                return Placed { token: Token::LineEnd, place: self.end, first: false };
+            }
+            let Some((number, line)) = self.lines.next() else {
+                return Placed { token: Token::TextEnd, place: self.end, first: false };
+            };
+            self.reader = Reader { line: number + 1, column: 1, rest: line, began: false };
+        }
+    }
 }
 
 /// The part of a line that is still to read.
@@ -56,6 +90,8 @@ struct Reader<'a> {
     line: usize,
     column: usize,
     rest: &'a str,
+    /// Whether the line has given a token.
+    began: bool,
 }
 
 impl<'a> Reader<'a> {
@@ -79,21 +115,36 @@ impl<'a> Reader<'a> {
     fn token(&mut self) -> Option<Placed> {
         self.take_while(char::is_whitespace);
         let place = self.place();
-        let first = self.rest.chars().next()?;
-        let token = match first {
-            '#' => return None,
-            '"' => self.text().map_or_else(Token::Broken, Token::Text),
+        let token = match self.rest.chars().next()? {
+            '#' => {
+                self.rest = "";
+                return None;
+            }
+            '"' => self.text_or_broken(),
             '0'..='9' => Token::Number(self.take_while(|c| c.is_ascii_digit()).to_owned()),
-            _ if begins_word(first) => Token::Word(self.take_while(in_word).to_owned()),
-            _ => self.sign(first),
+            first if begins_word(first) => Token::Word(self.take_while(in_word).to_owned()),
+            first => self.sign(first),
         };
-        Some(Placed { token, place })
+        let first = !self.began;
+        self.began = true;
+        Some(Placed { token, place, first })
     }
 
     fn sign(&mut self, first: char) -> Token {
         let known = SIGNS.into_iter().find(|sign| self.rest.starts_with(sign));
         self.take(known.map_or(first.len_utf8(), str::len));
         known.map_or(Token::Stranger(first), Token::Sign)
+    }
+
+    /// Nothing more is read of a line with a broken text: where that ends is unknown.
+    fn text_or_broken(&mut self) -> Token {
+        self.text().map_or_else(
+            |error| {
+                self.rest = "";
+                Token::Broken(Box::new(error))
+            },
+            Token::Text,
+        )
     }
 
     /// A text in quotes; short ones are filled up with blanks, as document 01 writes "A   ".

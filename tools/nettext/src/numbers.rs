@@ -1,6 +1,8 @@
 //! The numbers of faults and refusals, with what is wrong and what to do: the one table of the
 //! tools, in the words of the README.
 
+use crate::error::Error;
+
 /// What a number says.
 pub struct Number {
     pub number: u8,
@@ -15,7 +17,7 @@ pub fn number(number: u8) -> Option<&'static Number> {
 
 /// The report on a file that loading refuses.
 pub fn refused_file(name: &str, number: u8, place: usize) -> String {
-    format!("{name}: {}\n{}", refusal(number, place), advice(number))
+    Error::refused_file(number, place).shown(name, "")
 }
 
 /// What to do about a number, as a line of its own.
@@ -26,6 +28,11 @@ pub fn advice(number: u8) -> String {
 /// A refusal as netrun prints it, with what is wrong.
 pub fn refusal(number: u8, place: usize) -> String {
     let wrong = self::number(number).map_or("this number is unknown", |entry| entry.wrong);
+    refusal_that(number, place, wrong)
+}
+
+/// The same with other words on what is wrong.
+pub fn refusal_that(number: u8, place: usize, wrong: &str) -> String {
     format!("load {number} at {place}: {wrong}")
 }
 

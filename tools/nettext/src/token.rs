@@ -4,7 +4,7 @@ use crate::error::Error;
 use engine::Text;
 
 /// Line and column of a character, both from 1.
-#[derive(Clone, Copy, PartialEq, Eq, Debug)]
+#[derive(Clone, Copy, PartialEq, Eq, PartialOrd, Ord, Debug)]
 pub struct Place {
     pub line: usize,
     pub column: usize,
@@ -20,7 +20,7 @@ pub enum Token {
     /// A character that begins no token.
     Stranger(char),
     /// A text in quotes that is none, and why.
-    Broken(Error),
+    Broken(Box<Error>),
     LineEnd,
     TextEnd,
 }
@@ -29,14 +29,19 @@ pub enum Token {
 pub struct Placed {
     pub token: Token,
     pub place: Place,
+    /// Whether it is the first of its line.
+    pub first: bool,
 }
+
+/// Of a word or a number an error shows so many characters.
+const DESCRIBED: usize = 40;
 
 impl Token {
     /// How an error names the token.
     pub fn described(&self) -> String {
         match self {
-            Token::Word(word) => format!("\"{word}\""),
-            Token::Number(digits) => format!("\"{digits}\""),
+            Token::Word(word) => in_quotes(word),
+            Token::Number(digits) => in_quotes(digits),
             Token::Text(text) => format!("the text {}", quoted(*text)),
             Token::Sign(sign) => format!("\"{sign}\""),
             Token::Stranger(stranger) => quoted_character(*stranger),
@@ -44,6 +49,14 @@ impl Token {
             Token::LineEnd => "the end of the line".to_owned(),
             Token::TextEnd => "the end of the text".to_owned(),
         }
+    }
+}
+
+/// A word or a number as an error names it, the end of a long one left out.
+pub fn in_quotes(word: &str) -> String {
+    match word.char_indices().nth(DESCRIBED) {
+        Some((end, _)) => format!("\"{}..\"", &word[..end]),
+        None => format!("\"{word}\""),
     }
 }
 

@@ -1,6 +1,6 @@
 //! What `docs/TEXT.md` shows is what the programs do.
 
-use nettext::{assemble, dump};
+use nettext::{assemble, dump, dump_unchecked};
 
 const PAGE: &str = include_str!("../../../docs/TEXT.md");
 
@@ -36,4 +36,34 @@ fn the_errors_are_those_of_the_page() {
     let text = "\ntable CARD at site 0 (Int, Text)\n\nrow (1, @1) in CARD at site 0\n";
     let error = assemble(text).expect("a text that is well formed").check().expect_err("number 7");
     assert_eq!(error.shown("card.nettext", text), block("refusal"));
+}
+
+const LOOP: &str = "
+table CARD at site 0 (Int)
+process gather:
+    foreach (!x2) in T0 do rasie
+start gather at site 0
+";
+
+#[test]
+fn a_label_that_was_meant_is_that_of_the_page() {
+    let text = LOOP.replace("start", "process raise:\n    drop CARD @self\nstart");
+    let errors = assemble(&text).err().expect("an unknown label");
+    assert_eq!(errors.shown("card.nettext", &text), block("meant"));
+}
+
+#[test]
+fn the_warning_is_that_of_the_page() {
+    let text = LOOP.replace("rasie", "raise").replace("gather:", "gather:\n    drop CARD @self");
+    let text = text.replace("start", "raise:\n    drop CARD @self\nstart");
+    let assembled = assemble(&text).expect("a text that is well formed");
+    assert_eq!(assembled.warnings().shown("card.nettext", &text), block("warning"));
+}
+
+#[test]
+fn the_text_of_a_refused_file_is_that_of_the_page() {
+    let mut text = Vec::new();
+    let file = include_bytes!("../../../examples/refused-file.net");
+    dump_unchecked(file, &mut text).expect("room in memory");
+    assert_eq!(String::from_utf8_lossy(&text), block("unchecked"));
 }

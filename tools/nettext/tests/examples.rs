@@ -76,11 +76,11 @@ fn stored_records_come_back_from_their_dump() {
 fn one_example_is_refused_at_the_line_of_its_row() {
     let text = text(&directory().join("refused-file"));
     let error = assemble(&text).expect("a text that is well formed").check().expect_err("number 7");
-    let shown = "refused-file:7:1: load 7 at 1: the row's table is absent, or the row does not fit
+    let shown = "\
+refused-file:7:1: load 7 at 1: column 1 of CARD is Text, and the row gives the Loc @1
     row (1, @1) in CARD at site 0
     ^
-what to do: put its table among the table records, before all rows; give as many values as \
-                 columns, of their kinds
+what to do: give values of (Int, Text), as line 4 declares; columns count from 0
 ";
     assert_eq!(error.shown("refused-file", &text), shown);
 }

@@ -3,7 +3,7 @@
 
 use engine::load;
 use generate::{file, Class};
-use nettext::{assemble, dump};
+use nettext::{assemble, assemble_checked, dump, refused_file};
 
 const PARTS: [&str; 14] =
     ["", " ", "\n", "(", ")", "\"", ",", ":", "!", "@", "x16", "-", "then node 255", "process p:"];
@@ -30,13 +30,16 @@ fn spoilt_texts() -> impl Iterator<Item = String> {
 fn errors_have_a_place_in_the_text() {
     let mut errors = 0;
     for text in spoilt_texts() {
-        let Err(error) = assemble(&text) else {
+        let Err(all) = assemble(&text) else {
             continue;
         };
         errors += 1;
-        let line = text.lines().nth(error.place.line - 1).unwrap_or_default();
-        assert!(error.place.column <= line.chars().count() + 1, "{error:?} in {line}");
-        assert!(error.shown("net", &text).ends_with("^\n"), "{error:?}");
+        for error in all.told() {
+            let place = error.place.expect("a place");
+            let line = text.lines().nth(place.line - 1).unwrap_or_default();
+            assert!(place.column <= line.chars().count() + 1, "{error:?} in {line}");
+            assert!(error.shown("net", &text).ends_with("^\n"), "{error:?}");
+        }
     }
     assert!(errors > 1_000, "{errors}");
 }
@@ -70,4 +73,27 @@ fn what_assembles_has_known_kinds_and_fields_in_range() {
     let [_, length, _, kind, field, order, _, misfit, ..] = seen;
     assert_eq!([length, kind, field], [0; 3]);
     assert!(order > 100 && misfit > 10, "{seen:?}");
+}
+
+/// The loader decides; where it refuses, its number and place are told first, in words of the text.
+#[test]
+fn what_is_told_agrees_with_loading() {
+    let mut refused = 0;
+    for text in spoilt_texts().chain(shuffled_texts()) {
+        let checked = assemble_checked(&text).err();
+        let Ok(assembled) = assemble(&text) else {
+            assert!(checked.is_some());
+            continue;
+        };
+        let Err(fault) = load(&assembled.file) else {
+            assert_eq!(checked, None);
+            continue;
+        };
+        let errors = checked.expect("a net that is refused");
+        let first = &errors.told()[0].message;
+        assert!(first.starts_with(&format!("load {} at {}: ", fault.number, fault.place)));
+        assert!(!refused_file("", fault.number, fault.place).contains(first.as_str()), "{first}");
+        refused += 1;
+    }
+    assert!(refused > 200, "{refused}");
 }

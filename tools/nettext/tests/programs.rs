@@ -74,18 +74,15 @@ fn an_error_in_the_text_writes_nothing() {
     assert!(!unwritten.exists());
 }
 
-/// What to do about number 7.
-const ADVICE: &str = "what to do: put its table among the table records, before all rows; \
-                      give as many values as columns, of their kinds\n";
-
 #[test]
 fn a_refused_net_is_written_only_unchecked() {
     let name = example("refused-file.nettext");
     let shown = format!(
-        "{name}:7:1: load 7 at 1: the row's table is absent, or the row does not fit
+        "{name}:7:1: load 7 at 1: column 1 of CARD is Text, and the row gives the Loc @1
     row (1, @1) in CARD at site 0
     ^
-{ADVICE}"
+what to do: give values of (Int, Text), as line 4 declares; columns count from 0
+"
     );
     assert_eq!(outcome(&run(NETASM, &[&name], b"")), (Some(1), String::new(), shown));
     let output = run(NETASM, &["--unchecked", &name], b"");
@@ -96,9 +93,7 @@ fn a_refused_net_is_written_only_unchecked() {
 #[test]
 fn a_refused_file_has_no_text() {
     let name = example("refused-file.net");
-    let shown = format!(
-        "{name}: load 7 at 1: the row's table is absent, or the row does not fit\n{ADVICE}"
-    );
+    let shown = nettext::refused_file(&name, 7, 1);
     assert_eq!(outcome(&run(NETDUMP, &[&name], b"")), (Some(1), String::new(), shown));
     for (input, number) in [(&[1; 103][..], 1), (&[9; 104], 3)] {
         let shown = nettext::refused_file("<stdin>", number, 0);
@@ -122,7 +117,7 @@ fn help() {
     for program in [NETASM, NETDUMP] {
         let (status, help, errors) = outcome(&run(program, &["--help"], b""));
         assert_eq!((status, errors.as_str()), (Some(0), ""));
-        for part in ["usage: net", "Example: net", "docs/TEXT.md", "-o FILE", "standard input"] {
+        for part in ["usage: net", "Example", "docs/TEXT.md", "-o FILE", "standard input"] {
             assert!(help.contains(part), "{part} in {help}");
         }
     }
@@ -139,9 +134,10 @@ fn wrong_options() {
         let expected = (Some(2), String::new(), format!("netasm: {wrong}\n{usage}"));
         assert_eq!(outcome(&run(NETASM, arguments, b"")), expected);
     }
-    let (status, _, shown) = outcome(&run(NETDUMP, &["--unchecked"], b""));
+    let (status, _, shown) = outcome(&run(NETDUMP, &["--raw"], b""));
     assert_eq!(status, Some(2));
-    assert_eq!(shown, "netdump: unknown option --unchecked\nusage: netdump [FILE] [-o FILE]\n");
+    let usage = "usage: netdump [FILE] [-o FILE] [--unchecked]";
+    assert_eq!(shown, format!("netdump: unknown option --raw\n{usage}\n"));
 }
 
 #[test]

@@ -1,7 +1,9 @@
 //! nettrace: runs a net through the proved engine and tells each pick.
 
 use nettext::cli::{self, Failure, Input, Program};
+use nettext::FILE_LIMIT;
 use nettrace::{parse_picks, Source};
+use std::io::Write;
 use std::process::ExitCode;
 
 const HELP: &str = "\
@@ -31,14 +33,16 @@ or the program was built without the engine. docs/TOUR.md has lessons.
 
 fn main() -> ExitCode {
     let (flags, settings) = (&["--text"], &["--picks"]);
-    cli::run(&Program { name: "nettrace", help: HELP, flags, settings, work })
+    let limit = FILE_LIMIT;
+    cli::run(&Program { name: "nettrace", help: HELP, flags, settings, limit, work })
 }
 
-fn work(input: &Input) -> Result<Vec<u8>, Failure> {
+fn work(input: &Input, out: &mut dyn Write) -> Result<(), Failure> {
     let picks = input.setting("--picks").map(parse_picks).transpose();
     let picks = picks.map_err(|wrong| Failure::Unusable(format!("--picks: {wrong}")))?;
     let source = source(input)?;
-    proved::trace(&source, picks).map(String::into_bytes)
+    let told = proved::trace(&source, picks)?;
+    Ok(out.write_all(told.as_bytes())?)
 }
 
 fn source(input: &Input) -> Result<Source, String> {

@@ -1,7 +1,8 @@
 //! netasm: assembles the text of a net to records.
 
 use nettext::cli::{self, Failure, Input, Program};
-use nettext::{assemble, read_text, Assembled, Error};
+use nettext::{assemble, assemble_checked, read_text, TEXT_LIMIT};
+use std::io::Write;
 use std::process::ExitCode;
 
 const HELP: &str = "\
@@ -10,36 +11,36 @@ netasm assembles the text of a Klaim-DB net to the records that netrun reads.
 usage: netasm [FILE] [-o FILE] [--unchecked]
 
 Reads the text from FILE, or from standard input, and writes the records, 104 bytes each, to
-standard output. Where the text breaks the grammar, or loading would refuse the net, it
-names the line and writes nothing.
+standard output. Where the text breaks the grammar, or loading would refuse the net, it names
+each line at fault, with what is wrong and what to do, and writes nothing. A warning is of
+something that loads and is hardly meant; the records are written all the same.
 
-  -o FILE      write to FILE
+  -o FILE      write to FILE, which stays as it was if anything goes wrong
   --unchecked  write the records even if loading would refuse them
   --help       show this
 
 Example: netasm examples/update.nettext | netrun
 
-Exit status: 0 when written, 1 when the text or its net is at fault, 2 when an option is wrong
-or a file can't be read or written. The grammar is in docs/TEXT.md.
+Exit status: 0 when written, 1 when the text or its net is at fault, 2 when an option is wrong,
+a file can't be read or written, or would be written over itself. A text has at most 1048576
+bytes. The grammar is in docs/TEXT.md.
 ";
 
 fn main() -> ExitCode {
-    cli::run(&Program { name: "netasm", help: HELP, flags: &["--unchecked"], settings: &[], work })
+    let (flags, settings) = (&["--unchecked"], &[]);
+    let limit = TEXT_LIMIT;
+    cli::run(&Program { name: "netasm", help: HELP, flags, settings, limit, work })
 }
 
-fn work(input: &Input) -> Result<Vec<u8>, Failure> {
-    let shown = |error: Error, text: &str| error.shown(&input.name, text);
+fn work(input: &Input, out: &mut dyn Write) -> Result<(), Failure> {
+    let name = &input.name;
     let text = read_text(&input.bytes)
-        .map_err(|error| shown(error, &String::from_utf8_lossy(&input.bytes)))?;
-    let assembled =
-        assembled(text, input.has("--unchecked")).map_err(|error| shown(error, text))?;
-    Ok(assembled.file)
-}
-
-fn assembled(text: &str, unchecked: bool) -> Result<Assembled, Error> {
-    let assembled = assemble(text)?;
-    if !unchecked {
-        assembled.check()?;
-    }
-    Ok(assembled)
+        .map_err(|errors| errors.shown(name, &String::from_utf8_lossy(&input.bytes)))?;
+    let assembled = match input.has("--unchecked") {
+        true => assemble(text),
+        false => assemble_checked(text),
+    };
+    let assembled = assembled.map_err(|errors| errors.shown(name, text))?;
+    cli::say(&assembled.warnings().shown(name, text));
+    Ok(out.write_all(&assembled.file)?)
 }

@@ -1,36 +1,59 @@
 //! The tokens still to read.
 
 use crate::error::Error;
+use crate::lexer::Tokens;
 use crate::token::{Place, Placed, Token};
-use crate::words::{begins_step, is_reserved};
+use crate::words::{begins_step, is_reserved, STATEMENTS};
 
-/// The tokens of a text, of which the last is its end and is never passed.
-pub struct Cursor {
-    tokens: Vec<Placed>,
-    at: usize,
+/// The next token, and those after it. The end of the text is never passed.
+pub struct Cursor<'a> {
+    next: Placed,
+    rest: Tokens<'a>,
 }
 
-impl Cursor {
-    pub fn new(tokens: Vec<Placed>) -> Cursor {
-        Cursor { tokens, at: 0 }
+impl<'a> Cursor<'a> {
+    pub fn new(text: &'a str) -> Cursor<'a> {
+        let mut rest = Tokens::new(text);
+        Cursor { next: rest.next(), rest }
     }
 
     pub fn peek(&self) -> &Token {
-        &self.tokens[self.at].token
+        &self.next.token
     }
 
     pub fn place(&self) -> Place {
-        self.tokens[self.at].place
+        self.next.place
     }
 
     pub fn advance(&mut self) {
-        self.at = (self.at + 1).min(self.tokens.len() - 1);
+        if self.next.token != Token::TextEnd {
+            self.next = self.rest.next();
+        }
+    }
+
+    /// Passes the rest of a statement that began at `start` and has an error. The next one begins
+    /// after the end of the line, or with a line whose first word begins a statement.
+    pub fn pass_statement(&mut self, start: Place) {
+        if self.place() == start {
+            self.advance();
+        }
+        while *self.peek() != Token::TextEnd && !self.passes_line_end() {
+            if self.next.first && self.begins_statement() {
+                self.rest.close();
+                return;
+            }
+            self.advance();
+        }
+    }
+
+    fn begins_statement(&self) -> bool {
+        self.at_label() || self.peek_word().is_some_and(|word| STATEMENTS.contains(&word))
     }
 
     /// The error that the next token is not what could stand here. A broken text has its own.
     pub fn unexpected(&self, expected: &str) -> Error {
         match self.peek() {
-            Token::Broken(error) => error.clone(),
+            Token::Broken(error) => Error::clone(error),
             token => Error::unexpected(self.place(), &token.described(), expected),
         }
     }
@@ -45,8 +68,7 @@ impl Cursor {
 
     /// Whether a label comes next: a word of its own and a colon.
     pub fn at_label(&self) -> bool {
-        let after = self.tokens.get(self.at + 1).map(|placed| &placed.token);
-        after == Some(&Token::Sign(":")) && self.peek_word().is_some_and(|word| !is_reserved(word))
+        self.peek_word().is_some_and(|word| !is_reserved(word)) && self.rest.colon_follows()
     }
 
     pub fn at_step(&self) -> bool {

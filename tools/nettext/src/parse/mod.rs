@@ -8,65 +8,106 @@ mod predicate;
 mod steps;
 
 use crate::error::Error;
-use crate::item::{Item, Statement};
+use crate::errors::Errors;
+use crate::item::{Group, Item, Statement};
 use crate::labels::Labels;
-use crate::lexer::tokens;
-use crate::token::Token;
+use crate::token::{Place, Token};
 use crate::words::{begins_step, STATEMENTS, STEPS};
 use cursor::Cursor;
 use engine::{Locality, Pick};
 
-/// The statements of a text, and what its labels name.
-pub fn parse(text: &str) -> Result<(Vec<Statement>, Labels), Error> {
+/// What was read of a text.
+pub struct Parsed {
+    pub statements: Vec<Statement>,
+    pub labels: Labels,
+    /// Where it breaks the grammar.
+    pub errors: Errors,
+}
+
+/// Goes on after an error with the next statement.
+pub fn parse(text: &str) -> Parsed {
     let mut parser = Parser {
-        cursor: Cursor::new(tokens(text)),
+        cursor: Cursor::new(text),
         labels: Labels::default(),
         statements: Vec::new(),
+        errors: Errors::default(),
         in_process: false,
     };
     while *parser.cursor.peek() != Token::TextEnd {
-        parser.statement()?;
+        let start = parser.cursor.place();
+        if let Err(error) = parser.statement() {
+            parser.errors.add(|| error);
+            parser.cursor.pass_statement(start);
+        }
     }
-    Ok((parser.statements, parser.labels))
+    let Parser { statements, labels, errors, .. } = parser;
+    Parsed { statements, labels, errors }
 }
 
-struct Parser {
-    cursor: Cursor,
+struct Parser<'a> {
+    cursor: Cursor<'a>,
     labels: Labels,
     statements: Vec<Statement>,
+    errors: Errors,
     /// Whether a step may come here: steps belong to processes.
     in_process: bool,
 }
 
-impl Parser {
+impl Parser<'_> {
     fn statement(&mut self) -> Result<(), Error> {
+        let place = self.cursor.place();
         if self.cursor.passes_word("process") {
-            self.labels.begin_process();
+            self.labels.begin_process(place);
             self.in_process = true;
             return self.label();
         }
         if self.in_process && self.cursor.at_label() {
             return self.label();
         }
-        let place = self.cursor.place();
-        let item = self.item()?;
-        self.in_process = matches!(item, Item::Step(_));
+        let meant = self.meant();
+        match self.item() {
+            Ok(item) => {
+                self.push(place, item);
+                self.line_end()
+            }
+            Err(error) => {
+                self.push(place, Item::Broken(meant));
+                Err(error)
+            }
+        }
+    }
+
+    fn push(&mut self, place: Place, item: Item) {
+        self.in_process = item.is_step();
         self.labels.nodes += usize::from(self.in_process);
         self.statements.push(Statement { place, item });
-        self.line_end()
     }
 
     /// A label and a colon, before the step that it names or another label of that step.
     fn label(&mut self) -> Result<(), Error> {
         let place = self.cursor.place();
-        let label = self.cursor.label()?;
+        match self.cursor.label() {
+            Ok(label) => self.named(label, place),
+            Err(error) => {
+                self.labels.lost = true;
+                return Err(error);
+            }
+        }
         self.cursor.sign(":")?;
-        self.labels.name(label, place)?;
         self.cursor.passes_line_end();
         if self.cursor.at_step() || self.cursor.at_label() {
             return Ok(());
         }
-        Err(self.cursor.unexpected(&format!("a step after the label: {}", STEPS.join(", "))))
+        let expected = format!("a step after the label: {}", STEPS.join(", "));
+        let error = self.cursor.unexpected(&expected);
+        self.push(place, Item::Broken(Some(Group::Steps)));
+        Err(error)
+    }
+
+    fn named(&mut self, label: String, place: Place) {
+        if let Err(again) = self.labels.name(label, place) {
+            self.errors.add(|| again);
+        }
     }
 
     fn line_end(&mut self) -> Result<(), Error> {
@@ -76,12 +117,29 @@ impl Parser {
         Err(self.cursor.unexpected("the end of the line"))
     }
 
+    /// What a statement is meant for, by its first word. An unknown word in a process is taken for
+    /// a step.
+    fn meant(&self) -> Option<Group> {
+        match self.cursor.peek_word() {
+            Some("alias") => Some(Group::Aliases),
+            Some("table") => Some(Group::Tables),
+            Some("row") => Some(Group::Rows),
+            Some("start") => Some(Group::Starts),
+            Some("pick") => Some(Group::Picks),
+            _ if self.in_process || self.cursor.at_step() => Some(Group::Steps),
+            _ => None,
+        }
+    }
+
     fn item(&mut self) -> Result<Item, Error> {
         if !self.in_process && (self.cursor.at_step() || self.cursor.at_label()) {
+            self.labels.lost |= self.cursor.at_label();
             return Err(self.cursor.unexpected("\"process\" and a label before the first step"));
         }
         let read = match self.cursor.peek_word() {
-            Some(word) if begins_step(word) => return Ok(Item::Step(self.cursor.step()?)),
+            Some(word) if begins_step(word) => {
+                return Ok(Item::Step(Box::new(self.cursor.step()?)))
+            }
             Some("alias") => Cursor::alias,
             Some("table") => Cursor::table,
             Some("row") => Cursor::row_of_table,
@@ -97,7 +155,7 @@ impl Parser {
     }
 }
 
-impl Cursor {
+impl Cursor<'_> {
     fn alias(&mut self) -> Result<Item, Error> {
         self.sign("@")?;
         let locality = Locality(self.number(1..=7, "a locality 1..7")?);

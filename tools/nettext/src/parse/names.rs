@@ -10,7 +10,7 @@ use engine::{Address, Locality, Operand, Site, Text, Value};
 const NAME: &str = "a table's name";
 const NAME_LENGTH: usize = 4;
 
-impl Cursor {
+impl Cursor<'_> {
     /// A word of at most four characters, or any name in quotes.
     pub fn name(&mut self) -> Result<Text, Error> {
         let name = match self.peek() {

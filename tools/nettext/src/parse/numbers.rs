@@ -6,7 +6,7 @@ use crate::token::Token;
 use crate::words::numbered;
 use std::ops::RangeInclusive;
 
-impl Cursor {
+impl Cursor<'_> {
     /// A number in a range of bytes.
     pub fn number(&mut self, range: RangeInclusive<u8>, expected: &str) -> Result<u8, Error> {
         let number = match self.peek() {

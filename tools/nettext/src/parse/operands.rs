@@ -30,7 +30,7 @@ pub const TUPLE: Allowed =
 pub const TEMPLATE: Allowed =
     Allowed { formals: true, expected: "a value, a variable, a sum or a formal", ..TUPLE };
 
-impl Cursor {
+impl Cursor<'_> {
     /// The values of a row.
     pub fn row(&mut self) -> Result<Row, Error> {
         let operands = self.operands("a tuple \"(..)\"", VALUES)?;

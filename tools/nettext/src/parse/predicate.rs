@@ -6,7 +6,7 @@ use crate::error::Error;
 use crate::token::Token;
 use engine::{Filter, Operands, Predicate, Test};
 
-impl Cursor {
+impl Cursor<'_> {
     /// The rest of a filter, whose template was read before.
     pub fn filter(&mut self, template: Operands) -> Result<Filter, Error> {
         let predicate = match self.passes_word("where") {

@@ -6,7 +6,7 @@ use crate::error::Error;
 use crate::item::{Next, Step, Target};
 use engine::{Act, Columns, Filter, Function, Kind, Loop};
 
-impl Cursor {
+impl Cursor<'_> {
     pub fn step(&mut self) -> Result<Step, Error> {
         let (act, body) = match self.passes_word("foreach") {
             true => self.foreach()?,

@@ -15,12 +15,15 @@ pub fn name(name: Text) -> String {
 }
 
 pub fn columns(columns: &Columns) -> String {
-    let kinds = columns.iter().map(|kind| match kind {
-        Kind::Int => "Int".to_owned(),
-        Kind::Text => "Text".to_owned(),
-        Kind::Loc => "Loc".to_owned(),
-    });
-    listed(kinds)
+    listed(columns.iter().map(|kind| self::kind(*kind).to_owned()))
+}
+
+pub fn kind(kind: Kind) -> &'static str {
+    match kind {
+        Kind::Int => "Int",
+        Kind::Text => "Text",
+        Kind::Loc => "Loc",
+    }
 }
 
 pub fn row(values: &[Value]) -> String {
@@ -36,7 +39,7 @@ fn listed(parts: impl Iterator<Item = String>) -> String {
     format!("({})", parts.collect::<Vec<_>>().join(", "))
 }
 
-fn value(value: Value) -> String {
+pub fn value(value: Value) -> String {
     match value {
         Value::Int(int) => int.to_string(),
         Value::Text(text) => quoted(text),

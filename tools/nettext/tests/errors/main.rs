@@ -1,5 +1,6 @@
 //! Errors in the text: where they are, what was found and what was expected.
 
+mod several;
 mod shown;
 mod statements;
 mod steps;

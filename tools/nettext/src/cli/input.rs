@@ -1,0 +1,74 @@
+//! What a program reads: a file, or standard input.
+
+use super::options::Options;
+use super::Failure;
+use std::fs::{File, Metadata};
+use std::io::{self, Read};
+use std::os::fd::AsFd;
+use std::path::Path;
+
+/// How an input without a file is named.
+const STANDARD_INPUT: &str = "<stdin>";
+
+pub struct Input {
+    pub name: String,
+    pub bytes: Vec<u8>,
+    flags: Vec<String>,
+    settings: Vec<(String, String)>,
+}
+
+impl Input {
+    pub fn has(&self, flag: &str) -> bool {
+        self.flags.iter().any(|given| given == flag)
+    }
+
+    /// The value of an option, the last one where it is given twice.
+    pub fn setting(&self, option: &str) -> Option<&str> {
+        let given = self.settings.iter().rev().find(|(given, _)| given == option);
+        given.map(|(_, value)| value.as_str())
+    }
+}
+
+/// An input of which nothing was read yet.
+pub struct Opened {
+    pub name: String,
+    file: File,
+    pub metadata: Metadata,
+}
+
+impl Opened {
+    pub fn new(path: Option<&Path>) -> Result<Opened, Failure> {
+        let name = path.map_or(STANDARD_INPUT.to_owned(), |path| path.display().to_string());
+        let file = path.map_or_else(standard_input, File::open);
+        let opened = file.and_then(|file| Ok((file.metadata()?, file)));
+        let (metadata, file) = opened.map_err(|error| unread(&name, &error))?;
+        Ok(Opened { name, file, metadata })
+    }
+
+    /// All of it, unless it has more bytes than the limit: then no more than one of those is read.
+    pub fn read(self, limit: usize, options: Options) -> Result<Input, Failure> {
+        let Opened { name, file, .. } = self;
+        let mut bytes = Vec::new();
+        let read = file.take((limit as u64).saturating_add(1)).read_to_end(&mut bytes);
+        read.map_err(|error| unread(&name, &error))?;
+        if bytes.len() > limit {
+            return Err(too_long(&name, limit).into());
+        }
+        Ok(Input { name, bytes, flags: options.flags, settings: options.settings })
+    }
+}
+
+fn standard_input() -> io::Result<File> {
+    Ok(File::from(io::stdin().as_fd().try_clone_to_owned()?))
+}
+
+fn unread(name: &str, error: &io::Error) -> Failure {
+    Failure::Unusable(format!("{name}: {error}"))
+}
+
+fn too_long(name: &str, limit: usize) -> String {
+    format!(
+        "{name}: over {limit} bytes, and no net needs so much: it has at most 256 records\n\
+         what to do: look whether this is the file that was meant\n"
+    )
+}
