@@ -19,10 +19,10 @@ tries netrun <&-
 prints_nothing
 says "standard input could not be read to its end"
 
-# A read that fails after the first records: dd leaves the pipe so that a read fails where it would wait.
+# A read that fails after three records, which are a net by themselves: dd leaves the pipe so that a read fails where it would wait.
 mkfifo pipe
 exec 3<>pipe
-head -c 104 "$net" >&3
+head -c 312 "$net" >&3
 dd iflag=nonblock count=0 <&3 2>dd.err
 tries netrun <&3
 prints_nothing
@@ -77,5 +77,14 @@ says_nothing
 tries netrun </dev/null
 prints_nothing
 says_nothing
+
+# What valgrind reports of printed Ints is harmless, and the file that says why suppresses it.
+if command -v valgrind >valgrind.path; then
+    for example in insert aggregates; do
+        tries valgrind -q --error-exitcode=9 --suppressions="$ROOT/tests/valgrind.supp" "$ROOT/target/bin/netrun" <"$ROOT/examples/$example.net"
+        exits 0
+        says_nothing
+    done
+fi
 
 finish
