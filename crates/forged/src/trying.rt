@@ -13,12 +13,8 @@ use steps::step;
 use test_compare::whole::same_net;
 use test_nets::exchanged::exchanged;
 use write::write;
-ghost use Prim.Native.Nat.{_≤_};
 
-fn put_same(page: &mut [u8; 4096], at: usize, same: bool) -> usize
-    requires { ⌜ at ≤ 4096 ⌝ }
-    ensures { λ r. ⌜ r ≤ 4096 ⌝ }
-{
+fn put_same(page: &mut [u8; 4096], at: usize, same: bool) -> usize {
     if same {
         return put_bytes(page, at, b" same");
     }
@@ -26,10 +22,7 @@ fn put_same(page: &mut [u8; 4096], at: usize, same: bool) -> usize
 }
 
 // The length, or the number of the refusal.
-fn put_written(page: &mut [u8; 4096], at: usize, written: Written) -> usize
-    requires { ⌜ at ≤ 4096 ⌝ }
-    ensures { λ r. ⌜ r ≤ 4096 ⌝ }
-{
+fn put_written(page: &mut [u8; 4096], at: usize, written: Written) -> usize {
     match written {
         Written::Length(n) => put_decimal(page, at, n as u64),
         Written::Unsound => put_bytes(page, at, b"no 10"),
@@ -91,10 +84,7 @@ fn run(net: Net, thread: u8, row: u8) -> Outcome {
     }
 }
 
-fn put_outcome(page: &mut [u8; 4096], at: usize, outcome: Outcome) -> usize
-    requires { ⌜ at ≤ 4096 ⌝ }
-    ensures { λ r. ⌜ r ≤ 4096 ⌝ }
-{
+fn put_outcome(page: &mut [u8; 4096], at: usize, outcome: Outcome) -> usize {
     let answer = outcome.answer;
     let written = outcome.written;
     let mut end = put_answer(page, at, answer);

@@ -1,12 +1,12 @@
 // Reads a file of records on standard input, carries out its picks, and prints each pick's answer and then the tables left.
 use files::Verdict;
-use libc::STDIN_FILENO;
+use libc::STDERR_FILENO;
 use load::length_fault;
 use load::load;
 use nets::Net;
 use nets::Pick;
-use print_lines::faults::print_fault;
-use print_lines::input::count_rest;
+use print_lines::faults::print_refused;
+use print_lines::input::read_input;
 use print_lines::lines::put_picks;
 use print_lines::lines::put_tables;
 use print_lines::pages::at_most;
@@ -34,7 +34,8 @@ fn run(start: Net, picks: [Pick; 256], count: usize, answers: &mut [u8]) -> Carr
     carry_out(start, &bytes[..length], answers)
 }
 
-fn print_run(start: Net, picks: [Pick; 256], count: usize)
+// Every print_ function answers whether all of it was written.
+fn print_run(start: Net, picks: [Pick; 256], count: usize) -> bool
     requires { ⌜ T (sound (view start)) ⌝ }
 {
     let n = at_most(count, 256);
@@ -44,31 +45,46 @@ fn print_run(start: Net, picks: [Pick; 256], count: usize)
     let mut at = put_picks(&mut page, 0, &answers, n);
     let tables = left.tables;
     at = put_tables(&mut page, at, tables, left.tablecount);
-    write_page(&page, at);
+    write_page(&page, at)
 }
 
-fn print_file(file: &[u8]) {
+fn print_file(file: &[u8]) -> bool {
     let loaded = load(file);
     let verdict = loaded.verdict;
     match verdict {
         Verdict::Accepted => {
             let net = loaded.net;
             let picks = loaded.picks;
-            print_run(net, picks, loaded.pickcount);
+            print_run(net, picks, loaded.pickcount)
         }
-        Verdict::Fault(number, place) => {
-            print_fault(number, place);
-        }
+        Verdict::Fault(number, place) => print_refused(file, number, place),
     }
 }
 
+// An input that fills the buffer is too long for a file, whatever its bytes.
+fn print_input(space: &[u8], length: usize) -> bool {
+    if length >= space.len() {
+        let fault = length_fault(length);
+        return print_refused(space, fault.number, fault.place);
+    }
+    print_file(&space[..length])
+}
+
 fn main() {
-    let mut file = io::large_buffer();
-    let n = io::read_full(STDIN_FILENO, &mut file);
-    if n == 65536 {
-        let fault = length_fault(n + count_rest(&mut file));
-        print_fault(fault.number, fault.place);
+    if os::arg_count() > 1 {
+        io::write_all(
+            STDERR_FILENO,
+            b"netrun takes no arguments: it reads a file of records on standard input, as in: netrun < NET.net\n",
+        );
         return;
     }
-    print_file(&file[..n]);
+    let mut space = io::large_buffer();
+    let input = read_input(&mut space);
+    if !input.whole {
+        os::fail(b"netrun: nothing was run: standard input could not be read to its end");
+        return;
+    }
+    if !print_input(&space, input.length) {
+        os::fail(b"netrun: standard output could not be written");
+    }
 }

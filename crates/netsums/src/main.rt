@@ -1,13 +1,12 @@
 // Reads a file of records on standard input, runs its picks as one run, and prints the sums of the counts and then the tables left.
-use files::Loaded;
 use files::Verdict;
-use libc::STDIN_FILENO;
+use libc::STDERR_FILENO;
 use load::length_fault;
 use load::load;
 use nets::Net;
 use nets::Pick;
-use print_lines::faults::print_fault;
-use print_lines::input::count_rest;
+use print_lines::faults::print_refused;
+use print_lines::input::read_input;
 use print_lines::lines::put_tables;
 use print_lines::pages::at_most;
 use print_lines::pages::put_byte;
@@ -23,10 +22,7 @@ ghost use lib.ListN.{take};
 ghost use Rattle.runs.specs.Runs.{RunIs};
 
 // The high half of a sum, where it counts.
-fn put_high(page: &mut [u8; 4096], at: usize, high: u64) -> usize
-    requires { ⌜ at ≤ 4096 ⌝ }
-    ensures { λ r. ⌜ r ≤ 4096 ⌝ }
-{
+fn put_high(page: &mut [u8; 4096], at: usize, high: u64) -> usize {
     if high == 0 {
         return at;
     }
@@ -34,15 +30,13 @@ fn put_high(page: &mut [u8; 4096], at: usize, high: u64) -> usize
     put_bytes(page, place, b" * 2^64 + ")
 }
 
-fn put_total(page: &mut [u8; 4096], at: usize, t: Total) -> usize
-    requires { ⌜ at ≤ 4096 ⌝ }
-    ensures { λ r. ⌜ r ≤ 4096 ⌝ }
-{
+fn put_total(page: &mut [u8; 4096], at: usize, t: Total) -> usize {
     let place = put_high(page, at, t.high);
     put_decimal(page, place, t.low)
 }
 
-fn print_ran(ran: Ran) {
+// Every print_ function answers whether all of it was written.
+fn print_ran(ran: Ran) -> bool {
     let mut page = [0u8; 4096];
     let mut at = put_bytes(&mut page, 0, b"run ");
     let added = ran.added;
@@ -54,7 +48,7 @@ fn print_ran(ran: Ran) {
     let net = ran.net;
     let tables = net.tables;
     at = put_tables(&mut page, at, tables, net.tablecount);
-    write_page(&page, at);
+    write_page(&page, at)
 }
 
 // The first `count` picks of the array as one run.
@@ -67,27 +61,43 @@ fn run_list(net: Net, picks: [Pick; 256], count: usize) -> Ran
     run_bytes(net, &bytes[..length])
 }
 
-fn print_loaded(loaded: Loaded) {
+fn print_file(file: &[u8]) -> bool {
+    let loaded = load(file);
     let verdict = loaded.verdict;
     match verdict {
         Verdict::Accepted => {
             let net = loaded.net;
             let picks = loaded.picks;
-            print_ran(run_list(net, picks, at_most(loaded.pickcount, 256)));
+            print_ran(run_list(net, picks, at_most(loaded.pickcount, 256)))
         }
-        Verdict::Fault(number, place) => {
-            print_fault(number, place);
-        }
+        Verdict::Fault(number, place) => print_refused(file, number, place),
     }
 }
 
+// An input that fills the buffer is too long for a file, whatever its bytes.
+fn print_input(space: &[u8], length: usize) -> bool {
+    if length >= space.len() {
+        let fault = length_fault(length);
+        return print_refused(space, fault.number, fault.place);
+    }
+    print_file(&space[..length])
+}
+
 fn main() {
-    let mut file = io::large_buffer();
-    let n = io::read_full(STDIN_FILENO, &mut file);
-    if n == 65536 {
-        let fault = length_fault(n + count_rest(&mut file));
-        print_fault(fault.number, fault.place);
+    if os::arg_count() > 1 {
+        io::write_all(
+            STDERR_FILENO,
+            b"netsums takes no arguments: it reads a file of records on standard input, as in: netsums < NET.net\n",
+        );
         return;
     }
-    print_loaded(load(&file[..n]));
+    let mut space = io::large_buffer();
+    let input = read_input(&mut space);
+    if !input.whole {
+        os::fail(b"netsums: nothing was run: standard input could not be read to its end");
+        return;
+    }
+    if !print_input(&space, input.length) {
+        os::fail(b"netsums: standard output could not be written");
+    }
 }

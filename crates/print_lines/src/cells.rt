@@ -7,7 +7,6 @@ use rows::Relation;
 use rows::Row;
 use values::Value;
 ghost use mathlib.Core.Path.{_≡_};
-ghost use Prim.Native.Nat.{_≤_};
 ghost use lib.IntN.{natAbs};
 
 fn magnitude(i: i32) -> u64
@@ -20,10 +19,7 @@ fn magnitude(i: i32) -> u64
     i as u64
 }
 
-fn put_int(page: &mut [u8; 4096], at: usize, i: i32) -> usize
-    requires { ⌜ at ≤ 4096 ⌝ }
-    ensures { λ r. ⌜ r ≤ 4096 ⌝ }
-{
+fn put_int(page: &mut [u8; 4096], at: usize, i: i32) -> usize {
     let n = magnitude(i);
     if i < 0 {
         let digits = put_byte(page, at, b'-');
@@ -32,10 +28,7 @@ fn put_int(page: &mut [u8; 4096], at: usize, i: i32) -> usize
     put_decimal(page, at, n)
 }
 
-pub fn put_text(page: &mut [u8; 4096], at: usize, t: u32) -> usize
-    requires { ⌜ at ≤ 4096 ⌝ }
-    ensures { λ r. ⌜ r ≤ 4096 ⌝ }
-{
+pub fn put_text(page: &mut [u8; 4096], at: usize, t: u32) -> usize {
     let bytes = [
         (t / 16777216 % 256) as u8,
         (t / 65536 % 256) as u8,
@@ -45,10 +38,7 @@ pub fn put_text(page: &mut [u8; 4096], at: usize, t: u32) -> usize
     put_bytes(page, at, &bytes)
 }
 
-pub fn put_value(page: &mut [u8; 4096], at: usize, v: Value) -> usize
-    requires { ⌜ at ≤ 4096 ⌝ }
-    ensures { λ r. ⌜ r ≤ 4096 ⌝ }
-{
+pub fn put_value(page: &mut [u8; 4096], at: usize, v: Value) -> usize {
     match v {
         Value::Int(i) => put_int(page, at, i),
         Value::Text(t) => put_text(page, at, t),
@@ -60,10 +50,7 @@ pub fn put_value(page: &mut [u8; 4096], at: usize, v: Value) -> usize
 }
 
 // The line of a row: its first `columns` values.
-fn put_row(page: &mut [u8; 4096], at: usize, row: Row, columns: usize) -> usize
-    requires { ⌜ at ≤ 4096 ⌝ }
-    ensures { λ r. ⌜ r ≤ 4096 ⌝ }
-{
+fn put_row(page: &mut [u8; 4096], at: usize, row: Row, columns: usize) -> usize {
     let n = at_most(columns, 4);
     let mut place = put_bytes(page, at, b"row");
     let mut i: usize = 0;
@@ -77,10 +64,7 @@ fn put_row(page: &mut [u8; 4096], at: usize, row: Row, columns: usize) -> usize
     put_byte(page, place, b'\n')
 }
 
-pub fn put_rows(page: &mut [u8; 4096], at: usize, r: Relation) -> usize
-    requires { ⌜ at ≤ 4096 ⌝ }
-    ensures { λ r. ⌜ r ≤ 4096 ⌝ }
-{
+pub fn put_rows(page: &mut [u8; 4096], at: usize, r: Relation) -> usize {
     let n = at_most(r.count, 16);
     let columns = r.columns;
     let mut place = at;

@@ -1,15 +1,29 @@
-// The line for a refused file.
+// What is told of a refused file.
 use crate::pages::put_byte;
 use crate::pages::put_bytes;
 use crate::pages::put_decimal;
 use crate::pages::write_page;
+use crate::text::reads_as_text;
+use libc::STDERR_FILENO;
 
-pub fn print_fault(number: u8, place: usize) {
+fn print_fault(number: u8, place: usize) -> bool {
     let mut page = [0u8; 4096];
     let mut at = put_bytes(&mut page, 0, b"load ");
     at = put_decimal(&mut page, at, number as u64);
     at = put_bytes(&mut page, at, b" at ");
     at = put_decimal(&mut page, at, place as u64);
     at = put_byte(&mut page, at, b'\n');
-    write_page(&page, at);
+    write_page(&page, at)
+}
+
+// The line of the fault; answers whether it was written. Of a text in place of records the line says little, so a hint goes to standard error.
+pub fn print_refused(file: &[u8], number: u8, place: usize) -> bool {
+    let written = print_fault(number, place);
+    if reads_as_text(file) {
+        io::write_all(
+            STDERR_FILENO,
+            b"hint: this reads as text; netasm makes records of a text: netasm NET.nettext -o NET.net\n",
+        );
+    }
+    written
 }

@@ -1,20 +1,54 @@
-// Standard input that is longer than any file that loads.
+// Standard input, read to its end.
 use libc::STDIN_FILENO;
+ghost use mathlib.Core.Path.{_≡_};
 ghost use Prim.Native.Nat.{_≤_};
+ghost use lib.ListN.{length};
 
-// How many bytes are left on standard input. A proved loop has to end, so it counts its tries down from a number that no run uses up.
-pub fn count_rest(space: &mut [u8; 65536]) -> usize
-    ensures { λ r. ⌜ r ≤ 72057594037927936 ⌝ }
+// How many bytes were read, and whether they are all: a read that fails is no end.
+pub struct Input {
+    pub length: usize,
+    pub whole: bool,
+}
+
+fn read_from(space: &mut [u8], at: usize) -> isize
+    requires { ⌜ at ≤ length (now space) ⌝ }
 {
-    let mut total: usize = 0;
+    libc::read(STDIN_FILENO, &mut space[at..])
+}
+
+// Where the next bytes go: behind those read. Past the buffer's end bytes are only counted, over its second half.
+fn next_place(read: usize) -> usize
+    ensures { λ r. ⌜ r ≤ 65536 ⌝ }
+{
+    if read < 65536 {
+        return read;
+    }
+    32768
+}
+
+// Reads into the buffer what fits, and counts the rest. A proved loop has to end, so it counts its tries down from a number that no run uses up.
+pub fn read_input(space: &mut [u8]) -> Input
+    requires { ⌜ 65536 ≡ length (now space) ⌝ }
+    ensures { λ r. ⌜ (r .length ≤ 72057594037927936) × (65536 ≡ length (now (space .exit))) ⌝ }
+{
+    let mut read: usize = 0;
     let mut tries: usize = 1099511627776;
     while tries > 0 {
-        let n = io::read_full(STDIN_FILENO, space);
-        if n == 0 {
-            return total;
+        let got = read_from(space, next_place(read));
+        if got < 0 {
+            break;
         }
-        total += n;
+        if got == 0 {
+            return Input {
+                length: read,
+                whole: true,
+            };
+        }
+        read += io::count(got, space);
         tries -= 1;
     }
-    total
+    Input {
+        length: read,
+        whole: false,
+    }
 }

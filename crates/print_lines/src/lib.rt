@@ -5,3 +5,4 @@ pub mod faults;
 pub mod input;
 pub mod lines;
 pub mod pages;
+pub mod text;

@@ -14,10 +14,7 @@ ghost use Prim.Native.Nat.{_*_, _<_, _≤_};
 ghost use lib.ListN.{length};
 
 // "done" with the rows added and taken, or "no" with the number of the refusal; number 0 is done.
-fn put_said(page: &mut [u8; 4096], at: usize, number: u64, added: u64, taken: u64) -> usize
-    requires { ⌜ at ≤ 4096 ⌝ }
-    ensures { λ r. ⌜ r ≤ 4096 ⌝ }
-{
+fn put_said(page: &mut [u8; 4096], at: usize, number: u64, added: u64, taken: u64) -> usize {
     if number != 0 {
         let place = put_bytes(page, at, b"no ");
         return put_decimal(page, place, number);
@@ -28,10 +25,7 @@ fn put_said(page: &mut [u8; 4096], at: usize, number: u64, added: u64, taken: u6
     put_decimal(page, place, taken)
 }
 
-pub fn put_answer(page: &mut [u8; 4096], at: usize, answer: Answer) -> usize
-    requires { ⌜ at ≤ 4096 ⌝ }
-    ensures { λ r. ⌜ r ≤ 4096 ⌝ }
-{
+pub fn put_answer(page: &mut [u8; 4096], at: usize, answer: Answer) -> usize {
     match answer {
         Answer::Done(added, taken) => put_said(page, at, 0, added as u64, taken as u64),
         Answer::Refused(why) => put_said(page, at, number_of(why) as u64, 0, 0),
@@ -59,8 +53,7 @@ fn number_in(bytes: &[u8]) -> u64
 
 // The line of pick `i`, from its answer's 24 bytes.
 fn put_pick(page: &mut [u8; 4096], at: usize, i: usize, answer: &[u8]) -> usize
-    requires { ⌜ (at ≤ 4096) × (length (now answer) ≡ 24) ⌝ }
-    ensures { λ r. ⌜ r ≤ 4096 ⌝ }
+    requires { ⌜ length (now answer) ≡ 24 ⌝ }
 {
     let number = number_in(&answer[0..8]);
     let added = number_in(&answer[8..16]);
@@ -74,8 +67,7 @@ fn put_pick(page: &mut [u8; 4096], at: usize, i: usize, answer: &[u8]) -> usize
 
 // The lines of the first `count` picks.
 pub fn put_picks(page: &mut [u8; 4096], at: usize, answers: &[u8], count: usize) -> usize
-    requires { ⌜ (at ≤ 4096) × (count * 24 ≤ length (now answers)) ⌝ }
-    ensures { λ r. ⌜ r ≤ 4096 ⌝ }
+    requires { ⌜ count * 24 ≤ length (now answers) ⌝ }
 {
     let mut place = at;
     let mut i: usize = 0;
@@ -87,10 +79,7 @@ pub fn put_picks(page: &mut [u8; 4096], at: usize, answers: &[u8], count: usize)
 }
 
 // The line of a table, and those of its rows.
-fn put_table(page: &mut [u8; 4096], at: usize, t: Table) -> usize
-    requires { ⌜ at ≤ 4096 ⌝ }
-    ensures { λ r. ⌜ r ≤ 4096 ⌝ }
-{
+fn put_table(page: &mut [u8; 4096], at: usize, t: Table) -> usize {
     let site = t.site;
     let content = t.content;
     let mut place = put_bytes(page, at, b"table ");
@@ -103,10 +92,7 @@ fn put_table(page: &mut [u8; 4096], at: usize, t: Table) -> usize
     put_rows(page, place, content)
 }
 
-pub fn put_tables(page: &mut [u8; 4096], at: usize, tables: [Table; 8], count: usize) -> usize
-    requires { ⌜ at ≤ 4096 ⌝ }
-    ensures { λ r. ⌜ r ≤ 4096 ⌝ }
-{
+pub fn put_tables(page: &mut [u8; 4096], at: usize, tables: [Table; 8], count: usize) -> usize {
     let n = at_most(count, 8);
     let mut place = at;
     let mut i: usize = 0;

@@ -24,14 +24,13 @@ use Rattle.runs.proofs.FurtherLaws.{run-made}
 -- ── how much is lent ──
 
 module _ (bs : List ℕ) {n : ℕ} where
-  pub lent-long : (b : Bool) → n ≡ cond b (length bs) 0 → n ≡ length (take n bs)
-  lent-long true e = sym (length-take-le n bs (omega (arith, e)))
-  lent-long false e = sym (length-take-le n bs (omega (arith, e)))
+  pub lent-long : n ≤ length bs → n ≡ length (take n bs)
+  lent-long h = sym (length-take-le n bs h)
 
   -- some bytes are lent only if the test said so
-  pub lent-sure : (b : Bool) → n ≡ cond b (length bs) 0 → 2 ≤ length (take n bs) → b ≡ true
-  lent-sure true e h = refl
-  lent-sure false e h = absurd (omega (arith, subst (λ (m : ℕ). 2 ≤ length (take m bs)) e h))
+  pub lent-sure : (b : Bool) → (b ≡ false → n ≡ 0) → 2 ≤ length (take n bs) → b ≡ true
+  lent-sure true none h = refl
+  lent-sure false none h = absurd (omega (arith, subst (λ (m : ℕ). 2 ≤ length (take m bs)) (none refl) h))
 
   pub lent-picks : (b : Bool) → n ≡ cond b (length bs) 0 → picksIn (take n bs) ≡ cond b (picksIn bs) []
   lent-picks true e = ap (λ (m : ℕ). picksIn (take m bs)) e ∙ ap picksIn (take-all (length bs) bs (omega arith))

@@ -5,6 +5,7 @@ use mathlib.Core.Bool.{Bool, true, false, cond}
 use mathlib.Core.List.{List, [], _∷_}
 use native.Mathlib.Omega.{arith}
 use lib.ListN.{length, take}
+use lib.Seq.{length-take-le}
 use Rattle.nets.specs.declared.Pick.{Pick}
 use Rattle.step_bytes.specs.PickBytes.{picksIn}
 
@@ -12,19 +13,14 @@ abbrev pub bytesOf : Pick → List ℕ
 bytesOf p = p .thread ∷ p .row ∷ []
 
 module _ (p : Pick) {n : ℕ} where
-  -- they are within the array, and as many as asked for
-  pub few-of : (b : Bool) → n ≡ cond b 2 0 → n ≤ 2
-  few-of true e = omega (arith, e)
-  few-of false e = omega (arith, e)
-
-  pub long-of : (b : Bool) → n ≡ cond b 2 0 → n ≡ length (take n (bytesOf p))
-  long-of true e = subst (λ (m : ℕ). m ≡ length (take m (bytesOf p))) (sym e) refl
-  long-of false e = subst (λ (m : ℕ). m ≡ length (take m (bytesOf p))) (sym e) refl
+  -- as many bytes as asked for
+  pub long-of : n ≤ 2 → n ≡ length (take n (bytesOf p))
+  long-of h = sym (length-take-le n (bytesOf p) h)
 
   -- a pick is lent only if the test said so
-  pub sure-of : (b : Bool) → n ≡ cond b 2 0 → 2 ≤ length (take n (bytesOf p)) → b ≡ true
-  sure-of true e h = refl
-  sure-of false e h = absurd (omega (arith, subst (λ (m : ℕ). 2 ≤ length (take m (bytesOf p))) e h))
+  pub sure-of : (b : Bool) → (b ≡ false → n ≡ 0) → 2 ≤ length (take n (bytesOf p)) → b ≡ true
+  sure-of true none h = refl
+  sure-of false none h = absurd (omega (arith, subst (λ (m : ℕ). 2 ≤ length (take m (bytesOf p))) (none refl) h))
 
   pub picks-of : (b : Bool) → n ≡ cond b 2 0 → picksIn (take n (bytesOf p)) ≡ cond b (p ∷ []) []
   picks-of true e = subst (λ (m : ℕ). picksIn (take m (bytesOf p)) ≡ p ∷ []) (sym e) refl

@@ -7,6 +7,7 @@ use step_left::left_by;
 use step_picks::carry_out;
 ghost use mathlib.Core.Path.{_≡_};
 ghost use mathlib.Core.Bool.{cond};
+ghost use Prim.Native.Nat.{_≤_};
 ghost use lib.Dec.{T};
 ghost use Rattle.nets.specs.Sound.{sound};
 ghost use Rattle.nets.specs.Answers.{StepIs};
@@ -14,7 +15,7 @@ ghost use Rattle.nets.specs.View.{view};
 
 // The count where the test passed, else 0: an unsound net gets no picks.
 pub fn count_if(sure: bool, count: usize) -> usize
-    ensures { λ r. ⌜ r ≡ cond sure count 0 ⌝ }
+    ensures { λ r. ⌜ (r ≡ cond sure count 0) × (r ≤ count) ⌝ }
 {
     if sure {
         return count;

@@ -180,6 +180,13 @@ atOf e = e .before .before
 abbrev pickOf : Picked → Pick
 pickOf e = e .pick-at .result
 
+-- how many picks the loop goes through, as its test says
+abbrev bound : {i n : ℕ} → i < n → ℕ
+bound {n = n} h = n
+
+abbrev countOf : Picked → ℕ
+countOf e = bound (e .before .loop-test .taken)
+
 left-over : (e : Picked) → atOf e .loop .i < length (picksAt (atOf e))
 left-over e = let h = e .before .loop-test .taken in omega (arith, h, count-is (atOf e))
 
@@ -192,14 +199,14 @@ within : (e : Picked) → T (roomAt (atOf e)) → atOf e .loop .i * 24 + 24 ≤ 
 within e h =
     let l = atOf e in
     let k = e .before .loop-test .taken in
-    let room : (length (bytesAt l) / 2) * 24 ≤ length (lentAt l) = leb→le _ _ (subst T (l .before .before .before .has-room .ensures) h) in
+    let room : countOf e * 24 ≤ length (lentAt l) = leb→le _ _ (subst T (l .before .before .before .has-room .ensures) h) in
     omega (arith, k, room, l .loop .inv .size)
 
 -- one pick more
 more :
     (e : Picked) {n : Net} {x : Answer} {u v : Total} {out : List ℕ} → OnePick (reachedAt (atOf e)) (pickOf e) (record { net = n; answer = x; added = u; taken = v }) →
     out ≡ cond (roomAt (atOf e)) (putAt (atOf e .loop .i * 24) (answerBytes (saidOf x)) (atOf e .loop .out)) (atOf e .loop .out) → Sized (fromOf (atOf e)) n →
-    Behind (bytesAt (atOf e)) (lentAt (atOf e)) (length (bytesAt (atOf e)) / 2) (roomAt (atOf e)) (fromOf (atOf e)) out (record { net = n; answer = x; added = u; taken = v }) (atOf e .loop .i + 1)
+    Behind (bytesAt (atOf e)) (lentAt (atOf e)) (countOf e) (roomAt (atOf e)) (fromOf (atOf e)) out (record { net = n; answer = x; added = u; taken = v }) (atOf e .loop .i + 1)
 more e {n} {x} {u} {v} {out} t o z =
     let l = atOf e in
     let h = e .before .loop-test .taken in
@@ -215,8 +222,8 @@ more e {n} {x} {u} {v} {out} t o z =
     }
 
 -- fewer picks are left
-less : (e : Picked) → length (bytesAt (atOf e)) / 2 - (atOf e .loop .i + 1) < length (bytesAt (atOf e)) / 2 - atOf e .loop .i
-less e = let h = e .before .loop-test .taken in omega (arith, h)
+less : {i next n : ℕ} → i < n → i < next → n - next < n - i
+less h k = omega (arith, h, k)
 
 -- ── no such thread ──
 
@@ -224,7 +231,7 @@ put-answer-at-requires : tie.Need-put-answer-at-requires Inv-loop2 μ-loop2 Inv-
 put-answer-at-requires c κs = within (c .before .before .before)
 
 loop-less : tie.Need-loop-less Inv-loop2 μ-loop2 Inv-loop3 μ-loop3 Inv-loop4 μ-loop4 Inv-loop μ-loop
-loop-less c = less (c .before .before .before .before .before .before)
+loop-less c = less ((c .before .before .before .before .before .before) .before .loop-test .taken) (omega arith)
 
 loop-again : tie.Need-loop-again Inv-loop2 μ-loop2 Inv-loop3 μ-loop3 Inv-loop4 μ-loop4 Inv-loop μ-loop
 loop-again c =
@@ -482,7 +489,7 @@ decidesOf c = c .before .before .before .before
 -- ── refused ──
 
 loop-less-2 : tie.Need-loop-less-2 Inv-loop2 μ-loop2 Inv-loop3 μ-loop3 Inv-loop4 μ-loop4 Inv-loop μ-loop
-loop-less-2 c = less (pickedIn (decidesOf (c .before .before)))
+loop-less-2 c = less ((pickedIn (decidesOf (c .before .before))) .before .loop-test .taken) (omega arith)
 
 loop-again-2 : tie.Need-loop-again-2 Inv-loop2 μ-loop2 Inv-loop3 μ-loop3 Inv-loop4 μ-loop4 Inv-loop μ-loop
 loop-again-2 c =
@@ -881,7 +888,7 @@ again :
     ≡ settle (pickBy (c .before) .thread) (goesOn (threadOf (movedIn (c .before) (c .before .if3 .thread .relations)))) (threadsOf (netBy (c .before) .threadcount) (netBy (c .before) .threads))
     ++ forksOf (decidesBy (c .before) .decide .result .forks) fork →
     {n : Net} → n ≡ netWith (netBy (c .before)) (c .match3 .net .tables) (c .match3 .net .tablecount) hs k →
-    Behind (bytesAt (atOf (pickedOf (thereBy (c .before))))) (lentAt (atOf (pickedOf (thereBy (c .before))))) (length (bytesAt (atOf (pickedOf (thereBy (c .before))))) / 2) (roomAt (atOf (pickedOf (thereBy (c .before)))))
+    Behind (bytesAt (atOf (pickedOf (thereBy (c .before))))) (lentAt (atOf (pickedOf (thereBy (c .before))))) (countOf (pickedOf (thereBy (c .before)))) (roomAt (atOf (pickedOf (thereBy (c .before)))))
     (fromOf (atOf (pickedOf (thereBy (c .before))))) (saidOfStep (c .before) .before .before .put-answer-at2 .last .0)
     (record {
       net = n;
@@ -947,7 +954,7 @@ mul-moved-3 : tie.Need-mul-moved-3 Inv-loop2 μ-loop2 Inv-loop3 μ-loop3 Inv-loo
 mul-moved-3 c = record { fits = let h = moves-thread c in omega (arith, h) }
 
 element-copy-out-moved-2 : tie.Need-element-copy-out-moved-2 Inv-loop2 μ-loop2 Inv-loop3 μ-loop3 Inv-loop4 μ-loop4 Inv-loop μ-loop
-element-copy-out-moved-2 c = moves-thread c
+element-copy-out-moved-2 c = let h = moves-thread c in omega (arith, h)
 
 mul-moved-4 : tie.Need-mul-moved-4 Inv-loop2 μ-loop2 Inv-loop3 μ-loop3 Inv-loop4 μ-loop4 Inv-loop μ-loop
 mul-moved-4 c = record { fits = let h = moves-thread (c .before) in omega (arith, h) }
@@ -969,7 +976,7 @@ loop4-again c =
     (omega (arith, h), closing-more noThread (t .match3 .net .threads) _ (l .inv .1) (omega (arith, few, eight)), ap (λ (n : Net). withThreads n (set (l .net .threads) (l .gap) (getD (l .net .threads) (l .gap + 1) noThread))) (l .inv .2))
 
 loop-less-3 : tie.Need-loop-less-3 Inv-loop2 μ-loop2 Inv-loop3 μ-loop3 Inv-loop4 μ-loop4 Inv-loop μ-loop
-loop-less-3 c = less (pickedOf (thereBy (tabledOf (c .before .before) .before)))
+loop-less-3 c = less ((pickedOf (thereBy (tabledOf (c .before .before) .before))) .before .loop-test .taken) (omega arith)
 
 loop-again-3 : tie.Need-loop-again-3 Inv-loop2 μ-loop2 Inv-loop3 μ-loop3 Inv-loop4 μ-loop4 Inv-loop μ-loop
 loop-again-3 c =
@@ -1008,7 +1015,7 @@ deep-thread : (c : Stays) → 1 ≤ tabledIn c .before .if3 .thread .depth
 deep-thread c = subst (λ (t : Thread). 1 ≤ t .depth) (sym (moved-is (tabledIn c .before))) (deep c)
 
 loop-less-5 : tie.Need-loop-less-5 Inv-loop2 μ-loop2 Inv-loop3 μ-loop3 Inv-loop4 μ-loop4 Inv-loop μ-loop
-loop-less-5 c = less (pickedOf (thereBy (tabledIn (c .before) .before)))
+loop-less-5 c = less ((pickedOf (thereBy (tabledIn (c .before) .before))) .before .loop-test .taken) (omega arith)
 
 loop-again-5 : tie.Need-loop-again-5 Inv-loop2 μ-loop2 Inv-loop3 μ-loop3 Inv-loop4 μ-loop4 Inv-loop μ-loop
 loop-again-5 c =
@@ -1035,16 +1042,16 @@ fork-few : (c : Forks) → netBy (tabledIn (staysOf c) .before) .threadcount < 8
 fork-few c = threads-fit (tabledIn (staysOf c)) (T-of _ (c .before .before .if6 .taken)) .0
 
 mul-t143 : tie.Need-mul-t143 Inv-loop2 μ-loop2 Inv-loop3 μ-loop3 Inv-loop4 μ-loop4 Inv-loop μ-loop
-mul-t143 c = record { fits = let h = fork-few c in omega (arith, h) }
+mul-t143 c = record { fits = let h = fork-few c in let k = thread-few (staysOf c) in omega (arith, h, k) }
 
 element-set-from-net-4 : tie.Need-element-set-from-net-4 Inv-loop2 μ-loop2 Inv-loop3 μ-loop3 Inv-loop4 μ-loop4 Inv-loop μ-loop
-element-set-from-net-4 c = fork-few c
+element-set-from-net-4 c = let h = fork-few c in let k = thread-few (staysOf c) in omega (arith, h, k)
 
 add-net-2 : tie.Need-add-net-2 Inv-loop2 μ-loop2 Inv-loop3 μ-loop3 Inv-loop4 μ-loop4 Inv-loop μ-loop
 add-net-2 c = record { fits = let h = fork-few c in omega (arith, h) }
 
 loop-less-4 : tie.Need-loop-less-4 Inv-loop2 μ-loop2 Inv-loop3 μ-loop3 Inv-loop4 μ-loop4 Inv-loop μ-loop
-loop-less-4 c = less (pickedOf (thereBy (tabledIn (staysOf c) .before)))
+loop-less-4 c = less ((pickedOf (thereBy (tabledIn (staysOf c) .before))) .before .loop-test .taken) (omega arith)
 
 loop-again-4 : tie.Need-loop-again-4 Inv-loop2 μ-loop2 Inv-loop3 μ-loop3 Inv-loop4 μ-loop4 Inv-loop μ-loop
 loop-again-4 c =

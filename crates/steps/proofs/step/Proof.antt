@@ -1,5 +1,8 @@
 -- `steps::step` meets its contract: on a sound net one pick carried out, and else none, which is answered by a refusal. Assumes nothing.
-use mathlib.Core.Path.{sym, subst, _∙_}
+use Prim.Native.Nat.{ℕ}
+use mathlib.Core.Path.{_≡_, sym, ap, subst, _∙_}
+use mathlib.Core.Bool.{Bool, false, cond}
+use native.Mathlib.Omega.{arith}
 use borrow.Author.Needs.{needs}
 use Rattle.values.proofs.Bools.{T-of}
 use Rattle.nets.specs.declared.Net.{Net}
@@ -7,7 +10,7 @@ use Rattle.nets.specs.Sound.{sound}
 use Rattle.nets.specs.Answers.{StepIs}
 use Rattle.nets.specs.View.{view}
 use Rattle.step_left.proofs.CarriedLaws.{carried-single}
-use Rattle.steps.proofs.OneLaws.{few-of, long-of, sure-of, picks-of}
+use Rattle.steps.proofs.OneLaws.{long-of, sure-of, picks-of}
 use Rattle.steps.proofs.step.Statement.{statement}
 use Rattle.steps.proofs.step.Tie as tie
 
@@ -19,16 +22,17 @@ abbrev start : Tested → tie.Start
 start t = t .before .before .before .before .before
 
 array-share-prefix-picks : tie.Need-array-share-prefix-picks
-array-share-prefix-picks c = few-of (start (c .before) .args .pick) (c .before .sound-parts .result) (c .count-if .ensures)
+array-share-prefix-picks c = c .count-if .ensures .1
 
 slice-aggregate-carry-out : tie.Need-slice-aggregate-carry-out
-slice-aggregate-carry-out c = let n = c .before in long-of (start (n .before) .args .pick) (n .before .sound-parts .result) (n .count-if .ensures)
+slice-aggregate-carry-out c = let n = c .before in long-of (start (n .before) .args .pick) (n .count-if .ensures .1)
 
 carry-out-requires : tie.Need-carry-out-requires
 carry-out-requires c κs h =
     let n = c .before .before in
     let t = n .before in
-    T-of (sound (view (start t .args .net))) (sym (t .sound-parts .ensures) ∙ sure-of (start t .args .pick) (t .sound-parts .result) (n .count-if .ensures) h)
+    let none : t .sound-parts .result ≡ false → n .count-if .result ≡ 0 = λ e. let k = ap {B = ℕ} (λ (b : Bool). cond b 2 0) e in omega (arith, k, n .count-if .ensures .0) in
+    T-of (sound (view (start t .args .net))) (sym (t .sound-parts .ensures) ∙ sure-of (start t .args .pick) (t .sound-parts .result) none h)
 
 returns : tie.Need-returns
 returns c =
@@ -38,7 +42,7 @@ returns c =
     let a = start t .args in
     let answer = g .result .answer in
     subst (λ (m : Net). StepIs (a .net) (a .pick) (record { answer = answer; net = m })) (sym (c .left-by .ensures))
-    (carried-single (a .net) (a .pick) _ _ (t .sound-parts .result) (t .sound-parts .ensures) (picks-of (a .pick) (t .sound-parts .result) (n .count-if .ensures)) (g .ensures .0))
+    (carried-single (a .net) (a .pick) _ _ (t .sound-parts .result) (t .sound-parts .ensures) (picks-of (a .pick) (t .sound-parts .result) (n .count-if .ensures .0)) (g .ensures .0))
 
 pub step-spec : {M : Type 1} → statement M
 step-spec =

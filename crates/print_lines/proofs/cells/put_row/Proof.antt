@@ -5,7 +5,7 @@ use Rattle.print_lines.proofs.cells.put_row.Statement.{statement}
 use Rattle.print_lines.proofs.cells.put_row.Tie as tie
 
 abbrev Inv-loop : tie.InvT-loop
-Inv-loop page₀ at columns row n place₀ i₀ page place i = (n ≤ 4) × (place ≤ 4096)
+Inv-loop page₀ at columns row n place₀ i₀ page place i = n ≤ 4
 
 abbrev μ-loop : tie.MeasureT-loop
 μ-loop page₀ at columns row n place₀ i₀ page place i = n - i

@@ -5,7 +5,7 @@ use Rattle.print_lines.proofs.cells.put_rows.Statement.{statement}
 use Rattle.print_lines.proofs.cells.put_rows.Tie as tie
 
 abbrev Inv-loop : tie.InvT-loop
-Inv-loop page₀ at r n columns place₀ i₀ page place i = (n ≤ 16) × (place ≤ 4096)
+Inv-loop page₀ at r n columns place₀ i₀ page place i = n ≤ 16
 
 abbrev μ-loop : tie.MeasureT-loop
 μ-loop page₀ at r n columns place₀ i₀ page place i = n - i

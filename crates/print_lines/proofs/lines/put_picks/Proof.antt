@@ -7,7 +7,7 @@ use Rattle.print_lines.proofs.lines.put_picks.Statement.{statement}
 use Rattle.print_lines.proofs.lines.put_picks.Tie as tie
 
 abbrev Inv-loop : tie.InvT-loop
-Inv-loop page₀ at answers count place₀ i₀ page place i = (place ≤ 4096) × (count * 24 ≤ length answers)
+Inv-loop page₀ at answers count place₀ i₀ page place i = count * 24 ≤ length answers
 
 abbrev μ-loop : tie.MeasureT-loop
 μ-loop page₀ at answers count place₀ i₀ page place i = count - i
@@ -25,7 +25,7 @@ put-picks-spec =
     (λ c. search needs)
     (λ c. search needs)
     (λ c. search needs)
-    (λ c κs. (search needs, simp (length-take, length-drop) (omega arith)))
+    (λ c κs. simp (length-take, length-drop) (omega arith))
     (λ c. search needs)
     (λ c. search needs)
     (λ c. search needs)

@@ -5,7 +5,7 @@ use Rattle.print_lines.proofs.lines.put_tables.Statement.{statement}
 use Rattle.print_lines.proofs.lines.put_tables.Tie as tie
 
 abbrev Inv-loop : tie.InvT-loop
-Inv-loop page₀ at count tables n place₀ i₀ page place i = (n ≤ 8) × (place ≤ 4096)
+Inv-loop page₀ at count tables n place₀ i₀ page place i = n ≤ 8
 
 abbrev μ-loop : tie.MeasureT-loop
 μ-loop page₀ at count tables n place₀ i₀ page place i = n - i

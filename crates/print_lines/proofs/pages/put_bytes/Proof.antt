@@ -6,7 +6,7 @@ use Rattle.print_lines.proofs.pages.put_bytes.Statement.{statement}
 use Rattle.print_lines.proofs.pages.put_bytes.Tie as tie
 
 abbrev Inv-loop : tie.InvT-loop
-Inv-loop page₀ at bytes place₀ i₀ page place i = (i ≤ length bytes) × (place ≤ 4096)
+Inv-loop page₀ at bytes place₀ i₀ page place i = i ≤ length bytes
 
 abbrev μ-loop : tie.MeasureT-loop
 μ-loop page₀ at bytes place₀ i₀ page place i = length bytes - i

@@ -1,5 +1,9 @@
 -- `runs::bytes::run_bytes` meets its contract: on a sound net all picks carried out, and else none, since an unsound one refuses every pick. Assumes nothing.
-use mathlib.Core.Path.{sym, subst, _∙_}
+use Prim.Native.Nat.{ℕ}
+use mathlib.Core.Path.{_≡_, sym, ap, subst, _∙_}
+use mathlib.Core.Bool.{Bool, false, cond}
+use native.Mathlib.Omega.{arith}
+use lib.ListN.{length}
 use borrow.Author.Needs.{needs}
 use Rattle.values.proofs.Bools.{T-of}
 use Rattle.nets.specs.declared.Net.{Net}
@@ -19,13 +23,15 @@ abbrev start : Tested → tie.Start
 start t = t .before .before .before .before .before .before
 
 slice-aggregate-carry-out : tie.Need-slice-aggregate-carry-out
-slice-aggregate-carry-out c = let n = c .before in lent-long (start (n .before) .args .picks .now) (n .before .sound-parts .result) (n .count-if .ensures)
+slice-aggregate-carry-out c = let n = c .before in lent-long (start (n .before) .args .picks .now) (n .count-if .ensures .1)
 
 carry-out-requires : tie.Need-carry-out-requires
 carry-out-requires c κs h =
     let n = c .before .before in
     let t = n .before in
-    T-of (sound (view (start t .args .net))) (sym (t .sound-parts .ensures) ∙ lent-sure (start t .args .picks .now) (t .sound-parts .result) (n .count-if .ensures) h)
+    let lent = start t .args .picks .now in
+    let none : t .sound-parts .result ≡ false → n .count-if .result ≡ 0 = λ e. let k = ap {B = ℕ} (λ (b : Bool). cond b (length lent) 0) e in omega (arith, k, n .count-if .ensures .0) in
+    T-of (sound (view (start t .args .net))) (sym (t .sound-parts .ensures) ∙ lent-sure lent (t .sound-parts .result) none h)
 
 returns : tie.Need-returns
 returns c =
@@ -36,7 +42,7 @@ returns c =
     let a = start t .args in
     let flag = t .sound-parts .result in
     subst (λ (m : Net). RunIs (a .net) (picksIn (a .picks .now)) (record { net = m; sound = flag; added = g .result .added; taken = g .result .taken })) (sym (l .left-by .ensures))
-    (run-carried (a .net) (picksIn (a .picks .now)) _ _ flag (t .sound-parts .ensures) (lent-picks (a .picks .now) flag (n .count-if .ensures)) (g .ensures .0))
+    (run-carried (a .net) (picksIn (a .picks .now)) _ _ flag (t .sound-parts .ensures) (lent-picks (a .picks .now) flag (n .count-if .ensures .0)) (g .ensures .0))
 
 pub run-bytes-spec : {M : Type 1} → statement M
 run-bytes-spec =
