@@ -19,6 +19,7 @@ mod record;
 mod shape;
 mod token;
 mod words;
+mod written;
 
 pub use assemble::{assemble, assemble_checked, Assembled};
 pub use error::Error;
