@@ -50,12 +50,19 @@ pub enum Entry {
 impl Moment {
     /// The moments in the bytes that `tivgeral_trace` puts out, read one after another.
     pub fn all(bytes: &[u8]) -> impl Iterator<Item = Moment> + '_ {
-        let mut rest: &[Record] = bytes.as_chunks().0;
+        let mut read = 0;
         std::iter::from_fn(move || {
-            let (records, later) = rest.split_at_checked(length(rest.first()?))?;
-            rest = later;
-            Some(Moment::read(records))
+            let (moment, length) = Moment::first(&bytes[read..])?;
+            read += length;
+            Some(moment)
         })
+    }
+
+    /// The first of these moments, and how many bytes it takes.
+    pub fn first(bytes: &[u8]) -> Option<(Moment, usize)> {
+        let records: &[Record] = bytes.as_chunks().0;
+        let count = length(records.first()?);
+        Some((Moment::read(records.get(..count)?), count * RECORD))
     }
 
     /// Kinds that are unknown here are skipped, so that a later library may add some.

@@ -1,10 +1,12 @@
 //! A statement as its text has it.
 
+use crate::error::BYTE_ORDER_MARK;
 use crate::token::Place;
 
 /// What stands from one place to another, in one line: comments are left out, and a blank parts
 /// what stood in different lines.
 pub fn written(text: &str, from: Place, to: Place) -> String {
+    let text = text.strip_prefix(BYTE_ORDER_MARK).unwrap_or(text);
     let lines = text.lines().enumerate().skip(from.line - 1).take(to.line + 1 - from.line);
     let parts = lines.map(|(number, line)| {
         let until = if number + 1 == to.line { to.column } else { usize::MAX };
@@ -48,6 +50,7 @@ mod tests {
     fn a_part_of_a_line() {
         assert_eq!(written("  drop CARD @1  # gone", place(1, 3), place(1, 15)), "drop CARD @1");
         assert_eq!(written("pick", place(1, 1), place(1, 5)), "pick");
+        assert_eq!(written("\u{feff}pick", place(1, 1), place(1, 5)), "pick");
     }
 
     #[test]

@@ -1,8 +1,8 @@
 //! The net that is traced: its records and, where it came as text, its lines and labels.
 
 use embed::Refused;
-use engine::{decode, Node, Record};
-use nettext::{assemble, read_text, refused_file, Assembled, Error, Names};
+use engine::{decode, Aliases, Node, Record};
+use nettext::{assemble, read_text, refused_file, step, Assembled, Error, Names};
 
 pub struct Source {
     name: String,
@@ -12,6 +12,13 @@ pub struct Source {
 enum Origin {
     Records(Vec<u8>),
     Text(String, Assembled),
+}
+
+/// A step of the net: what it does, how it is written and where.
+pub struct Step {
+    pub node: Node,
+    pub text: String,
+    pub place: String,
 }
 
 impl Source {
@@ -37,28 +44,43 @@ impl Source {
         }
     }
 
-    pub fn names(&self) -> Names {
-        match &self.origin {
-            Origin::Records(_) => Names::Numbered,
-            Origin::Text(_, assembled) => assembled.names(),
-        }
-    }
-
-    /// The nodes of a file that loads, by number, each with the line of its statement.
-    pub fn nodes(&self) -> Vec<(Node, Option<usize>)> {
+    fn records(&self) -> impl Iterator<Item = (usize, Record)> + '_ {
         let records = self.file().as_chunks().0.iter().enumerate();
-        let node = |(place, record)| match decode(record) {
-            Some(Record::Node(node)) => Some((node, self.line(place))),
-            _ => None,
-        };
-        records.filter_map(node).collect()
+        records.filter_map(|(place, record)| Some((place, decode(record)?)))
     }
 
-    fn line(&self, record: usize) -> Option<usize> {
+    /// The steps of a file that loads, by the numbers of their nodes.
+    pub fn steps(&self) -> Vec<Step> {
+        let nodes = self.records().filter_map(|(place, record)| match record {
+            Record::Node(node) => Some((place, node)),
+            _ => None,
+        });
+        nodes.enumerate().map(|(number, (place, node))| self.step(number, place, node)).collect()
+    }
+
+    /// As the text has it, else as a dump would.
+    fn step(&self, number: usize, record: usize, node: Node) -> Step {
         match &self.origin {
-            Origin::Records(_) => None,
-            Origin::Text(_, assembled) => assembled.place(record).map(|place| place.line),
+            Origin::Records(_) => {
+                let text = step(&node.act, &Names::Numbered);
+                Step { node, text, place: format!("node {number}") }
+            }
+            Origin::Text(source, assembled) => {
+                let text = assembled.written(source, record).unwrap_or_default();
+                Step { node, text, place: place(assembled, number, record) }
+            }
         }
+    }
+
+    /// What each locality means at each site, by the file.
+    pub fn aliases(&self) -> Aliases {
+        let mut aliases = Aliases::default();
+        for (_, record) in self.records() {
+            if let Record::Alias { site, locality, meant } = record {
+                aliases.0[usize::from(site.0)][usize::from(locality.0)] = Some(meant);
+            }
+        }
+        aliases
     }
 
     /// The report on a file that the engine refuses, at the line of the text if there is one.
@@ -81,6 +103,19 @@ impl Source {
             _ => "",
         }
     }
+}
+
+/// The line of a step with its process, and with its own label where that is another.
+fn place(assembled: &Assembled, number: usize, record: usize) -> String {
+    let line = assembled.place(record).map_or(0, |place| place.line);
+    let Names::Labels(labels) = assembled.names() else {
+        return format!("line {line}");
+    };
+    let process = assembled.process(number).and_then(|first| labels.get(&first));
+    let process = process.map_or(String::new(), |process| format!(" of {process}"));
+    let own = labels.get(&number).filter(|_| assembled.process(number) != Some(number));
+    let own = own.map_or(String::new(), |label| format!(" ({label})"));
+    format!("line {line}{process}{own}")
 }
 
 /// Records are full of zeros, which no text has.

@@ -15,9 +15,27 @@ pub struct Input {
     pub bytes: Vec<u8>,
     flags: Vec<String>,
     settings: Vec<(String, String)>,
+    files: Vec<(String, Content)>,
+}
+
+/// A file that was read whole.
+pub struct Content {
+    pub name: String,
+    pub bytes: Vec<u8>,
 }
 
 impl Input {
+    /// The file that an option names, the last one where it is given twice.
+    pub fn file(&self, option: &str) -> Option<&Content> {
+        let given = self.files.iter().rev().find(|(given, _)| given == option);
+        given.map(|(_, content)| content)
+    }
+
+    pub fn new(net: Content, options: Options, files: Vec<(String, Content)>) -> Input {
+        let Content { name, bytes } = net;
+        Input { name, bytes, flags: options.flags, settings: options.settings, files }
+    }
+
     pub fn has(&self, flag: &str) -> bool {
         self.flags.iter().any(|given| given == flag)
     }
@@ -46,7 +64,7 @@ impl Opened {
     }
 
     /// All of it, unless it has more bytes than the limit: then no more than one of those is read.
-    pub fn read(self, limit: usize, options: Options) -> Result<Input, Failure> {
+    pub fn read(self, limit: usize) -> Result<Content, Failure> {
         let Opened { name, file, .. } = self;
         let mut bytes = Vec::new();
         let read = file.take((limit as u64).saturating_add(1)).read_to_end(&mut bytes);
@@ -54,7 +72,7 @@ impl Opened {
         if bytes.len() > limit {
             return Err(too_long(&name, limit).into());
         }
-        Ok(Input { name, bytes, flags: options.flags, settings: options.settings })
+        Ok(Content { name, bytes })
     }
 }
 

@@ -4,11 +4,12 @@ mod input;
 mod options;
 mod output;
 
-pub use input::Input;
 use input::Opened;
+pub use input::{Content, Input};
 use options::Options;
 use output::Destination;
 use std::io::{self, Write};
+use std::path::Path;
 use std::process::ExitCode;
 
 /// Whatever is wrong with the input.
@@ -23,6 +24,8 @@ pub struct Program {
     pub flags: &'static [&'static str],
     /// The options that a value follows.
     pub settings: &'static [&'static str],
+    /// The options that the name of a further file to read follows.
+    pub files: &'static [&'static str],
     /// So many bytes of the input are read at most; one that has more is at fault.
     pub limit: usize,
     /// Writes the result for an input, or says what to report. A file after `-o` keeps what it
@@ -92,10 +95,20 @@ fn carried_out(program: &Program, options: Options) -> Result<(), Failure> {
         return written(Destination::new(None)?, |out| Ok(out.write_all(help)?));
     }
     let destination = Destination::new(options.output.as_deref())?;
-    let opened = Opened::new(options.input.as_deref())?;
-    destination.refuses(&opened)?;
-    let input = opened.read(program.limit, options)?;
+    let net = read(&destination, options.input.as_deref(), program.limit)?;
+    let mut files = Vec::new();
+    for (option, path) in &options.files {
+        files.push((option.clone(), read(&destination, Some(path), program.limit)?));
+    }
+    let input = Input::new(net, options, files);
     written(destination, |out| (program.work)(&input, out))
+}
+
+/// A file, or standard input; never the file that is written.
+fn read(destination: &Destination, path: Option<&Path>, limit: usize) -> Result<Content, Failure> {
+    let opened = Opened::new(path)?;
+    destination.refuses(&opened)?;
+    opened.read(limit)
 }
 
 /// Lets the work write, and keeps what it wrote if that is all there is to write.

@@ -1,9 +1,9 @@
 //! What the tour and the README show is what the program does, and the nets in the tour are those
 //! of the examples.
 
-use crate::double::{by_stand_in, traced, StandIn};
+use crate::double::{by_stand_in, told, traced};
 use crate::page::{blocks, commands, read, root};
-use nettrace::{parse_picks, trace, Source};
+use nettrace::{parse_picks, Source};
 use std::fs;
 
 const TOUR: &str = "docs/TOUR.md";
@@ -65,7 +65,7 @@ fn the_readme_shows_what_its_net_comes_to() {
 fn left(text: &str, picks: &str) -> (String, String) {
     let source = Source::of_text("net.nettext", text.as_bytes()).expect("a text");
     let picks = parse_picks(picks).expect("picks");
-    let told = trace(&StandIn, &source, Some(picks)).expect("a net that loads");
+    let told = told(&source, Some(picks)).expect("a net that loads");
     let (_, last) = told.split_once("after the last pick\n").expect("the last part");
     let (tables, total) = last.split_once("\n\n").expect("the total");
     let refused = total.split([',', ';']).nth(1).expect("how many are refused");
