@@ -1,37 +1,40 @@
 //! Number 20: which limit was met.
 
 use crate::scene::Scene;
-use crate::words::{counted, table};
+use crate::words::table;
 use engine::{Act, Loop};
+
+const ROWS: usize = 16;
+const TABLES: usize = 8;
+const THREADS: usize = 8;
+const ENTRIES: usize = 8;
 
 pub fn case(scene: &Scene) -> Option<String> {
     match scene.act {
-        Act::Insert { .. } => {
-            let table = scene.table()?;
-            let rows = counted(table.relation.rows.len(), "row");
-            Some(format!("{} has {rows}, and no table has more", self::table(table)))
-        }
+        Act::Insert { .. } => rows(scene, 1, "this is one more"),
         Act::InsertTable { read, .. } => {
-            let (table, held) = (scene.table()?, scene.read()?);
-            let rows = counted(table.relation.rows.len(), "row");
-            let more = held.rows.len();
-            Some(format!(
-                "{} has {rows} and T{read} {more}, and no table has more than 16",
-                self::table(table)
-            ))
+            let more = scene.read()?.rows.len();
+            rows(scene, more, &format!("T{read} has {more} more"))
         }
-        Act::Create { .. } => {
-            let tables = counted(scene.before.tables.len(), "table");
-            Some(format!("{tables} stand, and no net has more"))
-        }
+        Act::Create { .. } => full(scene.before.tables.len(), TABLES, "tables stand"),
         Act::Loop(Loop { parallel: true, .. }) => {
-            let threads = counted(scene.before.threads.len(), "thread");
-            Some(format!("{threads} stand, and no net has more"))
+            full(scene.before.threads.len(), THREADS, "threads stand")
         }
         Act::Loop(_) => {
-            let entries = scene.thread.stack.len();
-            Some(format!("the thread has {entries} stack entries, and none has more"))
+            full(scene.thread.stack.len(), ENTRIES, "entries are on the thread's stack")
         }
         _ => None,
     }
+}
+
+fn rows(scene: &Scene, more: usize, added: &str) -> Option<String> {
+    let table = scene.table()?;
+    let rows = table.relation.rows.len();
+    let name = self::table(table);
+    (rows + more > ROWS)
+        .then(|| format!("{name} has {rows} rows, and {added}; {ROWS} are the most"))
+}
+
+fn full(count: usize, most: usize, what: &str) -> Option<String> {
+    (count >= most).then(|| format!("{count} {what}, which are the most"))
 }

@@ -232,23 +232,23 @@ fn which_row_places_would_do() {
 fn which_limit_was_met() {
     assert_eq!(
         step("insert (1) into FULL @self"),
-        "20, FULL at site 0 has 16 rows, and no table has more"
+        "20, FULL at site 0 has 16 rows, and this is one more; 16 are the most"
     );
     let select = "select (x0) from BIG @self matching (!x0) into T0";
     assert_eq!(
         second(select, "insert table T0 into FULL @self"),
-        "20, FULL at site 0 has 16 rows and T0 2, and no table has more than 16"
+        "20, FULL at site 0 has 16 rows, and T0 has 2 more; 16 are the most"
     );
     let creates = "create A @self (Int)\n    create B @self (Int)\n    create C @self (Int)\n";
     assert_eq!(
         last(&format!("process p:\n    {creates}start p at site 0\n"), &["0", "0", "0"]),
-        "20, 8 tables stand, and no net has more"
+        "20, 8 tables stand, which are the most"
     );
     let text = format!("process p:\n    {select}\n    foreach parallel (!x0) in T0 do q\n");
     let text = text
         + "process q:\n    drop CARD @1\nstart p at site 0\n"
         + &"start q at site 0\n".repeat(7);
-    assert_eq!(last(&text, &["0", "0"]), "20, 8 threads stand, and no net has more");
+    assert_eq!(last(&text, &["0", "0"]), "20, 8 threads stand, which are the most");
 }
 
 #[test]
@@ -258,5 +258,8 @@ fn a_full_stack() {
         text += &format!("    foreach (!x0) in T0 do q{loops}\nprocess q{loops}:\n");
     }
     text += "    drop CARD @1\nstart p at site 0\n";
-    assert_eq!(last(&text, &["0"; 9]), "20, the thread has 8 stack entries, and none has more");
+    assert_eq!(
+        last(&text, &["0"; 9]),
+        "20, 8 entries are on the thread's stack, which are the most"
+    );
 }
