@@ -2,7 +2,11 @@
 
 use embed::Refused;
 use engine::{decode, Aliases, Node, Record};
-use nettext::{assemble, read_text, refused_file, step, Assembled, Error, Names};
+use nettext::{assemble, read_text, refused_file, step, text_for_records};
+use nettext::{Assembled, Error, Names};
+
+/// What to do where a text was taken for records.
+const TEXTS: &str = "nettrace reads a text from a file NAME.nettext, or from any file with --text";
 
 pub struct Source {
     name: String,
@@ -26,14 +30,14 @@ impl Source {
         Source { name: name.to_owned(), origin: Origin::Records(file) }
     }
 
-    /// Fails with the report where the text breaks the grammar.
+    /// Fails with the report on records, on what is no text, and on a text that breaks the grammar.
     pub fn of_text(name: &str, bytes: &[u8]) -> Result<Source, String> {
         let text = String::from_utf8_lossy(bytes).into_owned();
         match read_text(bytes).and_then(assemble) {
             Ok(assembled) => {
                 Ok(Source { name: name.to_owned(), origin: Origin::Text(text, assembled) })
             }
-            Err(error) => Err(error.shown(name, &text)),
+            Err(errors) => Err(errors.shown(name, &text)),
         }
     }
 
@@ -83,24 +87,17 @@ impl Source {
         aliases
     }
 
-    /// The report on a file that the engine refuses, at the line of the text if there is one.
+    /// The report on a file that the engine refuses, in the words of the text if there is one.
     pub fn refusal(&self, refused: Refused) -> String {
-        let Refused { number, place: record } = refused;
-        if let Origin::Text(text, assembled) = &self.origin {
-            if let Some(place) = assembled.place(record) {
-                return Error::refused(place, number, record).shown(&self.name, text);
-            }
-        }
-        refused_file(&self.name, number, record) + self.hint()
-    }
-
-    /// A text that was taken for records is a likely slip.
-    fn hint(&self) -> &'static str {
+        let Refused { number, place } = refused;
         match &self.origin {
-            Origin::Records(file) if reads_as_text(file) => {
-                "It reads as text. Texts are files NAME.nettext, or any with --text.\n"
+            Origin::Text(text, assembled) => {
+                assembled.refused(number, place).shown(&self.name, text)
             }
-            _ => "",
+            Origin::Records(file) => match text_for_records(file) {
+                Some(error) => Error::of_file(&error.message, TEXTS).shown(&self.name, ""),
+                None => refused_file(&self.name, number, place),
+            },
         }
     }
 }
@@ -116,10 +113,4 @@ fn place(assembled: &Assembled, number: usize, record: usize) -> String {
     let own = labels.get(&number).filter(|_| assembled.process(number) != Some(number));
     let own = own.map_or(String::new(), |label| format!(" ({label})"));
     format!("line {line}{process}{own}")
-}
-
-/// Records are full of zeros, which no text has.
-fn reads_as_text(bytes: &[u8]) -> bool {
-    let readable = |text: &str| !text.contains('\0');
-    !bytes.is_empty() && std::str::from_utf8(bytes).is_ok_and(readable)
 }

@@ -164,17 +164,35 @@ fn a_refused_file_is_explained() {
     let wrong = "load 7 at 1: the row's table is absent, or the row does not fit\n";
     let shown = format!("examples/refused-file.net: {wrong}{advice}");
     assert_eq!(run(&["examples/refused-file.net"], b""), (Some(1), String::new(), shown));
-    let line = "    row (1, @1) in CARD at site 0\n    ^\n";
-    let shown = format!("examples/refused-file.nettext:7:1: {wrong}{line}{advice}");
-    assert_eq!(run(&["examples/refused-file.nettext"], b""), (Some(1), String::new(), shown));
+    // A text is refused in its own words.
+    let shown = "examples/refused-file.nettext:7:1: load 7 at 1: column 1 of CARD is Text, and \
+                 the row gives the Loc @1
+    row (1, @1) in CARD at site 0
+    ^
+what to do: give values of (Int, Text), as line 4 declares; columns count from 0
+";
+    let outcome = run(&["examples/refused-file.nettext"], b"");
+    assert_eq!(outcome, (Some(1), String::new(), shown.to_owned()));
 }
 
 #[test]
-fn a_text_taken_for_records() {
-    let (status, _, errors) = run(&[], &example("update.nettext"));
-    assert_eq!(status, Some(1));
-    let hint = "It reads as text. Texts are files NAME.nettext, or any with --text.\n";
-    assert!(errors.ends_with(hint), "{errors}");
+fn texts_and_records_taken_for_each_other() {
+    let shown = "<stdin>: this is a text, and records are expected
+what to do: nettrace reads a text from a file NAME.nettext, or from any file with --text
+";
+    let outcome = run(&[], &example("update.nettext"));
+    assert_eq!(outcome, (Some(1), String::new(), shown.to_owned()));
+    let (status, told, errors) = run(&["--text"], &example("update.net"));
+    assert_eq!((status, told.as_str()), (Some(1), ""));
+    let wrong = "<stdin>: these are records, and a text is expected\nwhat to do: ";
+    assert!(errors.starts_with(wrong), "{errors}");
+}
+
+/// What an editor put before a text is no part of it.
+#[test]
+fn a_text_with_a_byte_order_mark() {
+    let marked = [b"\xef\xbb\xbf".to_vec(), example("update.nettext")].concat();
+    assert_eq!(told(&["--text"], &marked), told(&["examples/update.nettext"], b""));
 }
 
 /// A newcomer who writes the README's net gets what the README shows.

@@ -63,14 +63,15 @@ impl Opened {
         Ok(Opened { name, file, metadata })
     }
 
-    /// All of it, unless it has more bytes than the limit: then no more than one of those is read.
-    pub fn read(self, limit: usize) -> Result<Content, Failure> {
+    /// All of it, unless it has more bytes than the limit: then no more than one of those is read,
+    /// and it is at fault for this reason.
+    pub fn read(self, limit: usize, reason: &str) -> Result<Content, Failure> {
         let Opened { name, file, .. } = self;
         let mut bytes = Vec::new();
         let read = file.take((limit as u64).saturating_add(1)).read_to_end(&mut bytes);
         read.map_err(|error| unread(&name, &error))?;
         if bytes.len() > limit {
-            return Err(too_long(&name, limit).into());
+            return Err(too_long(&name, limit, reason).into());
         }
         Ok(Content { name, bytes })
     }
@@ -84,9 +85,9 @@ fn unread(name: &str, error: &io::Error) -> Failure {
     Failure::Unusable(format!("{name}: {error}"))
 }
 
-fn too_long(name: &str, limit: usize) -> String {
+fn too_long(name: &str, limit: usize, reason: &str) -> String {
     format!(
-        "{name}: over {limit} bytes, and no net needs so much: it has at most 256 records\n\
+        "{name}: over {limit} bytes, {reason}\n\
          what to do: look whether this is the file that was meant\n"
     )
 }

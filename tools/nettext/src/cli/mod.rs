@@ -17,6 +17,10 @@ const AT_FAULT: u8 = 1;
 /// Wrong usage, or a file that can't be read or written.
 const UNUSABLE: u8 = 2;
 
+/// Why an input is too long.
+const NO_NET: &str = "and no net needs so much: it has at most 256 records";
+const TOO_MUCH: &str = "which is more than is read of it";
+
 pub struct Program {
     pub name: &'static str,
     pub help: &'static str,
@@ -95,20 +99,26 @@ fn carried_out(program: &Program, options: Options) -> Result<(), Failure> {
         return written(Destination::new(None)?, |out| Ok(out.write_all(help)?));
     }
     let destination = Destination::new(options.output.as_deref())?;
-    let net = read(&destination, options.input.as_deref(), program.limit)?;
+    let read = |path, reason| read(&destination, path, program.limit, reason);
+    let net = read(options.input.as_deref(), NO_NET)?;
     let mut files = Vec::new();
     for (option, path) in &options.files {
-        files.push((option.clone(), read(&destination, Some(path), program.limit)?));
+        files.push((option.clone(), read(Some(path), TOO_MUCH)?));
     }
     let input = Input::new(net, options, files);
     written(destination, |out| (program.work)(&input, out))
 }
 
 /// A file, or standard input; never the file that is written.
-fn read(destination: &Destination, path: Option<&Path>, limit: usize) -> Result<Content, Failure> {
+fn read(
+    destination: &Destination,
+    path: Option<&Path>,
+    limit: usize,
+    reason: &str,
+) -> Result<Content, Failure> {
     let opened = Opened::new(path)?;
     destination.refuses(&opened)?;
-    opened.read(limit)
+    opened.read(limit, reason)
 }
 
 /// Lets the work write, and keeps what it wrote if that is all there is to write.

@@ -147,11 +147,11 @@ fn a_net_without_picks() {
 #[test]
 fn a_refused_net_is_told_at_its_line() {
     let report = traced("table CARD at site 0 (Int)\n\n  row (@1) in CARD at site 0\n");
-    let shown = "net.nettext:3:3: load 7 at 1: the row's table is absent, or the row does not fit
+    let shown =
+        "net.nettext:3:3: load 7 at 1: column 0 of CARD is Int, and the row gives the Loc @1
       row (@1) in CARD at site 0
       ^
-what to do: put its table among the table records, before all rows; give as many values as \
-                 columns, of their kinds
+what to do: give values of (Int), as line 1 declares; columns count from 0
 ";
     assert_eq!(report, Err(shown.to_owned()));
 }
