@@ -40,6 +40,21 @@ exits 0
 prints "refused: 12, x0, read in the tuple, is unbound"
 prints "refused: 14, @self is site 0, which has no table CARD; CARD is at site 1"
 
+# A byte order mark is no part of a text; texts and records are not taken for each other.
+printf '\357\273\277' | cat - update.nettext >marked.nettext
+nettrace update.nettext >plain
+tries nettrace marked.nettext
+exits 0
+cmp -s out plain || complains "the trace is another with a byte order mark"
+cp update.nettext text.net
+tries nettrace text.net
+exits 1
+says "text.net: this is a text, and records are expected"
+cp update.net records.nettext
+tries nettrace records.nettext
+exits 1
+says "records.nettext: these are records, and a text is expected"
+
 # A build of the whole workspace leaves a nettrace that has the engine.
 tries cargo build --release --offline --quiet --manifest-path "$ROOT/Cargo.toml"
 exits 0

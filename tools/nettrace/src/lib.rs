@@ -15,6 +15,7 @@ mod moment;
 mod outcome;
 mod parts;
 mod picks;
+mod progress;
 mod reading;
 mod refusal;
 mod run;

@@ -16,7 +16,10 @@ const READ: char = '*';
 const STAYS: char = ' ';
 
 pub struct Listing {
-    heading: String,
+    /// What the rows are of.
+    source: String,
+    /// Stands before the source in the heading.
+    kind: &'static str,
     lines: Vec<Line>,
     /// How many rows matched the template and satisfied the predicate.
     pub matched: usize,
@@ -45,7 +48,7 @@ impl Listing {
 
     fn update(scene: &Scene) -> Option<Listing> {
         let table = scene.table()?;
-        let mut listing = Listing::of_table(words::table(table));
+        let mut listing = Listing::of("table", words::table(table));
         for row in table.relation.rows.iter() {
             let judged = judge(&scene.parts, &scene.thread.variables, row);
             let bindings = scene.own().with(scene.parts.template, row);
@@ -65,18 +68,18 @@ impl Listing {
 
     fn delete(scene: &Scene) -> Option<Listing> {
         let table = scene.table()?;
-        let listing = Listing::of_table(words::table(table));
+        let listing = Listing::of("table", words::table(table));
         Some(listing.judging(scene, &table.relation.rows, GONE))
     }
 
     fn reading(scene: &Scene) -> Option<Listing> {
         let (relation, name) = scene.source()?;
-        let listing = Listing { heading: format!("rows of {name}"), lines: Vec::new(), matched: 0 };
+        let listing = Listing::of("rows of", name);
         Some(listing.judging(scene, &relation.rows, READ))
     }
 
-    fn of_table(name: String) -> Listing {
-        Listing { heading: format!("table {name}"), lines: Vec::new(), matched: 0 }
+    fn of(kind: &'static str, source: String) -> Listing {
+        Listing { source, kind, lines: Vec::new(), matched: 0 }
     }
 
     /// All rows, those with the mark that match.
@@ -121,12 +124,13 @@ impl Listing {
 
     /// A step that reads every row of its source has judged none of them.
     pub fn is_worth_telling(&self) -> bool {
-        self.lines.iter().any(|line| line.mark != READ || !line.note.is_empty())
+        let judged = |line: &Line| line.mark != READ || !line.note.is_empty();
+        self.lines.is_empty() || self.lines.iter().any(judged)
     }
 
     pub fn lines(&self) -> Vec<String> {
         if self.lines.is_empty() {
-            return vec![format!("{}: no rows", self.heading)];
+            return vec![format!("{} has no rows", self.source)];
         }
         let rows: Vec<String> = self.lines.iter().map(|line| shown(&line.row)).collect();
         let width = rows.iter().map(|row| row.chars().count()).max().unwrap_or(0);
@@ -134,11 +138,12 @@ impl Listing {
             let line = format!("    {} {row:width$}    {}", line.mark, line.note);
             line.trim_end().to_owned()
         });
-        [self.heading.clone()].into_iter().chain(lines).collect()
+        let heading = format!("{} {}", self.kind, self.source);
+        [heading].into_iter().chain(lines).collect()
     }
 }
 
-/// A row that matches, but whose new row fits its table not.
+/// What is told of a row that matches, but whose new row does not fit.
 fn stays(tests: &str, misfit: &str) -> String {
     match tests {
         "" => format!("stays: {misfit}"),

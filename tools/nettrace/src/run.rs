@@ -6,8 +6,8 @@ use crate::moment::Moment;
 use embed::{Answer, Pick, Refused};
 
 /// Room for a piece. A call runs all picks before its piece once more, so few pieces are better
-/// than many; a net takes some 60 KB at most.
-const ROOM: usize = 1 << 23;
+/// than many: this has some 500 of the largest nets, and 10,000 of a small one.
+const ROOM: usize = 1 << 25;
 
 /// A pick with its answer and the moments before and after it.
 pub struct Turn<'a> {

@@ -2,7 +2,8 @@
 
 use crate::bindings::held;
 use crate::moment::Moment;
-use crate::outcome::{outcome, Around};
+use crate::outcome::outcome;
+use crate::progress::Around;
 use crate::run::Turn;
 use crate::scene::Scene;
 use crate::steps::Steps;

@@ -67,11 +67,14 @@ impl Names {
     pub fn follow(&mut self, change: ThreadChange, place: usize) {
         match change {
             ThreadChange::Stays => {}
-            ThreadChange::Ended if place < self.0.len() => {
-                self.0.remove(place);
-            }
-            ThreadChange::Ended => {}
+            ThreadChange::Ended => self.end(place),
             ThreadChange::Forked => self.fork(place),
+        }
+    }
+
+    fn end(&mut self, place: usize) {
+        if place < self.0.len() {
+            self.0.remove(place);
         }
     }
 

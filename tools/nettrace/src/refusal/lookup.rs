@@ -2,7 +2,7 @@
 
 use crate::scene::Scene;
 use crate::words::{a_kind, counted, loc, locality, site};
-use engine::{Locality, Operand, Value};
+use engine::{Act, Locality, Operand, Value};
 use nettext::{columns, name, value};
 
 /// 13: L is no Loc, or has no alias at the thread's site.
@@ -62,7 +62,7 @@ pub fn no_table(scene: &Scene) -> Option<String> {
 
 /// 15: the table to create is there.
 pub fn table_there(scene: &Scene) -> Option<String> {
-    let there = scene.table()?;
+    let there = scene.table().filter(|_| matches!(scene.act, Act::Create { .. }))?;
     let (rows, columns) = (&there.relation.rows, columns(&there.relation.columns));
     let rows = counted(rows.len(), "row");
     let name = name(there.name);

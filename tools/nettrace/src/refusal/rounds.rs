@@ -18,7 +18,7 @@ pub fn held(scene: &Scene) -> Option<String> {
 
 /// 19: why the pick's row place is none to visit, and which would do.
 pub fn not_ready(scene: &Scene) -> Option<String> {
-    let (relation, name) = scene.source()?;
+    let (relation, name) = scene.source().filter(|_| matches!(scene.act, Act::Loop(_)))?;
     let left = scene.left();
     let judged = |place: u8| {
         let row = relation.rows.get(usize::from(place))?;

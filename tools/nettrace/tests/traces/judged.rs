@@ -102,6 +102,22 @@ fn selects_and_aggregates_show_what_they_read() {
     assert!(told.contains(rows) && told.ends_with("\n    T1 = no rows of (Int)"), "{told}");
 }
 
+#[test]
+fn a_table_without_rows_has_none_to_judge() {
+    let empty = |step: &str| {
+        let text = format!(
+            "table CARD at site 0 (Int)\nprocess p:\n    {step}\nstart p at site 0\npick thread 0\n"
+        );
+        parts(&text).swap_remove(1)
+    };
+    let told = empty("update (1) in CARD @self to (2)");
+    let none = "done: 0 rows added, 0 taken; no row matched\n    CARD at site 0 has no rows\n";
+    assert!(told.contains(none), "{told}");
+    let told = empty("select (x0) from CARD @self matching (!x0) into T0");
+    let none = "done: 0 rows added, 0 taken\n    CARD at site 0 has no rows\n";
+    assert!(told.contains(none), "{told}");
+}
+
 /// Where every row is meant, none is judged.
 #[test]
 fn a_step_that_reads_every_row_lists_none() {

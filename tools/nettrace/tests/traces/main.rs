@@ -3,6 +3,7 @@
 
 mod bound;
 mod double;
+mod doubts;
 mod judged;
 mod page;
 mod pages;
