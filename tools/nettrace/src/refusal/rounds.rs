@@ -8,12 +8,18 @@ use engine::{Act, Entry, Loop};
 /// 17: which loop entries hold the table variable to be bound.
 pub fn held(scene: &Scene) -> Option<String> {
     let bound = scene.parts.bound?;
-    let reads = |node: u8| matches!(scene.steps.act(node), Some(Act::Loop(Loop { read, .. })) if *read == bound);
-    let holds = |entry: &&Entry| matches!(entry, Entry::Loop { node, .. } if reads(*node));
-    let holders = scene.thread.stack.iter().rev().filter(holds);
+    let holders = scene.thread.stack.iter().rev().filter(|entry| holds(scene, **entry, bound));
     let holders: Vec<String> = holders.map(|entry| scene.steps.entry(*entry)).collect();
     (!holders.is_empty())
         .then(|| format!("T{bound} is held by the loop at {}", holders.join(", and by that at ")))
+}
+
+/// Whether this is the entry of a loop over the table variable.
+fn holds(scene: &Scene, entry: Entry, variable: u8) -> bool {
+    match (entry, scene.steps.act(entry.node())) {
+        (Entry::Loop { .. }, Some(Act::Loop(Loop { read, .. }))) => *read == variable,
+        _ => false,
+    }
 }
 
 /// 19: why the pick's row place is none to visit, and which would do.

@@ -31,6 +31,20 @@ fn the_program_gives_what_the_tour_shows() {
     }
 }
 
+/// The first lesson is that an update judges rows as they stood before: its trace shows the tests.
+#[test]
+fn the_first_lesson_shows_what_rows_were_judged_against() {
+    let page = read(TOUR);
+    let (_, rest) = page.split_once("## 1. ").expect("the first lesson");
+    let (lesson, _) = rest.split_once("## 2. ").expect("its end");
+    let traces: String = commands(lesson).iter().map(|command| command.output).collect();
+    let tests = ["36 < 40", "39 < 40", "not 120 < 40", "not 210 < 40", "200 < 210", "not 200 < 38"];
+    for test in tests {
+        assert!(traces.contains(&format!("    {test}\n")), "{test}");
+    }
+    assert!(!traces.contains("38 < 40\n"), "a row that the update itself wrote");
+}
+
 /// Every net of the tour stands in it, as it is in its file, and is traced there.
 #[test]
 fn the_tour_has_all_its_nets() {
