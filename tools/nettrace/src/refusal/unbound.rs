@@ -21,8 +21,12 @@ pub fn case(scene: &Scene) -> Option<String> {
     });
     let table = scene.parts.read.filter(|_| scene.read().is_none());
     let table = table.map(|variable| format!("T{variable} is unbound"));
-    let mut cases: Vec<String> = unbound.chain(table).collect();
-    cases.dedup();
+    let mut cases: Vec<String> = Vec::new();
+    for case in unbound.chain(table) {
+        if !cases.contains(&case) {
+            cases.push(case);
+        }
+    }
     (!cases.is_empty()).then(|| cases.join("; "))
 }
 

@@ -60,7 +60,10 @@ fn which_threads_there_are() {
 #[test]
 fn which_variable_is_unbound() {
     for (text, unbound) in [
-        ("insert (x3 + 1, 2, x3) into CARD @1", "x3, read in the tuple, is unbound"),
+        (
+            "insert (x3 + 1, x4, x3) into CARD @1",
+            "x3, read in the tuple, is unbound; x4, read in the tuple, is unbound",
+        ),
         ("drop CARD @x4", "x4, read in the locality, is unbound"),
         (
             "delete (x1, !x2) from CARD @1 where x2 < x5 into T0",
