@@ -27,7 +27,7 @@ impl Steps {
     }
 
     /// Where the step is written.
-    pub fn place(&self, node: u8) -> String {
+    fn place(&self, node: u8) -> String {
         self.step(node).map_or_else(|| format!("node {node}"), |step| step.place.clone())
     }
 
@@ -47,7 +47,7 @@ impl Steps {
 }
 
 /// The rows that a loop has still to visit.
-pub fn to_visit(left: Places) -> String {
+fn to_visit(left: Places) -> String {
     match left.is_empty() {
         true => "no row left to visit".to_owned(),
         false => format!("{} still to visit", row_places(left.iter())),

@@ -1,7 +1,7 @@
 //! Number 20: which limit was met.
 
 use crate::scene::Scene;
-use crate::words::table;
+use crate::words::{counted, table};
 use engine::{Act, Loop};
 
 const ROWS: usize = 16;
@@ -30,9 +30,8 @@ pub fn case(scene: &Scene) -> Option<String> {
 fn rows(scene: &Scene, more: usize, added: &str) -> Option<String> {
     let table = scene.table()?;
     let rows = table.relation.rows.len();
-    let name = self::table(table);
-    (rows + more > ROWS)
-        .then(|| format!("{name} has {rows} rows, and {added}; {ROWS} are the most"))
+    let (name, has) = (self::table(table), counted(rows, "row"));
+    (rows + more > ROWS).then(|| format!("{name} has {has}, and {added}; {ROWS} are the most"))
 }
 
 fn full(count: usize, most: usize, what: &str) -> Option<String> {

@@ -11,8 +11,8 @@ pub fn no_site(scene: &Scene) -> Option<String> {
     let here = scene.thread.site;
     match scene.locality()? {
         Value::Loc(locality) if scene.site().is_none() => {
-            let read = read(operand, locality);
-            Some(format!("{read} has no alias at {}, which {}", site(here), known(scene)))
+            let named = named(operand, locality);
+            Some(format!("{named} has no alias at {}, which {}", site(here), known(scene)))
         }
         Value::Loc(_) => None,
         other => {
@@ -23,7 +23,7 @@ pub fn no_site(scene: &Scene) -> Option<String> {
 }
 
 /// A locality that a variable holds is named with the variable.
-fn read(operand: Operand, held: Locality) -> String {
+fn named(operand: Operand, held: Locality) -> String {
     match operand {
         Operand::Variable(_) => format!("{}, which is {},", locality(operand), loc(held)),
         _ => locality(operand),
