@@ -93,20 +93,30 @@ fn a_long_list_takes_few_calls() {
     assert!(calls <= 10, "{calls} calls");
 }
 
-/// Each piece goes on where the last one ended, and the text is that of one piece.
+/// The picks that each call ran before its piece.
+fn run_again(events: &[Event]) -> Vec<usize> {
+    let from = |event: &Event| match event {
+        Event::Trace { from } => Some(*from),
+        _ => None,
+    };
+    events.iter().filter_map(from).collect()
+}
+
+/// The text is that of one piece.
 #[test]
 fn pieces_join() {
     let (events, text) = events(3_000, 40);
-    let froms: Vec<usize> = events
-        .iter()
-        .filter_map(|event| match event {
-            Event::Trace { from } => Some(*from),
-            _ => None,
-        })
-        .collect();
-    assert!(froms.len() > 5 && froms.is_sorted_by(|a, b| a < b), "{froms:?}");
+    assert!(run_again(&events).len() > 5);
     let whole = told(&source(), Some(vec![Pick { thread: 0, row: 0 }; 40]));
     assert_eq!(whole.as_deref(), Ok(String::from_utf8_lossy(&text).as_ref()));
+}
+
+/// Two of these picks are done. All others are refused, and no call runs them again.
+#[test]
+fn refused_picks_are_run_once() {
+    let again = run_again(&events(3_000, 40).0);
+    assert_eq!(again[..3], [0, 1, 2]);
+    assert!(again[3..].iter().all(|from| *from == 2), "{again:?}");
 }
 
 /// What is known of a piece is written and flushed before the next one is asked.
