@@ -27,6 +27,19 @@ macro_rules! declared {
 
 declared!(tivgeral_tables, tivgeral_answers, tivgeral_threads);
 
+extern "C" {
+    fn tivgeral_trace(
+        file: *const u8,
+        file_length: usize,
+        picks: *const u8,
+        picks_length: usize,
+        from: usize,
+        out: *mut u8,
+        out_length: usize,
+        place: *mut usize,
+    ) -> u8;
+}
+
 /// A call of `include/tivgeral.h`.
 #[derive(Clone, Copy, PartialEq, Eq, Debug)]
 pub enum Call {
@@ -56,7 +69,7 @@ impl Call {
     /// Lends a buffer of so many bytes, which is room for all that the call can put out, and gives
     /// back what it put there.
     fn lent(self, file: &[u8], picks: &[Pick], room: usize) -> Result<Vec<u8>, Refused> {
-        let picks: Vec<u8> = picks.iter().flat_map(|pick| [pick.thread, pick.row]).collect();
+        let picks = pick_bytes(picks);
         let mut out = vec![0; room];
         let (number, place) = self.on(file, &picks, &mut out);
         if number != 0 {
@@ -65,6 +78,10 @@ impl Call {
         out.truncate(place);
         Ok(out)
     }
+}
+
+fn pick_bytes(picks: &[Pick]) -> Vec<u8> {
+    picks.iter().flat_map(|pick| [pick.thread, pick.row]).collect()
 }
 
 /// The table and row records of the net after all picks, which load again.
@@ -82,4 +99,21 @@ pub fn answers(file: &[u8], picks: &[Pick]) -> Result<Vec<Answer>, Refused> {
 pub fn threads(file: &[u8], picks: &[Pick]) -> Result<Vec<Thread>, Refused> {
     let bytes = Call::Threads.lent(file, picks, THREADS_ROOM)?;
     Ok(Thread::read_all(&bytes))
+}
+
+/// Puts moments into the buffer, which `Moment::all` reads: the net after the first `from` picks,
+/// and then after each further one, as many as there is room for. Gives back how many bytes it
+/// put there. A buffer that is too short for the first moment is refused by 21, and the place is
+/// the length that this one needs.
+pub fn trace(file: &[u8], picks: &[Pick], from: usize, out: &mut [u8]) -> Result<usize, Refused> {
+    let picks = pick_bytes(picks);
+    let (f, p, o) = (file.as_ptr(), picks.as_ptr(), out.as_mut_ptr());
+    let mut place = 0;
+    // SAFETY: each pointer goes with the length of its own slice, and the call keeps none.
+    let number =
+        unsafe { tivgeral_trace(f, file.len(), p, picks.len(), from, o, out.len(), &mut place) };
+    match number {
+        0 => Ok(place),
+        number => Err(Refused { number, place }),
+    }
 }

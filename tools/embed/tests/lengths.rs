@@ -1,7 +1,7 @@
 //! Lengths that no safe function gives: each has its number, and the buffer stays as it was.
 #![cfg(feature = "proved")]
 
-use embed::Call;
+use embed::{trace, Call, Refused};
 use std::fs;
 
 /// Number and place, for a buffer of so many bytes, which must stay as it was.
@@ -32,10 +32,24 @@ fn a_file_of_a_broken_length_is_1() {
     }
 }
 
+/// The place is then the length that is needed.
 #[test]
 fn a_short_buffer_is_21() {
-    assert_eq!(refused(Call::Tables, &file(), &[0, 0], 103), (21, 0));
-    // One byte short: an answer and a thread have 24.
-    assert_eq!(refused(Call::Answers, &file(), &[0, 0], 23), (21, 0));
-    assert_eq!(refused(Call::Threads, &file(), &[], 23), (21, 0));
+    // Two tables and two rows.
+    assert_eq!(refused(Call::Tables, &file(), &[0, 0], 415), (21, 416));
+    // An answer and a thread have 24 bytes.
+    assert_eq!(refused(Call::Answers, &file(), &[0, 0], 23), (21, 24));
+    assert_eq!(refused(Call::Threads, &file(), &[], 23), (21, 24));
+}
+
+/// A moment of one thread that holds nothing: its head, two tables, two rows, the thread with 16
+/// variables, two table variables and one stack entry.
+#[test]
+fn a_buffer_too_short_for_a_moment_is_21() {
+    let needed = 104 * (1 + 2 + 2 + 1 + 16 + 2 + 1);
+    let mut out = vec![7; needed - 1];
+    let refused = Err(Refused { number: 21, place: needed });
+    assert_eq!(trace(&file(), &[], 0, &mut out), refused);
+    assert!(out.iter().all(|byte| *byte == 7), "the buffer was touched");
+    assert_eq!(trace(&file(), &[], 0, &mut vec![7; needed]), Ok(needed));
 }

@@ -3,7 +3,7 @@
 
 mod stand_in;
 
-use embed::{answers, tables, threads, Pick, Refused};
+use embed::{answers, tables, threads, trace, Moment, Pick, Refused};
 use generate::{examples, file, Class};
 
 const FILES: u64 = 1_000;
@@ -17,6 +17,58 @@ fn agree(file: &[u8], label: &str) {
         assert_eq!(answers(file, picks), stand_in::answers(file, picks), "{label}");
         assert_eq!(tables(file, picks), stand_in::tables(file, picks), "{label}");
         assert_eq!(threads(file, picks), stand_in::threads(file, picks), "{label}");
+    }
+}
+
+/// What a call of `trace` puts into a buffer of so many bytes; the rest of it stays as it was.
+type Trace = fn(&[u8], &[Pick], usize, &mut [u8]) -> Result<usize, Refused>;
+
+fn traced(call: Trace, file: &[u8], from: usize, room: usize) -> (Result<usize, Refused>, Vec<u8>) {
+    let mut out = vec![7; room];
+    let put = call(file, &Pick::of_file(file), from, &mut out);
+    assert!(out[put.unwrap_or(0)..].iter().all(|byte| *byte == 7), "bytes after the moments");
+    (put, out)
+}
+
+/// Both engines put the same moments: from the first, a later and a last pick on, into a buffer
+/// that has room for all of them, for some, and for none.
+fn agree_on_moments(file: &[u8], label: &str) {
+    let count = Pick::of_file(file).len();
+    for from in [0, count / 2, count, count + 3] {
+        for room in [1 << 21, 20_000, 3_000, 103, 0] {
+            let given = traced(trace, file, from, room);
+            let expected = traced(stand_in::trace, file, from, room);
+            assert!(given == expected, "{label} from {from} with room for {room}");
+        }
+    }
+}
+
+#[test]
+fn moments_of_examples_and_generated_files() {
+    examples::all().iter().for_each(|example| agree_on_moments(&example.file, example.name));
+    (0..FILES / 2).for_each(|seed| agree_on_moments(&file(Class::Mixed, seed), &format!("{seed}")));
+}
+
+/// The moments tell the same as the other calls.
+#[test]
+fn moments_have_the_tables_and_threads() {
+    let file = file(Class::Valid, 3);
+    let picks = Pick::of_file(&file);
+    let mut out = vec![0; 1 << 24];
+    let put = trace(&file, &picks, 0, &mut out).expect("a file that loads");
+    let moments: Vec<Moment> = Moment::all(&out[..put]).collect();
+    assert_eq!(moments.len(), picks.len() + 1);
+    for (count, moment) in moments.iter().enumerate() {
+        let records = tables(&file, &picks[..count]).expect("a file that loads").len() / 104;
+        let rows: usize = moment.tables.iter().map(|table| table.content.rows.len()).sum();
+        assert_eq!(moment.tables.len() + rows, records);
+        let threads = threads(&file, &picks[..count]).expect("a file that loads");
+        let tops: Vec<(u8, u8)> =
+            moment.threads.iter().map(|thread| (thread.site, thread.stack[0].node())).collect();
+        assert_eq!(
+            tops,
+            threads.iter().map(|thread| (thread.site, thread.node)).collect::<Vec<_>>()
+        );
     }
 }
 
@@ -38,6 +90,7 @@ fn a_refused_file() {
     assert_eq!(answers(&file, &[]), Err(refused));
     assert_eq!(tables(&file, &[]), Err(refused));
     assert_eq!(threads(&file, &[]), Err(refused));
+    assert_eq!(trace(&file, &[], 0, &mut []), Err(refused));
 }
 
 /// The tables of a run load again, as the same tables.

@@ -9,6 +9,7 @@ use crate::names::Names;
 use crate::parse::{parse, Parsed};
 use crate::record::{Bytes, Record};
 use crate::token::Place;
+use crate::written::written;
 use engine::Pick;
 
 /// The records of a text, with the statements that they come from, and the labels.
@@ -81,6 +82,17 @@ impl Assembled {
     /// Where the statement of a record begins; None past the last record.
     pub fn place(&self, record: usize) -> Option<Place> {
         self.statements.get(record).map(|statement| statement.place)
+    }
+
+    /// The statement of a record as this text has it, in one line and without comments.
+    pub fn written(&self, text: &str, record: usize) -> Option<String> {
+        let statement = self.statements.get(record)?;
+        Some(written(text, statement.place, statement.end))
+    }
+
+    /// The first node of the process that a node belongs to.
+    pub fn process(&self, node: usize) -> Option<usize> {
+        self.labels.process(node)
     }
 
     pub fn names(&self) -> Names {

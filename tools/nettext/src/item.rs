@@ -6,6 +6,8 @@ use engine::{Act, Columns, Locality, Pick, Row, Site, Text};
 /// A statement of the text, which becomes one record.
 pub struct Statement {
     pub place: Place,
+    /// Behind its last word or sign.
+    pub end: Place,
     pub item: Item,
 }
 

@@ -19,13 +19,14 @@ mod record;
 mod shape;
 mod token;
 mod words;
+mod written;
 
 pub use assemble::{assemble, assemble_checked, Assembled};
 pub use error::Error;
 pub use errors::Errors;
 pub use names::Names;
 pub use numbers::{number, refused_file, Number};
-pub use print::{columns, dump, dump_unchecked, name, row, step};
+pub use print::{columns, dump, dump_unchecked, name, operand, row, step, value};
 pub use shape::{read_text, text_for_records};
 pub use token::Place;
 

@@ -1,12 +1,20 @@
 //! The calls that a trace asks its engine.
 
-use embed::{Answer, Pick, Refused, Thread};
+use embed::{Answer, Pick, Refused};
 
 /// What a file and a list of picks come to.
 pub trait Calls {
     fn answers(&self, file: &[u8], picks: &[Pick]) -> Result<Vec<Answer>, Refused>;
-    fn tables(&self, file: &[u8], picks: &[Pick]) -> Result<Vec<u8>, Refused>;
-    fn threads(&self, file: &[u8], picks: &[Pick]) -> Result<Vec<Thread>, Refused>;
+
+    /// Puts the net after the first `from` picks and after each further one into the buffer, as
+    /// many as there is room for, and gives back how many bytes it put there.
+    fn trace(
+        &self,
+        file: &[u8],
+        picks: &[Pick],
+        from: usize,
+        out: &mut [u8],
+    ) -> Result<usize, Refused>;
 }
 
 /// The proved engine.
@@ -19,11 +27,13 @@ impl Calls for Proved {
         embed::answers(file, picks)
     }
 
-    fn tables(&self, file: &[u8], picks: &[Pick]) -> Result<Vec<u8>, Refused> {
-        embed::tables(file, picks)
-    }
-
-    fn threads(&self, file: &[u8], picks: &[Pick]) -> Result<Vec<Thread>, Refused> {
-        embed::threads(file, picks)
+    fn trace(
+        &self,
+        file: &[u8],
+        picks: &[Pick],
+        from: usize,
+        out: &mut [u8],
+    ) -> Result<usize, Refused> {
+        embed::trace(file, picks, from, out)
     }
 }

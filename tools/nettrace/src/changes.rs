@@ -1,7 +1,6 @@
 //! What differs between the tables before and after a pick.
 
-use crate::tables::Table;
-use engine::Row;
+use engine::{Row, Table};
 
 /// A table with the rows that went and came, counted with repeats.
 pub struct Change<'a> {
@@ -21,11 +20,14 @@ pub enum TableChange {
 /// The tables that changed: first those that were there, then the new ones.
 pub fn changes<'a>(before: &'a [Table], after: &'a [Table]) -> Vec<Change<'a>> {
     let known = before.iter().map(|table| match find(after, table) {
-        Some(later) => between(table, TableChange::Stays, &table.rows, &later.rows),
-        None => between(table, TableChange::Dropped, &table.rows, &[]),
+        Some(later) => {
+            between(table, TableChange::Stays, &table.relation.rows, &later.relation.rows)
+        }
+        None => between(table, TableChange::Dropped, &table.relation.rows, &[]),
     });
     let created = after.iter().filter(|table| find(before, table).is_none());
-    let created = created.map(|table| between(table, TableChange::Created, &[], &table.rows));
+    let created =
+        created.map(|table| between(table, TableChange::Created, &[], &table.relation.rows));
     known.chain(created).filter(Change::is_one).collect()
 }
 
@@ -36,7 +38,8 @@ impl Change<'_> {
 }
 
 fn find<'a>(tables: &'a [Table], like: &Table) -> Option<&'a Table> {
-    tables.iter().find(|table| table.key() == like.key())
+    let key = |table: &Table| (table.site, table.name);
+    tables.iter().find(|table| key(table) == key(like))
 }
 
 fn between<'a>(table: &'a Table, kind: TableChange, before: &[Row], after: &[Row]) -> Change<'a> {
@@ -57,15 +60,12 @@ fn without(rows: &[Row], others: &[Row]) -> Vec<Row> {
 #[cfg(test)]
 mod tests {
     use super::*;
-    use engine::{Columns, Kind, Site, Text, Value};
+    use engine::{Columns, Kind, Relation, Site, Text, Value};
 
     fn table(name: &[u8; 4], values: &[i32]) -> Table {
-        Table {
-            site: Site(0),
-            name: Text(*name),
-            columns: Columns::from_iter([Kind::Int]),
-            rows: rows(values),
-        }
+        let columns = Columns::from_iter([Kind::Int]);
+        let relation = Relation { columns, rows: rows(values).into_iter().collect() };
+        Table { site: Site(0), name: Text(*name), relation }
     }
 
     fn rows(values: &[i32]) -> Vec<Row> {

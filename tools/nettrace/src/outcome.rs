@@ -1,45 +1,60 @@
-//! What came of a pick: the engine's answer, and what changed in tables and threads.
+//! What came of a pick: the engine's answer, the rows, and the threads.
 
 use crate::changes::{changes, Change, TableChange};
+use crate::listing::Listing;
+use crate::progress::{progress, Around};
+use crate::refusal::case;
 use crate::run::Turn;
-use crate::steps::Steps;
-use crate::threads::{thread_change, ThreadChange};
+use crate::scene::Scene;
+use crate::threads::Names;
+use crate::words::{self, counted, counts};
 use embed::Answer;
-use nettext::{columns, name, number, row};
+use engine::Act;
+use nettext::{columns, number, row};
 
-/// Lines about the answer, the rows and the threads.
-pub fn outcome(turn: &Turn, steps: &Steps) -> Vec<String> {
-    let changes = changes(&turn.before.tables, &turn.after.tables);
-    let mut lines = answer(turn.answer);
-    lines.extend(changes.iter().flat_map(change));
-    lines.extend(threads(turn, steps));
-    lines.extend(unchanged(turn, &changes).map(str::to_owned));
-    lines
-}
-
-fn answer(answer: Answer) -> Vec<String> {
-    match answer {
-        Answer::Done { added, taken } => vec![format!("done: {}", counts(added, taken))],
-        Answer::Refused(refusal) => match number(refusal) {
-            Some(entry) => vec![
-                format!("refused: {refusal}, {}", entry.wrong),
-                format!("what to do: {}", entry.advice),
-            ],
-            None => vec![format!("refused: {refusal}")],
-        },
+pub fn outcome(turn: &Turn, scene: Option<&Scene>, names: &Around) -> Vec<String> {
+    match (turn.answer, scene) {
+        (Answer::Refused(number), scene) => refused(number, turn, scene, names.before),
+        (Answer::Done { added, taken }, Some(scene)) => done(added, taken, turn, scene, names),
+        (Answer::Done { added, taken }, None) => vec![format!("done: {}", counts(added, taken))],
     }
 }
 
-/// Rows added and taken, in words.
-pub fn counts(added: u64, taken: u64) -> String {
-    format!("{} added, {taken} taken", counted(added, "row"))
+/// The number with its case, or else with what it means in any net.
+fn refused(refusal: u8, turn: &Turn, scene: Option<&Scene>, names: &Names) -> Vec<String> {
+    let entry = number(refusal);
+    let wrong = entry.map(|entry| entry.wrong.to_owned());
+    let mut lines = match case(refusal, turn, scene, names).or(wrong) {
+        Some(why) => vec![format!("refused: {refusal}, {why}")],
+        None => vec![format!("refused: {refusal}")],
+    };
+    lines.extend(entry.map(|entry| format!("what to do: {}", entry.advice)));
+    if turn.before == turn.after {
+        lines.push("tables and threads stay as they were".to_owned());
+    }
+    lines
 }
 
-/// A number of things, in words.
-pub fn counted(count: u64, thing: &str) -> String {
-    match count {
-        1 => format!("1 {thing}"),
-        _ => format!("{count} {thing}s"),
+fn done(added: u64, taken: u64, turn: &Turn, scene: &Scene, names: &Around) -> Vec<String> {
+    let listing = Listing::new(turn, scene);
+    let why = listing.as_ref().filter(|_| added + taken == 0);
+    let why = why.and_then(|listing| no_change(scene.act, listing)).unwrap_or_default();
+    let rows = match listing.filter(Listing::is_worth_telling) {
+        Some(listing) => listing.lines(),
+        None => changes(&turn.before.tables, &turn.after.tables).iter().flat_map(change).collect(),
+    };
+    let answer = format!("done: {}{why}", counts(added, taken));
+    [vec![answer], rows, progress(turn, scene, names)].concat()
+}
+
+/// Why an update or a delete changed nothing.
+fn no_change(act: &Act, listing: &Listing) -> Option<String> {
+    match (act, listing.matched) {
+        (Act::Update { .. } | Act::Delete { .. }, 0) => Some("; no row matched".to_owned()),
+        (Act::Update { .. }, matched) => {
+            Some(format!("; {} matched, but no new row fits", counted(matched, "row")))
+        }
+        _ => None,
     }
 }
 
@@ -51,40 +66,11 @@ fn change(change: &Change) -> Vec<String> {
 }
 
 fn heading(change: &Change) -> String {
-    let table = change.table;
-    let address = format!("table {} at site {}", name(table.name), table.site.0);
+    let address = format!("table {}", words::table(change.table));
+    let columns = columns(&change.table.relation.columns);
     match change.kind {
-        TableChange::Created => format!("+ {address} {}", columns(&table.columns)),
-        TableChange::Dropped => format!("- {address} {}", columns(&table.columns)),
+        TableChange::Created => format!("+ {address} {columns}"),
+        TableChange::Dropped => format!("- {address} {columns}"),
         TableChange::Stays => address,
-    }
-}
-
-fn threads(turn: &Turn, steps: &Steps) -> Option<String> {
-    let place = turn.pick.thread;
-    let picked = usize::from(place);
-    match thread_change(&turn.before.threads, &turn.after.threads, picked) {
-        ThreadChange::Same => None,
-        ThreadChange::Ended if picked + 1 < turn.before.threads.len() => {
-            Some(format!("thread {place} ends; those after it close up"))
-        }
-        ThreadChange::Ended => Some(format!("thread {place} ends")),
-        ThreadChange::Moved(now) => Some(format!("thread {place} goes on: {}", steps.entry(now))),
-        ThreadChange::Forked(last, new) => {
-            Some(format!("thread {last} is new: {}", steps.entry(new)))
-        }
-    }
-}
-
-/// What is worth saying where no table changed.
-fn unchanged(turn: &Turn, changes: &[Change]) -> Option<&'static str> {
-    match turn.answer {
-        Answer::Refused(_) if turn.before == turn.after => {
-            Some("tables and threads stay as they were")
-        }
-        Answer::Done { added: 1.., .. } if changes.is_empty() => {
-            Some("the tables hold the same rows as before")
-        }
-        _ => None,
     }
 }

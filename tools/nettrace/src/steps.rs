@@ -1,66 +1,64 @@
 //! The net's steps, and how a trace names them.
 
-use crate::source::Source;
-use embed::{Thread, Top};
-use engine::{Act, Node};
-use nettext::{step, Names};
+use crate::source::{Source, Step};
+use engine::{Act, Aliases, Entry, Places, Thread};
 
 pub struct Steps {
-    nodes: Vec<(Node, Option<usize>)>,
-    names: Names,
+    steps: Vec<Step>,
+    pub aliases: Aliases,
 }
 
 impl Steps {
     pub fn new(source: &Source) -> Steps {
-        Steps { nodes: source.nodes(), names: source.names() }
+        Steps { steps: source.steps(), aliases: source.aliases() }
     }
 
-    fn node(&self, number: u8) -> Option<&(Node, Option<usize>)> {
-        self.nodes.get(usize::from(number))
+    fn step(&self, node: u8) -> Option<&Step> {
+        self.steps.get(usize::from(node))
     }
 
-    /// The step in the text form.
-    pub fn text(&self, number: u8) -> String {
-        self.node(number).map_or_else(String::new, |(node, _)| step(&node.act, &self.names))
+    pub fn act(&self, node: u8) -> Option<&Act> {
+        self.step(node).map(|step| &step.node.act)
     }
 
-    /// Only loops look at a pick's row place.
-    pub fn is_loop(&self, number: u8) -> bool {
-        self.node(number).is_some_and(|(node, _)| matches!(node.act, Act::Loop(_)))
+    /// The step as it is written.
+    pub fn text(&self, node: u8) -> &str {
+        self.step(node).map_or("", |step| &step.text)
     }
 
-    /// The line of the text with the label if the step has one; without a text its number.
-    fn name(&self, number: u8) -> String {
-        match (self.node(number), &self.names) {
-            (Some((_, Some(line))), Names::Labels(labels)) => {
-                match labels.get(&usize::from(number)) {
-                    Some(label) => format!("line {line} ({label})"),
-                    None => format!("line {line}"),
-                }
-            }
-            _ => format!("node {number}"),
-        }
+    /// Where the step is written.
+    fn place(&self, node: u8) -> String {
+        self.step(node).map_or_else(|| format!("node {node}"), |step| step.place.clone())
     }
 
-    /// What a thread would run next.
-    pub fn entry(&self, thread: &Thread) -> String {
-        let name = self.name(thread.node);
-        let depth = match thread.depth {
-            1 => String::new(),
-            depth => format!(", {depth} stack entries"),
-        };
-        match &thread.top {
-            Top::Run => name + &depth,
-            Top::Loop { left } => format!("{name}, {}{depth}", to_visit(left)),
+    /// Where a thread stands: its top stack entry, and the loops whose rounds it is in.
+    pub fn stands(&self, thread: &Thread) -> String {
+        let entries: Vec<String> = thread.stack.iter().rev().map(|top| self.entry(*top)).collect();
+        entries.join(", within ")
+    }
+
+    pub fn entry(&self, entry: Entry) -> String {
+        let place = self.place(entry.node());
+        match entry {
+            Entry::Run(_) => place,
+            Entry::Loop { left, .. } => format!("{place} with {}", to_visit(left)),
         }
     }
 }
 
-fn to_visit(left: &[u8]) -> String {
-    let places: Vec<String> = left.iter().map(u8::to_string).collect();
-    match left {
-        [] => "no row left to visit".to_owned(),
-        [_] => format!("row {} still to visit", places[0]),
-        _ => format!("rows {} still to visit", places.join(", ")),
+/// The rows that a loop has still to visit.
+fn to_visit(left: Places) -> String {
+    match left.is_empty() {
+        true => "no row left to visit".to_owned(),
+        false => format!("{} still to visit", row_places(left.iter())),
+    }
+}
+
+/// One row place or more, for a sentence.
+pub fn row_places(places: impl Iterator<Item = u8>) -> String {
+    let places: Vec<String> = places.map(|place| place.to_string()).collect();
+    match places.len() {
+        1 => format!("row {}", places[0]),
+        _ => format!("rows {}", places.join(", ")),
     }
 }

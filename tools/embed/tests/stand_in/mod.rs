@@ -1,5 +1,7 @@
-//! A test double of the proved engine: the three calls on top of the second engine. Tests alone
-//! use it, to run without the library and to hold the library against it.
+//! A test double of the proved engine: the calls on top of the second engine. Tests alone use it,
+//! to run without the library and to hold the library against it.
+
+mod moment;
 
 use embed::{Answer, Pick, Refused, Thread, Top};
 use engine::{Entry, Net};
@@ -16,13 +18,35 @@ pub fn threads(file: &[u8], picks: &[Pick]) -> Result<Vec<Thread>, Refused> {
     run(file, picks).map(|(net, _)| net.threads.iter().map(thread).collect())
 }
 
+pub fn trace(file: &[u8], picks: &[Pick], from: usize, out: &mut [u8]) -> Result<usize, Refused> {
+    let from = from.min(picks.len());
+    let (mut net, _) = run(file, &picks[..from])?;
+    let mut put = 0;
+    for place in from..=picks.len() {
+        let bytes = moment::bytes(&net);
+        match out.get_mut(put..put + bytes.len()) {
+            Some(room) => room.copy_from_slice(&bytes),
+            None if put == 0 => return Err(Refused { number: 21, place: bytes.len() }),
+            None => break,
+        }
+        put += bytes.len();
+        if let Some(pick) = picks.get(place) {
+            engine::run(&mut net, &[own(pick)]);
+        }
+    }
+    Ok(put)
+}
+
 fn run(file: &[u8], picks: &[Pick]) -> Result<(Net, Vec<engine::Answer>), Refused> {
     let (mut net, _) =
         engine::load(file).map_err(|fault| Refused { number: fault.number, place: fault.place })?;
-    let picks: Vec<engine::Pick> =
-        picks.iter().map(|pick| engine::Pick { thread: pick.thread, row: pick.row }).collect();
+    let picks: Vec<engine::Pick> = picks.iter().map(own).collect();
     let answers = engine::run(&mut net, &picks);
     Ok((net, answers))
+}
+
+fn own(pick: &Pick) -> engine::Pick {
+    engine::Pick { thread: pick.thread, row: pick.row }
 }
 
 fn answer(answer: engine::Answer) -> Answer {

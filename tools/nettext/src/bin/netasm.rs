@@ -29,7 +29,7 @@ bytes. The grammar is in docs/TEXT.md.
 fn main() -> ExitCode {
     let (flags, settings) = (&["--unchecked"], &[]);
     let limit = TEXT_LIMIT;
-    cli::run(&Program { name: "netasm", help: HELP, flags, settings, limit, work })
+    cli::run(&Program { name: "netasm", help: HELP, flags, settings, files: &[], limit, work })
 }
 
 fn work(input: &Input, out: &mut dyn Write) -> Result<(), Failure> {

@@ -31,7 +31,7 @@ is in docs/TEXT.md.
 fn main() -> ExitCode {
     let (flags, settings) = (&["--unchecked"], &[]);
     let limit = FILE_LIMIT;
-    cli::run(&Program { name: "netdump", help: HELP, flags, settings, limit, work })
+    cli::run(&Program { name: "netdump", help: HELP, flags, settings, files: &[], limit, work })
 }
 
 fn work(input: &Input, out: &mut dyn Write) -> Result<(), Failure> {

@@ -15,9 +15,27 @@ pub struct Input {
     pub bytes: Vec<u8>,
     flags: Vec<String>,
     settings: Vec<(String, String)>,
+    files: Vec<(String, Content)>,
+}
+
+/// A file that was read whole.
+pub struct Content {
+    pub name: String,
+    pub bytes: Vec<u8>,
 }
 
 impl Input {
+    /// The file that an option names, the last one where it is given twice.
+    pub fn file(&self, option: &str) -> Option<&Content> {
+        let given = self.files.iter().rev().find(|(given, _)| given == option);
+        given.map(|(_, content)| content)
+    }
+
+    pub fn new(net: Content, options: Options, files: Vec<(String, Content)>) -> Input {
+        let Content { name, bytes } = net;
+        Input { name, bytes, flags: options.flags, settings: options.settings, files }
+    }
+
     pub fn has(&self, flag: &str) -> bool {
         self.flags.iter().any(|given| given == flag)
     }
@@ -45,16 +63,17 @@ impl Opened {
         Ok(Opened { name, file, metadata })
     }
 
-    /// All of it, unless it has more bytes than the limit: then no more than one of those is read.
-    pub fn read(self, limit: usize, options: Options) -> Result<Input, Failure> {
+    /// All of it, unless it has more bytes than the limit: then no more than one of those is read,
+    /// and it is at fault for this reason.
+    pub fn read(self, limit: usize, reason: &str) -> Result<Content, Failure> {
         let Opened { name, file, .. } = self;
         let mut bytes = Vec::new();
         let read = file.take((limit as u64).saturating_add(1)).read_to_end(&mut bytes);
         read.map_err(|error| unread(&name, &error))?;
         if bytes.len() > limit {
-            return Err(too_long(&name, limit).into());
+            return Err(too_long(&name, limit, reason).into());
         }
-        Ok(Input { name, bytes, flags: options.flags, settings: options.settings })
+        Ok(Content { name, bytes })
     }
 }
 
@@ -66,9 +85,9 @@ fn unread(name: &str, error: &io::Error) -> Failure {
     Failure::Unusable(format!("{name}: {error}"))
 }
 
-fn too_long(name: &str, limit: usize) -> String {
+fn too_long(name: &str, limit: usize, reason: &str) -> String {
     format!(
-        "{name}: over {limit} bytes, and no net needs so much: it has at most 256 records\n\
+        "{name}: over {limit} bytes, {reason}\n\
          what to do: look whether this is the file that was meant\n"
     )
 }

@@ -4,17 +4,22 @@ mod input;
 mod options;
 mod output;
 
-pub use input::Input;
 use input::Opened;
+pub use input::{Content, Input};
 use options::Options;
 use output::Destination;
 use std::io::{self, Write};
+use std::path::Path;
 use std::process::ExitCode;
 
 /// Whatever is wrong with the input.
 const AT_FAULT: u8 = 1;
 /// Wrong usage, or a file that can't be read or written.
 const UNUSABLE: u8 = 2;
+
+/// Why an input is too long.
+const NO_NET: &str = "and no net needs so much: it has at most 256 records";
+const TOO_MUCH: &str = "which is more than is read of it";
 
 pub struct Program {
     pub name: &'static str,
@@ -23,6 +28,8 @@ pub struct Program {
     pub flags: &'static [&'static str],
     /// The options that a value follows.
     pub settings: &'static [&'static str],
+    /// The options that the name of a further file to read follows.
+    pub files: &'static [&'static str],
     /// So many bytes of the input are read at most; one that has more is at fault.
     pub limit: usize,
     /// Writes the result for an input, or says what to report. A file after `-o` keeps what it
@@ -92,10 +99,26 @@ fn carried_out(program: &Program, options: Options) -> Result<(), Failure> {
         return written(Destination::new(None)?, |out| Ok(out.write_all(help)?));
     }
     let destination = Destination::new(options.output.as_deref())?;
-    let opened = Opened::new(options.input.as_deref())?;
-    destination.refuses(&opened)?;
-    let input = opened.read(program.limit, options)?;
+    let read = |path, reason| read(&destination, path, program.limit, reason);
+    let net = read(options.input.as_deref(), NO_NET)?;
+    let mut files = Vec::new();
+    for (option, path) in &options.files {
+        files.push((option.clone(), read(Some(path), TOO_MUCH)?));
+    }
+    let input = Input::new(net, options, files);
     written(destination, |out| (program.work)(&input, out))
+}
+
+/// A file, or standard input; never the file that is written.
+fn read(
+    destination: &Destination,
+    path: Option<&Path>,
+    limit: usize,
+    reason: &str,
+) -> Result<Content, Failure> {
+    let opened = Opened::new(path)?;
+    destination.refuses(&opened)?;
+    opened.read(limit, reason)
 }
 
 /// Lets the work write, and keeps what it wrote if that is all there is to write.

@@ -12,6 +12,7 @@ pub struct Options {
     pub output: Option<PathBuf>,
     pub flags: Vec<String>,
     pub settings: Vec<(String, String)>,
+    pub files: Vec<(String, PathBuf)>,
 }
 
 impl Options {
@@ -28,6 +29,10 @@ impl Options {
                 Some(option) if program.settings.contains(&option) => {
                     let value = value(option, arguments.next())?;
                     options.settings.push((option.to_owned(), value));
+                }
+                Some(option) if program.files.contains(&option) => {
+                    let file = arguments.next().ok_or_else(|| format!("{option} needs a file"))?;
+                    options.files.push((option.to_owned(), file.into()));
                 }
                 Some(flag) if flag.starts_with('-') => {
                     return Err(format!("unknown option {flag}"))

@@ -80,7 +80,8 @@ impl Parser<'_> {
     fn push(&mut self, place: Place, item: Item) {
         self.in_process = item.is_step();
         self.labels.nodes += usize::from(self.in_process);
-        self.statements.push(Statement { place, item });
+        let end = self.cursor.place();
+        self.statements.push(Statement { place, end, item });
     }
 
     /// A label and a colon, before the step that it names or another label of that step.

@@ -6,7 +6,7 @@ mod step;
 mod unread;
 
 use engine::{load, Fault, RECORD_SIZE};
-pub use operand::{columns, kind, name, row, value};
+pub use operand::{columns, kind, name, operand, row, value};
 use printer::{slots, Printer};
 use std::io::{self, Write};
 pub use step::step;

@@ -1,7 +1,12 @@
 //! Traces with a test double in the engine's place: what is told of each kind of pick, and what
 //! the pages show.
 
+mod bound;
 mod double;
+mod doubts;
+mod judged;
 mod page;
 mod pages;
+mod pieces;
+mod refusals;
 mod telling;

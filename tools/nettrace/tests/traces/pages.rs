@@ -1,9 +1,9 @@
 //! What the tour and the README show is what the program does, and the nets in the tour are those
 //! of the examples.
 
-use crate::double::{by_stand_in, traced, StandIn};
+use crate::double::{by_stand_in, told, traced};
 use crate::page::{blocks, commands, read, root};
-use nettrace::{parse_picks, trace, Source};
+use nettrace::{parse_picks, Source};
 use std::fs;
 
 const TOUR: &str = "docs/TOUR.md";
@@ -29,6 +29,20 @@ fn the_program_gives_what_the_tour_shows() {
         assert!(told == command.output, "{:?}\n{told}", command.arguments);
         assert!(output.status.success() && output.stderr.is_empty());
     }
+}
+
+/// The first lesson is that an update judges rows as they stood before: its trace shows the tests.
+#[test]
+fn the_first_lesson_shows_what_rows_were_judged_against() {
+    let page = read(TOUR);
+    let (_, rest) = page.split_once("## 1. ").expect("the first lesson");
+    let (lesson, _) = rest.split_once("## 2. ").expect("its end");
+    let traces: String = commands(lesson).iter().map(|command| command.output).collect();
+    let tests = ["36 < 40", "39 < 40", "not 120 < 40", "not 210 < 40", "200 < 210", "not 200 < 38"];
+    for test in tests {
+        assert!(traces.contains(&format!("    {test}\n")), "{test}");
+    }
+    assert!(!traces.contains("38 < 40\n"), "a row that the update itself wrote");
 }
 
 /// Every net of the tour stands in it, as it is in its file, and is traced there.
@@ -65,7 +79,7 @@ fn the_readme_shows_what_its_net_comes_to() {
 fn left(text: &str, picks: &str) -> (String, String) {
     let source = Source::of_text("net.nettext", text.as_bytes()).expect("a text");
     let picks = parse_picks(picks).expect("picks");
-    let told = trace(&StandIn, &source, Some(picks)).expect("a net that loads");
+    let told = told(&source, Some(picks)).expect("a net that loads");
     let (_, last) = told.split_once("after the last pick\n").expect("the last part");
     let (tables, total) = last.split_once("\n\n").expect("the total");
     let refused = total.split([',', ';']).nth(1).expect("how many are refused");

@@ -1,0 +1,52 @@
+//! What operands come to.
+
+use engine::{Operand, Value, Variables};
+use nettext::{operand as shown, value as shown_value};
+
+/// The bindings that operands are read with: a thread's variables, over which the formals of a
+/// template have the values of a row.
+#[derive(Clone, Copy)]
+pub struct Bindings<'a> {
+    variables: &'a Variables,
+    template: &'a [Operand],
+    row: &'a [Value],
+}
+
+impl<'a> Bindings<'a> {
+    /// The thread's own alone, as in L, T and T'.
+    pub fn own(variables: &'a Variables) -> Bindings<'a> {
+        Bindings { variables, template: &[], row: &[] }
+    }
+
+    /// With a row, as in the predicate and in t.
+    pub fn with(self, template: &'a [Operand], row: &'a [Value]) -> Bindings<'a> {
+        Bindings { template, row, ..self }
+    }
+
+    pub fn variable(&self, variable: u8) -> Option<Value> {
+        let column = self.template.iter().position(|field| *field == Operand::Formal(variable));
+        let of_row = column.and_then(|column| self.row.get(column)).copied();
+        of_row.or(self.variables.get(usize::from(variable)).copied().flatten())
+    }
+
+    pub fn value(&self, operand: Operand) -> Option<Value> {
+        match operand {
+            Operand::Constant(value) => Some(value),
+            Operand::Variable(variable) => self.variable(variable),
+            Operand::Plus(variable, more) => self.variable(variable)?.plus(more),
+            Operand::Formal(_) => None,
+        }
+    }
+
+    /// Why an operand has no value.
+    pub fn lack(&self, operand: Operand) -> String {
+        match operand {
+            Operand::Plus(variable, _) => match self.variable(variable) {
+                Some(Value::Int(_)) => format!("{} is outside 32 bits", shown(operand)),
+                Some(other) => format!("x{variable} is {}, no Int", shown_value(other)),
+                None => format!("x{variable} is unbound"),
+            },
+            _ => format!("{} has no value", shown(operand)),
+        }
+    }
+}
