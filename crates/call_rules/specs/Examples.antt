@@ -1,8 +1,13 @@
 -- Worked calls, by computation: one table, one insert into it, one thread.
 use Prim.Native.Nat.{ℕ}
 use mathlib.Core.Path.{_≡_, refl}
-use mathlib.Core.List.{List, [], _∷_, _++_}
+use mathlib.Core.List.{List, [], _∷_, _++_, map}
+use mathlib.Core.Option.{none, some}
+use lib.IntN.{pos}
 use lib.ListN.{replicate}
+use Rattle.values.specs.declared.Value.the-variants.{Int}
+use Rattle.values.specs.declared.Got.the-variants.{Nothing, One}
+use Rattle.values.specs.Lists.{places}
 use Rattle.values.specs.Values.{textOrder}
 use Rattle.values.specs.Operands.{bind}
 use Rattle.rows.specs.Matching.{matches, hits}
@@ -22,11 +27,11 @@ use Rattle.record_bytes.specs.Decoding.{nodeIn, aliasForm, tableForm, rowForm, 
 use Rattle.record_bytes.specs.Encoding.{tupleBytes, tableBytes, rowBytes}
 use Rattle.files.specs.Loading.{loadChecks, put, advance, readAll, firstBadLink, load, loadBytes}
 use Rattle.files.specs.Writing.{written}
-use Rattle.value_bytes.specs.Bytes.{eightBytes}
+use Rattle.value_bytes.specs.Bytes.{endToEnd, eightBytes}
 use Rattle.step_bytes.specs.AnswerBytes.{threeBytes, answerBytes, answersPut}
 use Rattle.call_rules.specs.Layouts.{visitBytes, headBytes, threadBytes, tablesPut, threadsPut, picksPut}
 use Rattle.call_rules.specs.Replies.{Called, refusing, putting, ifRoom}
-use Rattle.call_rules.specs.Moments.{valuesRecord, variableRecords, relationHead, entryRecord, threadHead, momentHead, momentPut}
+use Rattle.call_rules.specs.Moments.{valuesRecord, variableRecords, relationHead, bindingsRecords, entryRecord, threadHead, momentHead, momentPut}
 use Rattle.call_rules.specs.Traces.{tracePut, tracedFrom, traced}
 use Rattle.call_rules.specs.Calls.{onLoaded, called, bufferIn}
 
@@ -129,3 +134,27 @@ trace-of-one = refl
 pub trace-short : called (λ net ps. traced 9 net ps (replicate 311 7)) file twice ≡ refusing 21 312
 unfolding opened
 trace-short = refl
+
+-- before any pick a thread stands, with nothing bound and node 0 to run
+abbrev waiting : List ℕ
+waiting =
+    64 ∷ 1 ∷ 1 ∷ 0 ∷ 22 ∷ z 99
+    ++ (nums
+    ++ (65 ∷ 0 ∷ 1 ∷ z 101
+    ++ (endToEnd (map (λ (i : ℕ). 66 ∷ i ∷ z 102) (places 0 16))
+    ++ (67 ∷ z 103 ++ (67 ∷ 1 ∷ z 102 ++ (69 ∷ z 103))))))
+
+pub trace-of-all : called (λ net ps. traced 0 net ps (replicate 3000 7)) file twice ≡ putting (waiting ++ (inserted ++ inserted))
+unfolding opened
+trace-of-all = refl
+
+-- x1 is 5; T0 is bound, with the row (5)
+pub bound : endToEnd (bindingsRecords (record { vars = Nothing ∷ One (Int (pos 5)) ∷ []; relations = some (record { columns = 1 ∷ []; rows = (Int (pos 5) ∷ []) ∷ [] }) ∷ none ∷ [] }))
+    ≡ 66 ∷ z 103 ++ (66 ∷ 1 ∷ z 54 ++ (five ++ z 40) ++ (endToEnd (map (λ (i : ℕ). 66 ∷ i ∷ z 102) (places 2 14)) ++ (67 ∷ 0 ∷ 1 ∷ z 5 ++ (1 ∷ z 95) ++ (68 ∷ z 55 ++ (five ++ z 40) ++ (67 ∷ 1 ∷ z 102)))))
+unfolding opened
+bound = refl
+
+-- a loop at node 3 with row 1 still to visit
+pub entry-of-loop : entryRecord (visiting 3 (1 ∷ [])) ≡ 69 ∷ 1 ∷ 3 ∷ z 6 ++ (1 ∷ z 94)
+unfolding opened
+entry-of-loop = refl
