@@ -5,7 +5,7 @@ use mathlib.Core.Bool.{true}
 use mathlib.Core.List.{List, _++_, append-nil}
 use native.Mathlib.Omega.{arith}
 use lib.Dec.{T, leb}
-use lib.ListN.{length, take, drop, length-take, length-drop, drop-of-length-le}
+use lib.ListN.{length, take, drop, length-append, drop-of-length-le}
 use borrow.Author.Tests.{le-leb}
 use borrow.Rule.Slice.PartMut.{putMid}
 use Rattle.values.proofs.Firsts.{length-firsts}
@@ -42,38 +42,48 @@ module _ (net : Net) (ok : T (sound (view net))) (o : List ℕ) (l : length o �
   pub rest : n - (104 + s) ≡ m
   rest = omega (arith, whole)
 
-  abbrev headOf : List ℕ
-  headOf = momentHead (net .tablecount) (net .threadcount) (n / 104)
-
   abbrev part : List ℕ → List ℕ
   part x = take (104 + s - 104) (drop 104 (x ++ drop 104 o))
 
-  pub part-long : (x : List ℕ) → x ≡ headOf → length (part x) ≡ s
-  part-long x hx = rw (part-size 104 s) (part-first o x 104 s (ap length hx ∙ head-length (net .tablecount) (net .threadcount) (n / 104)) (omega (arith, whole)))
+  -- a head with any count
+  abbrev headOf : ℕ → List ℕ
+  headOf r = momentHead (net .tablecount) (net .threadcount) r
 
-  tables-are : (x y : List ℕ) → x ≡ headOf → y ≡ bufferAfter (part x) (ifRoom (written (tablesOf (net .tablecount) (net .tables))) (part x)) → y ≡ written (tablesOf (net .tablecount) (net .tables))
-  tables-are x y hx hy = written-whole (written (tablesOf (net .tablecount) (net .tables))) (part x) y (part-long x hx ∙ es) hy
+  long : (x : List ℕ) (r : ℕ) → x ≡ headOf r → length x ≡ 104
+  long x r hx = ap length hx ∙ head-length (net .tablecount) (net .threadcount) r
 
-  moment-is : momentPut (view net) ≡ headOf ++ (written (tablesOf (net .tablecount) (net .tables)) ++ endToEnd (allThreads (threadsOf (net .threadcount) (net .threads))))
+  pub part-long : (x : List ℕ) (r : ℕ) → x ≡ headOf r → length (part x) ≡ s
+  part-long x r hx = rw (part-size 104 s) (part-first o x 104 s (long x r hx) (omega (arith, whole)))
+
+  tables-are : (x y : List ℕ) (r : ℕ) → x ≡ headOf r → y ≡ bufferAfter (part x) (ifRoom (written (tablesOf (net .tablecount) (net .tables))) (part x)) → y ≡ written (tablesOf (net .tablecount) (net .tables))
+  tables-are x y r hx hy = written-whole (written (tablesOf (net .tablecount) (net .tables))) (part x) y (part-long x r hx ∙ es) hy
+
+  last-part : (x y : List ℕ) (r : ℕ) → x ≡ headOf r → y ≡ bufferAfter (part x) (ifRoom (written (tablesOf (net .tablecount) (net .tables))) (part x)) →
+      length (take (n - (104 + s)) (drop (104 + s) (putMid 104 (104 + s - 104) (x ++ drop 104 o) y))) ≡ m
+  last-part x y r hx hy = rw (part-size 104 s, rest) (part-left o x y 104 s m (long x r hx) (ap length (tables-are x y r hx hy) ∙ sym es) (omega (arith, whole)))
+
+  filled : (x y z : List ℕ) (r : ℕ) → x ≡ headOf r → y ≡ bufferAfter (part x) (ifRoom (written (tablesOf (net .tablecount) (net .tables))) (part x)) → z ≡ endToEnd (allThreads (threadsOf (net .threadcount) (net .threads))) →
+      putMid (104 + s) (n - (104 + s)) (putMid 104 (104 + s - 104) (x ++ drop 104 o) y) z
+      ≡ headOf r ++ (written (tablesOf (net .tablecount) (net .tables)) ++ endToEnd (allThreads (threadsOf (net .threadcount) (net .threads))))
+  filled x y z r hx hy hz =
+      let ty = tables-are x y r hx hy in
+      rw (part-size 104 s, rest) (three-fill o x y z 104 s m (long x r hx) (ap length ty ∙ sym es) (omega (arith, whole)) ∙ rw (hx, ty, hz) refl)
+
+  moment-is : momentPut (view net) ≡ headOf (n / 104) ++ (written (tablesOf (net .tablecount) (net .tables)) ++ endToEnd (allThreads (threadsOf (net .threadcount) (net .threads))))
   moment-is =
       moment-parts net ok
       ∙ rw (length-firsts tableOf noTable (net .tablecount) (net .tables), length-firsts threadOf noThread (net .threadcount) (net .threads), sym en) refl
 
-  put-all : (x y z : List ℕ) → x ≡ headOf → y ≡ bufferAfter (part x) (ifRoom (written (tablesOf (net .tablecount) (net .tables))) (part x)) → z ≡ endToEnd (allThreads (threadsOf (net .threadcount) (net .threads))) →
+  put-all : (x y z : List ℕ) → x ≡ headOf (n / 104) → y ≡ bufferAfter (part x) (ifRoom (written (tablesOf (net .tablecount) (net .tables))) (part x)) → z ≡ endToEnd (allThreads (threadsOf (net .threadcount) (net .threads))) →
       putMid (104 + s) (n - (104 + s)) (putMid 104 (104 + s - 104) (x ++ drop 104 o) y) z ≡ momentPut (view net)
-  put-all x y z hx hy hz =
-      let ty = tables-are x y hx hy in
-      rw (part-size 104 s, rest)
-      (three-fill o x y z 104 s m (ap length hx ∙ head-length (net .tablecount) (net .threadcount) (n / 104)) (ap length ty ∙ sym es) (omega (arith, whole)) ∙ rw (hx, ty, hz) (sym moment-is))
+  put-all x y z hx hy hz = filled x y z (n / 104) hx hy hz ∙ sym moment-is
 
-  same : (x y z : List ℕ) → x ≡ headOf → y ≡ bufferAfter (part x) (ifRoom (written (tablesOf (net .tablecount) (net .tables))) (part x)) → z ≡ endToEnd (allThreads (threadsOf (net .threadcount) (net .threads))) →
+  same : (x y z : List ℕ) (r : ℕ) → x ≡ headOf r → y ≡ bufferAfter (part x) (ifRoom (written (tablesOf (net .tablecount) (net .tables))) (part x)) → z ≡ endToEnd (allThreads (threadsOf (net .threadcount) (net .threads))) →
       length (putMid (104 + s) (n - (104 + s)) (putMid 104 (104 + s - 104) (x ++ drop 104 o) y) z) ≡ length o
-  same x y z hx hy hz = ap length (put-all x y z hx hy hz) ∙ sym l
-
-  last-part : (x y : List ℕ) → x ≡ headOf → y ≡ bufferAfter (part x) (ifRoom (written (tablesOf (net .tablecount) (net .tables))) (part x)) →
-      length (take (n - (104 + s)) (drop (104 + s) (putMid 104 (104 + s - 104) (x ++ drop 104 o) y))) ≡ m
-  last-part x y hx hy =
-      rw (part-size 104 s, rest) (part-left o x y 104 s m (ap length hx ∙ head-length (net .tablecount) (net .threadcount) (n / 104)) (ap length (tables-are x y hx hy) ∙ sym es) (omega (arith, whole)))
+  same x y z r hx hy hz =
+      let e : length (headOf r) ≡ length (headOf (n / 104)) = head-length (net .tablecount) (net .threadcount) r ∙ sym (head-length (net .tablecount) (net .threadcount) (n / 104)) in
+      let t = written (tablesOf (net .tablecount) (net .tables)) ++ endToEnd (allThreads (threadsOf (net .threadcount) (net .threads))) in
+      ap length (filled x y z r hx hy hz) ∙ length-append (headOf r) t ∙ ap (λ (k : ℕ). k + length t) e ∙ sym (length-append (headOf (n / 104)) t) ∙ ap length (sym moment-is) ∙ sym l
 
 fits : (c : tie.After-moment-size) → c .moment-size .result ≡ 104 + c .before .tables-size .result + m (c .before .before .before .before .before .args .net) (c .before .before .before .before .before .pre .0) (c .before .before .before .before .before .args .out .now) (c .before .before .before .before .before .pre .1) (c .before .tables-size .result) (c .moment-size .result) (c .before .tables-size .ensures .0) (c .moment-size .ensures .0)
 fits c = whole (c .before .before .before .before .before .args .net) (c .before .before .before .before .before .pre .0) (c .before .before .before .before .before .args .out .now) (c .before .before .before .before .before .pre .1) (c .before .tables-size .result) (c .moment-size .result) (c .before .tables-size .ensures .0) (c .moment-size .ensures .0)
