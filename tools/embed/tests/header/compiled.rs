@@ -16,8 +16,8 @@ pub enum Language {
 impl Language {
     /// C, and C++ where there is a compiler for it.
     pub fn all() -> Vec<Language> {
-        let quiet = Command::new("c++").arg("--version").stdout(Stdio::null()).status();
-        match quiet {
+        let started = Command::new("c++").arg("--version").stdout(Stdio::null()).status();
+        match started {
             Ok(_) => vec![Language::C, Language::CPlusPlus],
             Err(_) => vec![Language::C],
         }
@@ -35,7 +35,8 @@ pub fn root() -> PathBuf {
     Path::new(env!("CARGO_MANIFEST_DIR")).join("../..")
 }
 
-/// The program of this source, linked with these libraries, by whose name no other test compiles.
+/// The program of this source, linked with these libraries. Tests run at once, so each has a name
+/// of its own for its program.
 pub fn compile(name: &str, source: &str, language: Language, libraries: &[&str]) -> PathBuf {
     let program = Path::new(env!("CARGO_TARGET_TMPDIR")).join(format!("{name}-{language:?}"));
     let written = program.with_extension("c");
