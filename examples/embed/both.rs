@@ -48,8 +48,9 @@ fn both_print_the_stored_output() {
         let stored = fs::read(net.with_extension("out")).expect("its output");
         for program in programs() {
             let output = run(program, &[net.as_os_str()]);
-            assert!(output.stderr.is_empty());
             assert!(output.stdout == stored, "{} of {}", program.display(), net.display());
+            // A refused file is explained beside what netrun would print.
+            assert!(output.stderr.is_empty() || stored.starts_with(b"load "));
         }
     }
 }
@@ -77,7 +78,30 @@ fn both_tell_what_is_wrong() {
         let output = run(program, &[OsStr::new("no/such.net")]);
         assert_eq!(output.status.code(), Some(2));
         assert!(output.stderr.starts_with(b"no/such.net: "));
-        let output = run(program, &[OsStr::new("examples/refused-file.net")]);
-        assert_eq!(output.status.code(), Some(1));
+        for arguments in [&["examples/refused-file.net"][..], &["examples/refused-file.net", "0:0"]]
+        {
+            let arguments: Vec<&OsStr> = arguments.iter().map(OsStr::new).collect();
+            let output = run(program, &arguments);
+            assert_eq!(output.status.code(), Some(1));
+            assert_eq!(output.stdout, b"load 7 at 1\n");
+        }
+    }
+}
+
+#[test]
+fn the_c_program_says_what_a_refusal_means() {
+    let output = run(&IN_C, &[OsStr::new("examples/refused-file.net")]);
+    let said = "examples/refused-file.net: the row's table is absent, or the row does not fit\n";
+    assert_eq!(String::from_utf8_lossy(&output.stderr), said);
+}
+
+/// The file's own picks are asked for: a program that reads them off the records knows their kind.
+#[test]
+fn the_c_program_goes_by_the_header() {
+    let program = fs::read_to_string(root().join("examples/embed/embed.c")).expect("the program");
+    assert!(program.contains("tivgeral_picks("));
+    assert!(!program.contains("== 33"));
+    for name in ["TIVGERAL_RECORD", "TIVGERAL_ANSWER", "TIVGERAL_TABLES_MOST"] {
+        assert!(program.contains(name), "{name}");
     }
 }

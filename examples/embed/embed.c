@@ -10,15 +10,11 @@
 
 #include "tivgeral.h"
 
-enum {
-    RECORD = 104, /* bytes of a record */
-    ANSWER = 24,  /* bytes of an answer */
-    PICKS = 256   /* as many as a file can have */
-};
+enum { PICKS = TIVGERAL_PICKS_MOST / 2 }; /* as many as a file can have */
 
-static uint8_t picks[2 * PICKS];
-static uint8_t answers[ANSWER * PICKS];
-static uint8_t tables[RECORD * (8 + 8 * 16)]; /* 8 tables of 16 rows */
+static uint8_t picks[TIVGERAL_PICKS_MOST];
+static uint8_t answers[TIVGERAL_ANSWER * PICKS];
+static uint8_t tables[TIVGERAL_TABLES_MOST];
 
 /* The whole file, also one that is too long: the engine says what is wrong with it. NULL where it can't be read. */
 static uint8_t *read_file(const char *path, size_t *length) {
@@ -33,18 +29,6 @@ static uint8_t *read_file(const char *path, size_t *length) {
         *length = fread(bytes, 1, (size_t)end, input);
     fclose(input);
     return bytes;
-}
-
-/* The calls run the picks that they are given, so the file's own are taken from its records of kind 33. */
-static size_t own_picks(const uint8_t *file, size_t file_len) {
-    size_t length = 0;
-    for (size_t at = 0; at + RECORD <= file_len && length < sizeof picks; at += RECORD) {
-        if (file[at] == 33) {
-            picks[length++] = file[at + 1];
-            picks[length++] = file[at + 2];
-        }
-    }
-    return length;
 }
 
 /* Gives back 1 where an argument is no pick, or there are too many. */
@@ -69,13 +53,13 @@ static uint64_t number_at(const uint8_t *bytes, int length) {
 }
 
 static void print_answers(size_t length) {
-    for (size_t at = 0; at < length; at += ANSWER) {
+    for (size_t at = 0; at < length; at += TIVGERAL_ANSWER) {
         const uint8_t *answer = answers + at;
-        if (number_at(answer, 8) == 0)
-            printf("pick %zu done %llu %llu\n", at / ANSWER, (unsigned long long)number_at(answer + 8, 8),
+        if (number_at(answer, 8) == TIVGERAL_DONE)
+            printf("pick %zu done %llu %llu\n", at / TIVGERAL_ANSWER, (unsigned long long)number_at(answer + 8, 8),
                    (unsigned long long)number_at(answer + 16, 8));
         else
-            printf("pick %zu no %llu\n", at / ANSWER, (unsigned long long)number_at(answer, 8));
+            printf("pick %zu no %llu\n", at / TIVGERAL_ANSWER, (unsigned long long)number_at(answer, 8));
     }
 }
 
@@ -94,23 +78,35 @@ static void print_row(const uint8_t *record) {
     printf("\n");
 }
 
-/* Kind 3 is a row; site and name are at bytes 1 and 4. */
+/* Byte 0 is the kind; site and name are at bytes 1 and 4. */
 static int is_row_of(const uint8_t *record, const uint8_t *table) {
-    return record[0] == 3 && record[1] == table[1] && memcmp(record + 4, table + 4, 4) == 0;
+    return record[0] == TIVGERAL_TABLE_ROW && record[1] == table[1] && memcmp(record + 4, table + 4, 4) == 0;
 }
 
-/* All tables, which are records of kind 2, come first, then the rows of each. */
+/* All tables come first, then the rows of each. */
 static void print_tables(size_t length) {
-    for (size_t at = 0; at < length && tables[at] == 2; at += RECORD) {
+    for (size_t at = 0; at < length && tables[at] == TIVGERAL_TABLE; at += TIVGERAL_RECORD) {
         const uint8_t *table = tables + at;
         size_t rows = 0;
-        for (size_t other = 0; other < length; other += RECORD)
+        for (size_t other = 0; other < length; other += TIVGERAL_RECORD)
             rows += is_row_of(tables + other, table);
         printf("table %d %.4s %zu\n", table[1], (const char *)table + 4, rows);
-        for (size_t other = 0; other < length; other += RECORD)
+        for (size_t other = 0; other < length; other += TIVGERAL_RECORD)
             if (is_row_of(tables + other, table))
                 print_row(tables + other);
     }
+}
+
+/* Each call loads the file and runs all picks; what it puts out has the length that it leaves in place. */
+static uint8_t run(const uint8_t *file, size_t file_len, size_t picks_len, size_t *place) {
+    uint8_t number = tivgeral_answers(file, file_len, picks, picks_len, answers, sizeof answers, place);
+    if (number != TIVGERAL_DONE)
+        return number;
+    print_answers(*place);
+    number = tivgeral_tables(file, file_len, picks, picks_len, tables, sizeof tables, place);
+    if (number == TIVGERAL_DONE)
+        print_tables(*place);
+    return number;
 }
 
 int main(int count, char **words) {
@@ -125,20 +121,20 @@ int main(int count, char **words) {
         perror(words[1]);
         return 2;
     }
-    if (count == 2)
-        picks_len = own_picks(file, file_len);
 
-    /* Each call loads the file and runs all picks; what it puts out has the length that it leaves in place. */
-    size_t place;
-    uint8_t number = tivgeral_answers(file, file_len, picks, picks_len, answers, sizeof answers, &place);
-    if (number == 0) {
-        print_answers(place);
-        number = tivgeral_tables(file, file_len, picks, picks_len, tables, sizeof tables, &place);
+    /* The calls run the picks that they are given, so the file's own are asked for and handed over. */
+    size_t place = 0;
+    uint8_t number = TIVGERAL_DONE;
+    if (count == 2) {
+        number = tivgeral_picks(file, file_len, picks, sizeof picks, &place);
+        picks_len = place;
     }
-    if (number == 0)
-        print_tables(place);
-    else
+    if (number == TIVGERAL_DONE)
+        number = run(file, file_len, picks_len, &place);
+    if (number != TIVGERAL_DONE) {
         printf("load %d at %zu\n", number, place);
+        fprintf(stderr, "%s: %s\n", words[1], tivgeral_text(number));
+    }
     free(file);
-    return number != 0;
+    return number != TIVGERAL_DONE;
 }

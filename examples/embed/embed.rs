@@ -4,7 +4,7 @@
 //!     cargo run --offline -p embed-example --features proved -- examples/update.net
 //!     cargo run --offline -p embed-example --features proved -- examples/update.net 0:0 1:3
 
-use embed::{answers, tables, Answer, Pick, Refused, RECORD};
+use embed::{answers, picks, tables, Answer, Pick, Refused, RECORD};
 use std::process::ExitCode;
 use std::{env, fs};
 
@@ -22,9 +22,7 @@ fn main() -> ExitCode {
         Ok(file) => file,
         Err(error) => return unusable(&format!("{path}: {error}")),
     };
-    // The calls run the picks that they are given, so the file's own are handed over, too.
-    let picks = if given.is_empty() { Pick::of_file(&file) } else { given };
-    match run(&file, &picks) {
+    match run(&file, given) {
         Ok(()) => ExitCode::SUCCESS,
         Err(Refused { number, place }) => {
             println!("load {number} at {place}");
@@ -43,15 +41,17 @@ fn pick(word: &str) -> Option<Pick> {
     Some(Pick { thread: thread.parse().ok()?, row: row.parse().ok()? })
 }
 
-/// Each call loads the file and runs all picks.
-fn run(file: &[u8], picks: &[Pick]) -> Result<(), Refused> {
-    for (place, answer) in answers(file, picks)?.iter().enumerate() {
+/// Each call loads the file and runs the picks that it is given, so the file's own are asked for and
+/// handed over.
+fn run(file: &[u8], given: Vec<Pick>) -> Result<(), Refused> {
+    let picks = if given.is_empty() { picks(file)? } else { given };
+    for (place, answer) in answers(file, &picks)?.iter().enumerate() {
         match answer {
             Answer::Done { added, taken } => println!("pick {place} done {added} {taken}"),
             Answer::Refused(number) => println!("pick {place} no {number}"),
         }
     }
-    print_tables(&tables(file, picks)?);
+    print_tables(&tables(file, &picks)?);
     Ok(())
 }
 

@@ -36,5 +36,8 @@ tries ./program <"$ROOT/examples/printed-run.net"
 exits 0
 prints "0: 1 added, 1 taken"
 prints "11: 0 added, 0 taken"
+tries ./program <"$ROOT/examples/refused-file.net"
+exits 1
+prints "refused by 7 at 1: the row's table is absent, or the row does not fit"
 
 finish

@@ -1,8 +1,8 @@
 //! What the engine answers to a pick, and to a file that it refuses.
 
 /// Why a file is refused (1..9), and the place of the record at fault. Of the calls' other numbers
-/// 21 comes from `trace` alone, since the others lend buffers that have room; picks go over in
-/// pairs of bytes (100).
+/// 21 comes from `trace` and `picks_into` alone, since the others lend buffers that have room;
+/// picks go over in pairs of bytes (100).
 #[derive(Clone, Copy, PartialEq, Eq, Debug)]
 pub struct Refused {
     pub number: u8,

@@ -7,8 +7,10 @@ use crate::{Answer, Pick, Refused, Thread, RECORD};
 const TABLES_ROOM: usize = RECORD * (8 + 8 * 16);
 /// 8 threads.
 const THREADS_ROOM: usize = Thread::SIZE * 8;
+/// 256 records, all of them picks.
+const PICKS_ROOM: usize = Pick::SIZE * 256;
 
-/// Declares calls of the library, which all have one signature.
+/// Declares calls of the library that have one signature.
 macro_rules! declared {
     ($($name:ident),*) => {
         extern "C" {
@@ -38,9 +40,17 @@ extern "C" {
         out_length: usize,
         place: *mut usize,
     ) -> u8;
+
+    fn tivgeral_picks(
+        file: *const u8,
+        file_length: usize,
+        out: *mut u8,
+        out_length: usize,
+        place: *mut usize,
+    ) -> u8;
 }
 
-/// A call of `include/tivgeral.h`.
+/// A call of `include/tivgeral.h` that tells of the net after all picks, or of the picks.
 #[derive(Clone, Copy, PartialEq, Eq, Debug)]
 pub enum Call {
     Tables,
@@ -72,10 +82,7 @@ impl Call {
         let picks = pick_bytes(picks);
         let mut out = vec![0; room];
         let (number, place) = self.on(file, &picks, &mut out);
-        if number != 0 {
-            return Err(Refused { number, place });
-        }
-        out.truncate(place);
+        out.truncate(length(number, place)?);
         Ok(out)
     }
 }
@@ -112,6 +119,28 @@ pub fn trace(file: &[u8], picks: &[Pick], from: usize, out: &mut [u8]) -> Result
     // SAFETY: each pointer goes with the length of its own slice, and the call keeps none.
     let number =
         unsafe { tivgeral_trace(f, file.len(), p, picks.len(), from, o, out.len(), &mut place) };
+    length(number, place)
+}
+
+/// The picks that the file has itself. The other calls run those that they are given.
+pub fn picks(file: &[u8]) -> Result<Vec<Pick>, Refused> {
+    let mut out = [0; PICKS_ROOM];
+    let put = picks_into(file, &mut out)?;
+    Ok(Pick::read_all(&out[..put]))
+}
+
+/// Puts the file's own picks into the buffer, two bytes each, and gives back how many bytes it put
+/// there. A buffer that is too short is refused by 21, and the place is the length that is needed.
+pub fn picks_into(file: &[u8], out: &mut [u8]) -> Result<usize, Refused> {
+    let (f, o) = (file.as_ptr(), out.as_mut_ptr());
+    let mut place = 0;
+    // SAFETY: each pointer goes with the length of its own slice, and the call keeps none.
+    let number = unsafe { tivgeral_picks(f, file.len(), o, out.len(), &mut place) };
+    length(number, place)
+}
+
+/// How many bytes a call put, by its number and place.
+fn length(number: u8, place: usize) -> Result<usize, Refused> {
     match number {
         0 => Ok(place),
         number => Err(Refused { number, place }),

@@ -1,8 +1,10 @@
 //! The proved engine from Rust: a file of records and a list of picks go in, and the answers, the
-//! tables or the threads that they come to go out, or the whole net after each pick.
+//! tables or the threads that they come to go out, or the whole net after each pick. The picks that
+//! a file has itself are given out, too; they are run where they are handed over.
 //!
 //! The calls are those of `include/tivgeral.h`. They are there with the feature `proved`, which
-//! links `target/staticlib/libtivgeral.a`; without it this crate has their results alone.
+//! links `target/staticlib/libtivgeral.a`; without it this crate has their results alone. A call
+//! takes stack space: have 1 MiB free.
 #![deny(unsafe_code)]
 
 mod answer;
@@ -15,11 +17,14 @@ mod value;
 
 pub use answer::{Answer, Refused};
 #[cfg(feature = "proved")]
-pub use calls::{answers, tables, threads, trace, Call};
+pub use calls::{answers, picks, picks_into, tables, threads, trace, Call};
 pub use moment::{Entry, Moment, Table, ThreadState};
 pub use pick::Pick;
 pub use thread::{Thread, Top};
 pub use value::{Kind, Relation, Row, Value};
+
+/// The version of this crate, which is that of the header.
+pub const VERSION: &str = env!("CARGO_PKG_VERSION");
 
 /// Bytes of a record.
 pub const RECORD: usize = 104;

@@ -1,10 +1,5 @@
 //! The scheduler's picks.
 
-use crate::RECORD;
-
-/// The kind byte of a pick's record.
-const PICK: u8 = 33;
-
 /// A choice of a thread place and a row place.
 #[derive(Clone, Copy, PartialEq, Eq, Debug)]
 pub struct Pick {
@@ -13,10 +8,12 @@ pub struct Pick {
 }
 
 impl Pick {
-    /// The file's own picks. The calls leave them out, so whoever wants them run hands them over.
-    pub fn of_file(file: &[u8]) -> Vec<Pick> {
-        let records = file.chunks_exact(RECORD).filter(|record| record[0] == PICK);
-        records.map(|record| Pick { thread: record[1], row: record[2] }).collect()
+    pub const SIZE: usize = 2;
+
+    /// The picks in the bytes that `tivgeral_picks` puts out.
+    pub fn read_all(bytes: &[u8]) -> Vec<Pick> {
+        let picks: &[[u8; Pick::SIZE]] = bytes.as_chunks().0;
+        picks.iter().map(|[thread, row]| Pick { thread: *thread, row: *row }).collect()
     }
 }
 
@@ -25,13 +22,9 @@ mod tests {
     use super::*;
 
     #[test]
-    fn picks_are_the_records_of_their_kind_in_order() {
-        let mut file = [0; 3 * RECORD];
-        file[0] = 32;
-        file[RECORD..RECORD + 3].copy_from_slice(&[33, 4, 255]);
-        file[2 * RECORD..2 * RECORD + 3].copy_from_slice(&[33, 0, 1]);
+    fn threads_and_rows() {
         let picks = [Pick { thread: 4, row: 255 }, Pick { thread: 0, row: 1 }];
-        assert_eq!(Pick::of_file(&file), picks);
-        assert_eq!(Pick::of_file(&[]), []);
+        assert_eq!(Pick::read_all(&[4, 255, 0, 1]), picks);
+        assert_eq!(Pick::read_all(&[]), []);
     }
 }

@@ -1,7 +1,7 @@
 //! Lengths that no safe function gives: each has its number, and the buffer stays as it was.
 #![cfg(feature = "proved")]
 
-use embed::{trace, Call, Refused};
+use embed::{picks, picks_into, trace, Call, Pick, Refused};
 use std::fs;
 
 /// Number and place, for a buffer of so many bytes, which must stay as it was.
@@ -52,4 +52,59 @@ fn a_buffer_too_short_for_a_moment_is_21() {
     assert_eq!(trace(&file(), &[], 0, &mut out), refused);
     assert!(out.iter().all(|byte| *byte == 7), "the buffer was touched");
     assert_eq!(trace(&file(), &[], 0, &mut vec![7; needed]), Ok(needed));
+}
+
+/// A file of so many picks and nothing else.
+fn picks_alone(count: usize) -> Vec<u8> {
+    let record = |place: usize| {
+        let mut record = [0; 104];
+        record[..3].copy_from_slice(&[33, place as u8, 7]);
+        record
+    };
+    (0..count).flat_map(record).collect()
+}
+
+/// What a call for picks comes to with a buffer of so many bytes, and the buffer.
+fn picks_put(file: &[u8], room: usize) -> (Result<usize, Refused>, Vec<u8>) {
+    let mut out = vec![9; room];
+    (picks_into(file, &mut out), out)
+}
+
+#[test]
+fn a_buffer_too_short_for_picks_is_21() {
+    let (file, most) = (picks_alone(3), picks_alone(256));
+    for room in 0..6 {
+        let refused = Err(Refused { number: 21, place: 6 });
+        assert_eq!(picks_put(&file, room), (refused, vec![9; room]));
+    }
+    let refused = Err(Refused { number: 21, place: 512 });
+    assert_eq!(picks_put(&most, 511), (refused, vec![9; 511]));
+}
+
+/// The bytes after the picks stay as they were.
+#[test]
+fn a_buffer_that_has_room_for_picks() {
+    assert_eq!(picks_put(&picks_alone(3), 6), (Ok(6), vec![0, 7, 1, 7, 2, 7]));
+    assert_eq!(picks_put(&picks_alone(3), 9), (Ok(6), vec![0, 7, 1, 7, 2, 7, 9, 9, 9]));
+    assert_eq!(picks_put(&[], 2), (Ok(0), vec![9; 2]));
+    assert_eq!(picks_put(&[], 0), (Ok(0), vec![]));
+}
+
+#[test]
+fn as_many_picks_as_a_file_can_have() {
+    let all: Vec<Pick> = (0..=255).map(|thread| Pick { thread, row: 7 }).collect();
+    assert_eq!(picks(&picks_alone(256)), Ok(all));
+    assert_eq!(picks(&picks_alone(257)), Err(Refused { number: 2, place: 256 }));
+}
+
+/// The file is judged before the buffer, which stays as it was.
+#[test]
+fn a_refused_file_gives_no_picks() {
+    let (mut file, broken) = (picks_alone(3), &picks_alone(3)[1..]);
+    file[104 + 3] = 1;
+    for room in [0, 5, 6, 20] {
+        let refused = |number, place| (Err(Refused { number, place }), vec![9; room]);
+        assert_eq!(picks_put(&file, room), refused(4, 1));
+        assert_eq!(picks_put(broken, room), refused(1, 2));
+    }
 }

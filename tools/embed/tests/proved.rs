@@ -3,14 +3,20 @@
 
 mod stand_in;
 
-use embed::{answers, tables, threads, trace, Moment, Pick, Refused};
+use embed::{answers, picks, tables, threads, trace, Moment, Pick, Refused};
 use generate::{examples, file, Class};
 
 const FILES: u64 = 1_000;
 
-/// Both engines agree after none, half and all of the file's picks.
+/// The file's own picks, or some others for a file that is refused, whatever the picks.
+fn picks_for(file: &[u8]) -> Vec<Pick> {
+    picks(file).unwrap_or(vec![Pick { thread: 0, row: 0 }; 4])
+}
+
+/// Both engines agree on the file's picks, and on what comes after none, half and all of them.
 fn agree(file: &[u8], label: &str) {
-    let picks = Pick::of_file(file);
+    assert_eq!(picks(file), stand_in::picks(file), "{label}");
+    let picks = picks_for(file);
     for count in [0, picks.len() / 2, picks.len()] {
         let picks = &picks[..count];
         let label = format!("{label} after {count} picks");
@@ -25,7 +31,7 @@ type Trace = fn(&[u8], &[Pick], usize, &mut [u8]) -> Result<usize, Refused>;
 
 fn traced(call: Trace, file: &[u8], from: usize, room: usize) -> (Result<usize, Refused>, Vec<u8>) {
     let mut out = vec![7; room];
-    let put = call(file, &Pick::of_file(file), from, &mut out);
+    let put = call(file, &picks_for(file), from, &mut out);
     assert!(out[put.unwrap_or(0)..].iter().all(|byte| *byte == 7), "bytes after the moments");
     (put, out)
 }
@@ -33,7 +39,7 @@ fn traced(call: Trace, file: &[u8], from: usize, room: usize) -> (Result<usize, 
 /// Both engines put the same moments: from the first, a later and a last pick on, into a buffer
 /// that has room for all of them, for some, and for none.
 fn agree_on_moments(file: &[u8], label: &str) {
-    let count = Pick::of_file(file).len();
+    let count = picks_for(file).len();
     for from in [0, count / 2, count, count + 3] {
         for room in [1 << 21, 20_000, 3_000, 103, 0] {
             let given = traced(trace, file, from, room);
@@ -53,7 +59,7 @@ fn moments_of_examples_and_generated_files() {
 #[test]
 fn moments_have_the_tables_and_threads() {
     let file = file(Class::Valid, 3);
-    let picks = Pick::of_file(&file);
+    let picks = picks(&file).expect("a file that loads");
     let mut out = vec![0; 1 << 24];
     let put = trace(&file, &picks, 0, &mut out).expect("a file that loads");
     let moments: Vec<Moment> = Moment::all(&out[..put]).collect();
@@ -91,14 +97,17 @@ fn a_refused_file() {
     assert_eq!(tables(&file, &[]), Err(refused));
     assert_eq!(threads(&file, &[]), Err(refused));
     assert_eq!(trace(&file, &[], 0, &mut []), Err(refused));
+    assert_eq!(picks(&file), Err(refused));
 }
 
-/// The tables of a run load again, as the same tables.
+/// The tables of a run load again, as the same tables, and have no picks.
 #[test]
 fn tables_load_again() {
     for seed in 0..100 {
         let file = file(Class::Valid, seed);
-        let written = tables(&file, &Pick::of_file(&file)).expect("a file that loads");
+        let own = picks(&file).expect("a file that loads");
+        let written = tables(&file, &own).expect("a file that loads");
+        assert_eq!(picks(&written), Ok(Vec::new()));
         assert_eq!(tables(&written, &[]), Ok(written));
     }
 }

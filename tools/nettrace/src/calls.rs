@@ -4,6 +4,9 @@ use embed::{Answer, Pick, Refused};
 
 /// What a file and a list of picks come to.
 pub trait Calls {
+    /// The file's own picks.
+    fn picks(&self, file: &[u8]) -> Result<Vec<Pick>, Refused>;
+
     fn answers(&self, file: &[u8], picks: &[Pick]) -> Result<Vec<Answer>, Refused>;
 
     /// Puts the net after the first `from` picks and after each further one into the buffer, as
@@ -23,6 +26,10 @@ pub struct Proved;
 
 #[cfg(feature = "proved")]
 impl Calls for Proved {
+    fn picks(&self, file: &[u8]) -> Result<Vec<Pick>, Refused> {
+        embed::picks(file)
+    }
+
     fn answers(&self, file: &[u8], picks: &[Pick]) -> Result<Vec<Answer>, Refused> {
         embed::answers(file, picks)
     }

@@ -48,7 +48,10 @@ pub fn trace(
     out: &mut dyn Write,
 ) -> Result<(), Failure> {
     let refused = |refused: Refused| Failure::AtFault(source.refusal(refused));
-    let picks = picks.unwrap_or_else(|| Pick::of_file(source.file()));
+    let picks = match picks {
+        Some(picks) => picks,
+        None => calls.picks(source.file()).map_err(refused)?,
+    };
     let mut run = Run::new(calls, source.file(), &picks).map_err(refused)?;
     let mut before = run.moment().map_err(refused)?;
     let mut teller = Teller::new(Steps::new(source), &before);

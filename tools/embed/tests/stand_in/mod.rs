@@ -6,6 +6,11 @@ mod moment;
 use embed::{Answer, Pick, Refused, Thread, Top};
 use engine::{Entry, Net};
 
+pub fn picks(file: &[u8]) -> Result<Vec<Pick>, Refused> {
+    let (_, picks) = loaded(file)?;
+    Ok(picks.iter().map(|pick| Pick { thread: pick.thread, row: pick.row }).collect())
+}
+
 pub fn answers(file: &[u8], picks: &[Pick]) -> Result<Vec<Answer>, Refused> {
     run(file, picks).map(|(_, answers)| answers.into_iter().map(answer).collect())
 }
@@ -38,11 +43,14 @@ pub fn trace(file: &[u8], picks: &[Pick], from: usize, out: &mut [u8]) -> Result
 }
 
 fn run(file: &[u8], picks: &[Pick]) -> Result<(Net, Vec<engine::Answer>), Refused> {
-    let (mut net, _) =
-        engine::load(file).map_err(|fault| Refused { number: fault.number, place: fault.place })?;
+    let (mut net, _) = loaded(file)?;
     let picks: Vec<engine::Pick> = picks.iter().map(own).collect();
     let answers = engine::run(&mut net, &picks);
     Ok((net, answers))
+}
+
+fn loaded(file: &[u8]) -> Result<(Net, Vec<engine::Pick>), Refused> {
+    engine::load(file).map_err(|fault| Refused { number: fault.number, place: fault.place })
 }
 
 fn own(pick: &Pick) -> engine::Pick {

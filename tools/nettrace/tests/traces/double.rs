@@ -14,6 +14,10 @@ use nettrace::{parse_picks, trace, Calls, Source};
 pub struct StandIn;
 
 impl Calls for StandIn {
+    fn picks(&self, file: &[u8]) -> Result<Vec<Pick>, Refused> {
+        stand_in::picks(file)
+    }
+
     fn answers(&self, file: &[u8], picks: &[Pick]) -> Result<Vec<Answer>, Refused> {
         stand_in::answers(file, picks)
     }

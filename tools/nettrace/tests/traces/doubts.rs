@@ -2,12 +2,17 @@
 
 use crate::double::{stand_in, StandIn};
 use embed::{Answer, Pick, Refused};
+use nettext::cli::Failure;
 use nettrace::{trace, Calls, Source};
 
 /// The stand-in, but for its answers.
 struct Answering(Answer);
 
 impl Calls for Answering {
+    fn picks(&self, file: &[u8]) -> Result<Vec<Pick>, Refused> {
+        stand_in::picks(file)
+    }
+
     fn answers(&self, _: &[u8], picks: &[Pick]) -> Result<Vec<Answer>, Refused> {
         Ok(vec![self.0; picks.len()])
     }
@@ -60,4 +65,41 @@ fn a_case_that_is_not_there_is_not_told() {
         assert!(!told.contains("stay as they were"), "{told}");
     }
     assert!(told(&Answering(Answer::Refused(99))).contains("\n    refused: 99"));
+}
+
+/// The stand-in, but for the picks of a file.
+struct Picking(Result<Vec<Pick>, Refused>);
+
+impl Calls for Picking {
+    fn picks(&self, _: &[u8]) -> Result<Vec<Pick>, Refused> {
+        self.0.clone()
+    }
+
+    fn answers(&self, file: &[u8], picks: &[Pick]) -> Result<Vec<Answer>, Refused> {
+        stand_in::answers(file, picks)
+    }
+
+    fn trace(
+        &self,
+        file: &[u8],
+        picks: &[Pick],
+        from: usize,
+        out: &mut [u8],
+    ) -> Result<usize, Refused> {
+        stand_in::trace(file, picks, from, out)
+    }
+}
+
+/// A file's own picks are those that the engine gives out, and not what stands in its records.
+#[test]
+fn own_picks_are_those_that_the_engine_gives() {
+    let told = told(&Picking(Ok(vec![Pick { thread: 6, row: 0 }])));
+    assert!(told.starts_with("pick 0: thread 6, which is not there\n"), "{told}");
+    let refused = Picking(Err(Refused { number: 7, place: 1 }));
+    let source = Source::of_records("net", Vec::new());
+    let mut out = Vec::new();
+    let Err(Failure::AtFault(report)) = trace(&refused, &source, None, &mut out) else {
+        panic!("the picks were refused");
+    };
+    assert!(out.is_empty() && report.starts_with("net: load 7 at 1: "), "{report}");
 }

@@ -25,6 +25,10 @@ struct Narrow<'a> {
 }
 
 impl Calls for Narrow<'_> {
+    fn picks(&self, file: &[u8]) -> Result<Vec<Pick>, Refused> {
+        stand_in::picks(file)
+    }
+
     fn answers(&self, file: &[u8], picks: &[Pick]) -> Result<Vec<Answer>, Refused> {
         self.log.0.borrow_mut().push(Event::Answers);
         stand_in::answers(file, picks)

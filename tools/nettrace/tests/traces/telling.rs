@@ -1,6 +1,6 @@
 //! What is told of a run: the nets before and after it, and each pick with its thread and step.
 
-use crate::double::{told, traced};
+use crate::double::{stand_in, told, traced};
 use embed::Pick;
 use generate::{file, Class};
 use nettrace::Source;
@@ -168,7 +168,7 @@ fn rows_shown_agree_with_the_counts() {
         let told = told(&source, None).expect("a net that loads");
         let turns: Vec<&str> =
             told.split("\n\n").filter(|part| part.starts_with("pick ")).collect();
-        assert_eq!(turns.len(), Pick::of_file(&file).len());
+        assert_eq!(Ok(turns.len()), stand_in::picks(&file).map(|own| own.len()));
         picks += turns.len();
         turns.iter().for_each(|turn| assert_eq!(shown(turn), answered(turn), "{turn}"));
         turns.iter().for_each(|turn| assert!(names_its_case(turn), "{turn}"));
