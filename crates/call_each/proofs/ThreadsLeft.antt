@@ -16,7 +16,7 @@ use Rattle.value_bytes.specs.Bytes.{endToEnd}
 use Rattle.value_bytes.proofs.Stores.{ends-length}
 use Rattle.call_rules.specs.Layouts.{threadBytes, threadsPut}
 use Rattle.call_rules.specs.Openings.{AllStacked}
-use Rattle.call_moment.proofs.SoundParts.{threads-of}
+use Rattle.call_moment.proofs.NetShapes.{threads-of}
 use Rattle.call_thread.proofs.ThreadLaws.{bytesOf, thread-length, threads-are}
 
 pub all-stacked : (net : Net) → T (sound (view net)) → AllStacked (net .threadcount) (net .threads)

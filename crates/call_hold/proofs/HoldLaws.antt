@@ -27,7 +27,7 @@ use Rattle.value_bytes.specs.Bytes.{endToEnd}
 use Rattle.value_bytes.proofs.Stores.{ends-append, ends-length}
 use Rattle.call_rules.specs.Layouts.{toVisit, visitBytes}
 use Rattle.call_rules.specs.Moments.{valuesRecord, variableRecord, variableRecords, relationHead, relationRecords, bindingsRecords, entryRecord, threadHead, threadRecords}
-use Rattle.call_hold.specs.Holdings.{VariableShaped, RelationsShaped, rowsHeld, recordsHeld}
+use Rattle.call_hold.specs.Holdings.{VariableShaped, RelationsShaped, rowsGiven, recordsGiven}
 use Rattle.call_hold.proofs.RecordLaws.{Sized, sized-length, sized-append, sized-map, sized-firsts, values-length}
 
 -- ── variables ──
@@ -53,19 +53,13 @@ variables-sized vs = sized-map (variableRecord vs) (variable-length vs) (places 
 -- ── table variables ──
 
 -- an unbound one has its own record alone, a bound one that and its rows
-pub none-held : (v : TableVariable) → v .bound ≡ false → rowsHeld v ≡ 0
+pub none-held : (v : TableVariable) → v .bound ≡ false → rowsGiven v ≡ 0
 none-held v e = rw e refl
 
-pub some-held : (v : TableVariable) → v .bound ≡ true → rowsHeld v ≡ v .content .count
+pub some-held : (v : TableVariable) → v .bound ≡ true → rowsGiven v ≡ v .content .count
 some-held v e = rw e refl
 
-pub unbound : (v : TableVariable) → v .bound ≡ false → variableOf v ≡ none
-unbound v e = rw e refl
-
-pub bound : (v : TableVariable) → v .bound ≡ true → variableOf v ≡ some (relationOf (v .content))
-bound v e = rw e refl
-
-relation-count : (i : ℕ) (v : TableVariable) → length (relationRecords i (variableOf v)) ≡ 1 + rowsHeld v
+relation-count : (i : ℕ) (v : TableVariable) → length (relationRecords i (variableOf v)) ≡ 1 + rowsGiven v
 relation-count i v = go (v .bound)
   where
     go : (b : Bool) → length (relationRecords i (cond b (some (relationOf (v .content))) none)) ≡ 1 + cond b (v .content .count) 0
@@ -75,12 +69,6 @@ relation-count i v = go (v .bound)
 pub head-length : (i b : ℕ) (cs : List ℕ) → length (relationHead i b cs) ≡ 104
 unfolding relationHead
 head-length i b cs = refl
-
--- the rows of a relation in its array
-pub rows-length : (i : ℕ) (r : Relation) → Shaped r → length (endToEnd (map (valuesRecord 68 i) (relationOf r .rows))) ≡ r .count * 104
-rows-length i r k =
-    ap (λ (l : List (List ℕ)). length (endToEnd l)) (map-firsts (valuesRecord 68 i) (valuesOf (r .columns)) noRow (r .count) (r .rows))
-    ∙ ends-length (λ (x : Row). valuesRecord 68 i (valuesOf (r .columns) x)) noRow 104 (λ x. values-length (r .columns) x (k .columns) 68 i) (r .count) (r .rows)
 
 relation-sized : (i : ℕ) (v : TableVariable) → VariableShaped v → Sized (relationRecords i (variableOf v))
 relation-sized i v k = go (v .bound) (k .shaped)
@@ -118,7 +106,7 @@ module _ (vs : List Slot) (rs : List TableVariable) where
   pub bindings-are : bindingsRecords (bindingsOf vs rs) ≡ variableRecords (varsOf vs) ++ (relationRecords 0 (variableOf (getD rs 0 noVariable)) ++ relationRecords 1 (variableOf (getD rs 1 noVariable)))
   bindings-are = rw (List·getD-map variableOf rs 0 noVariable, List·getD-map variableOf rs 1 noVariable)
 
-  pub bindings-count : length (bindingsRecords (bindingsOf vs rs)) ≡ recordsHeld rs
+  pub bindings-count : length (bindingsRecords (bindingsOf vs rs)) ≡ recordsGiven rs
   bindings-count =
       ap length bindings-are
       ∙ simp length-append (omega (arith, variables-count (varsOf vs), relation-count 0 (getD rs 0 noVariable), relation-count 1 (getD rs 1 noVariable)))
@@ -133,10 +121,10 @@ module _ (vs : List Slot) (rs : List TableVariable) where
 pub variables-long : (vs : List Slot) → length (endToEnd (variableRecords (varsOf vs))) ≡ 1664
 variables-long vs = sized-length (variableRecords (varsOf vs)) (variables-sized (varsOf vs)) ∙ ap (λ (n : ℕ). n * 104) (variables-count (varsOf vs))
 
-pub relation-long : (i : ℕ) (v : TableVariable) → VariableShaped v → length (endToEnd (relationRecords i (variableOf v))) ≡ (1 + rowsHeld v) * 104
+pub relation-long : (i : ℕ) (v : TableVariable) → VariableShaped v → length (endToEnd (relationRecords i (variableOf v))) ≡ (1 + rowsGiven v) * 104
 relation-long i v k = sized-length (relationRecords i (variableOf v)) (relation-sized i v k) ∙ ap (λ (n : ℕ). n * 104) (relation-count i v)
 
-pub bindings-long : (vs : List Slot) (rs : List TableVariable) → RelationsShaped rs → length (endToEnd (bindingsRecords (bindingsOf vs rs))) ≡ recordsHeld rs * 104
+pub bindings-long : (vs : List Slot) (rs : List TableVariable) → RelationsShaped rs → length (endToEnd (bindingsRecords (bindingsOf vs rs))) ≡ recordsGiven rs * 104
 bindings-long vs rs k = sized-length (bindingsRecords (bindingsOf vs rs)) (bindings-sized vs rs k) ∙ ap (λ (n : ℕ). n * 104) (bindings-count vs rs)
 
 pub thread-head : (s d : ℕ) → length (threadHead s d) ≡ 104
@@ -156,7 +144,7 @@ module _ (t : Thread) where
   pub thread-are : endToEnd (threadRecords (threadOf t)) ≡ threadHead (t .site .0) (t .depth) ++ (endToEnd bindings ++ endToEnd entries)
   thread-are = rw (length-stack (t .depth) (t .stack), ends-append bindings entries)
 
-  pub thread-count : length (threadRecords (threadOf t)) ≡ 1 + recordsHeld (t .relations) + t .depth
+  pub thread-count : length (threadRecords (threadOf t)) ≡ 1 + recordsGiven (t .relations) + t .depth
   thread-count = omega (arith, length-append bindings entries, bindings-count (t .vars) (t .relations), entries-count)
 
   pub thread-sized : RelationsShaped (t .relations) → Sized (threadRecords (threadOf t))

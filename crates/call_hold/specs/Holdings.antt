@@ -1,5 +1,5 @@
 -- Counts of what a thread holds, within their arrays. Only the code speaks of it: the rule is `threadRecords`.
-use Prim.Native.Nat.{ℕ, _+_, _≤_}
+use Prim.Native.Nat.{ℕ, _+_}
 use mathlib.Core.Path.{_≡_}
 use mathlib.Core.Bool.{true, cond}
 use mathlib.Core.List.{List}
@@ -18,9 +18,9 @@ pub record RelationsShaped (rs : List TableVariable) : Type 0 where
   pub second : VariableShaped (getD rs 1 noVariable)
 
 -- the rows that are given out
-abbrev pub rowsHeld : TableVariable → ℕ
-rowsHeld v = cond (v .bound) (v .content .count) 0
+abbrev pub rowsGiven : TableVariable → ℕ
+rowsGiven v = cond (v .bound) (v .content .count) 0
 
 -- the records of bindings: sixteen variables, two table variables, their rows
-abbrev pub recordsHeld : List TableVariable → ℕ
-recordsHeld rs = 18 + rowsHeld (getD rs 0 noVariable) + rowsHeld (getD rs 1 noVariable)
+abbrev pub recordsGiven : List TableVariable → ℕ
+recordsGiven rs = 18 + rowsGiven (getD rs 0 noVariable) + rowsGiven (getD rs 1 noVariable)

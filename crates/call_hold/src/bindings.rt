@@ -18,7 +18,7 @@ ghost use Rattle.rows.specs.View.{relationOf};
 ghost use Rattle.nets.specs.View.{variableOf, bindingsOf};
 ghost use Rattle.value_bytes.specs.Bytes.{endToEnd};
 ghost use Rattle.call_rules.specs.Moments.{valuesRecord, variableRecords, relationRecords, bindingsRecords};
-ghost use Rattle.call_hold.specs.Holdings.{VariableShaped, RelationsShaped, rowsHeld, recordsHeld};
+ghost use Rattle.call_hold.specs.Holdings.{VariableShaped, RelationsShaped, rowsGiven, recordsGiven};
 
 // Where the variables end.
 const VARIABLES_END: usize = 1664;
@@ -59,9 +59,9 @@ fn put_variables(out: &mut [u8], vars: [Slot; 16])
 // ---- table variables
 
 // How many rows a table variable gives out: one that is unbound none.
-fn rows_held(v: TableVariable) -> usize
+fn rows_given(v: TableVariable) -> usize
     requires { ⌜ VariableShaped v ⌝ }
-    ensures { λ r. ⌜ (r ≡ rowsHeld v) × (r ≤ 16) ⌝ }
+    ensures { λ r. ⌜ (r ≡ rowsGiven v) × (r ≤ 16) ⌝ }
 {
     let content = v.content;
     if v.bound { content.count } else { 0 }
@@ -87,7 +87,7 @@ fn put_rows(out: &mut [u8], number: u8, content: Relation)
 }
 
 fn put_relation(out: &mut [u8], number: u8, v: TableVariable)
-    requires { ⌜ VariableShaped v × (length (now out) ≡ 104 + rowsHeld v * 104) ⌝ }
+    requires { ⌜ VariableShaped v × (length (now out) ≡ 104 + rowsGiven v * 104) ⌝ }
     ensures { λ _. ⌜ now (out .exit) ≡ endToEnd (relationRecords number (variableOf v)) ⌝ }
 {
     let content = v.content;
@@ -106,19 +106,19 @@ fn put_relation(out: &mut [u8], number: u8, v: TableVariable)
 // How many records bindings have.
 pub fn bindings_records(relations: [TableVariable; 2]) -> usize
     requires { ⌜ RelationsShaped relations ⌝ }
-    ensures { λ r. ⌜ (r ≡ recordsHeld relations) × (r ≤ 50) ⌝ }
+    ensures { λ r. ⌜ (r ≡ recordsGiven relations) × (r ≤ 50) ⌝ }
 {
-    18 + rows_held(relations[0]) + rows_held(relations[1])
+    18 + rows_given(relations[0]) + rows_given(relations[1])
 }
 
 pub fn put_bindings(out: &mut [u8], vars: [Slot; 16], relations: [TableVariable; 2])
-    requires { ⌜ RelationsShaped relations × (length (now out) ≡ recordsHeld relations * 104) ⌝ }
+    requires { ⌜ RelationsShaped relations × (length (now out) ≡ recordsGiven relations * 104) ⌝ }
     ensures { λ _. ⌜ now (out .exit) ≡ endToEnd (bindingsRecords (bindingsOf vars relations)) ⌝ }
 {
     let first = relations[0];
     let second = relations[1];
-    let middle = VARIABLES_END + (1 + rows_held(first)) * RECORD;
-    let end = middle + (1 + rows_held(second)) * RECORD;
+    let middle = VARIABLES_END + (1 + rows_given(first)) * RECORD;
+    let end = middle + (1 + rows_given(second)) * RECORD;
     put_variables(&mut out[0..VARIABLES_END], vars);
     put_relation(&mut out[VARIABLES_END..middle], 0, first);
     put_relation(&mut out[middle..end], 1, second);

@@ -31,7 +31,7 @@ fn put_entries(out: &mut [u8], stack: [Frame; 8], depth: usize)
 }
 
 // How many records a thread has: its own, those of its bindings, and its entries.
-pub fn thread_records(t: Thread) -> usize
+pub fn count_records(t: Thread) -> usize
     requires { ⌜ RelationsShaped (t .relations) × (t .depth ≤ 8) ⌝ }
     ensures { λ r. ⌜ (r ≡ length (threadRecords (threadOf t))) × (r ≤ 59) ⌝ }
 {
@@ -39,7 +39,7 @@ pub fn thread_records(t: Thread) -> usize
     1 + bindings_records(relations) + t.depth
 }
 
-pub fn put_thread(out: &mut [u8], t: Thread)
+pub fn put_records(out: &mut [u8], t: Thread)
     requires { ⌜ RelationsShaped (t .relations) × (t .depth ≤ 8) × (length (now out) ≡ length (threadRecords (threadOf t)) * 104) ⌝ }
     ensures { λ _. ⌜ now (out .exit) ≡ endToEnd (threadRecords (threadOf t)) ⌝ }
 {

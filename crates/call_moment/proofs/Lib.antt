@@ -1,4 +1,4 @@
 -- Laws of a moment's records, and of what a sound net gives them.
 pub mod MomentLaws
-pub mod SoundParts
-pub mod StandingLaws
+pub mod NetShapes
+pub mod ThreadRecordLaws

@@ -18,10 +18,10 @@ use Rattle.value_bytes.proofs.Stores.{ends-append}
 use Rattle.files.specs.Writing.{rowsBytes, allRows, written}
 use Rattle.write_fields.proofs.WriteLaws.{row-length, table-length}
 use Rattle.write.proofs.WholeLaws.{shaped-at, rows-append}
-use Rattle.call_rules.specs.Moments.{allThreads, momentHead, momentRecords, momentPut}
+use Rattle.call_rules.specs.Moments.{allThreads, momentHead, momentPut}
 use Rattle.call_hold.proofs.RecordLaws.{Sized, sized-length, sized-append, sized-map, sized-firsts}
-use Rattle.call_moment.proofs.SoundParts.{threads-of, tables-of, tables-ok, all-shaped}
-use Rattle.call_moment.proofs.StandingLaws.{standing-sized}
+use Rattle.call_moment.proofs.NetShapes.{threads-of, tables-of, tables-ok, all-shaped}
+use Rattle.call_moment.proofs.ThreadRecordLaws.{threads-sized}
 
 pub head-length : (a b n : ℕ) → length (momentHead a b n) ≡ 104
 unfolding momentHead
@@ -68,11 +68,8 @@ module _ (net : Net) (ok : T (sound (view net))) where
   abbrev records : List (List ℕ)
   records = (map tableBytes tables ++ allRows tables) ++ allThreads threads
 
-  records-are : momentRecords (view net) ≡ records
-  records-are = rw (tables-of net, threads-of net)
-
   records-sized : Sized records
-  records-sized = sized-append (map tableBytes tables ++ allRows tables) (allThreads threads) tables-sized (standing-sized (net .threadcount) (net .threads) (all-shaped net ok) (net .threadcount) (omega arith))
+  records-sized = sized-append (map tableBytes tables ++ allRows tables) (allThreads threads) tables-sized (threads-sized (net .threadcount) (net .threads) (all-shaped net ok) (net .threadcount) (omega arith))
 
   abbrev head : ℕ → List ℕ
   head n = momentHead (length tables) (length threads) n

@@ -1,2 +1,2 @@
 -- What the functions on a moment require.
-pub mod Standing
+pub mod Shapes

@@ -1,6 +1,6 @@
 // A moment of a run as records: all tables and rows, and all that threads hold.
-use crate::threads::put_threads;
-use crate::threads::threads_records;
+use crate::threads::count_all;
+use crate::threads::put_all;
 use nets::Net;
 use record_bytes::KINDS;
 use record_bytes::RECORD;
@@ -44,9 +44,7 @@ pub fn moment_size(net: Net) -> usize
 {
     let tables = net.tables;
     let threads = net.threads;
-    RECORD
-        + tables_size(tables, net.tablecount)
-        + threads_records(threads, net.threadcount) * RECORD
+    RECORD + tables_size(tables, net.tablecount) + count_all(threads, net.threadcount) * RECORD
 }
 
 pub fn put_moment(out: &mut [u8], net: Net)
@@ -64,5 +62,5 @@ pub fn put_moment(out: &mut [u8], net: Net)
         end / RECORD,
     );
     write_tables(&mut out[RECORD..middle], tables, net.tablecount);
-    put_threads(&mut out[middle..end], threads, net.threadcount);
+    put_all(&mut out[middle..end], threads, net.threadcount);
 }

@@ -1,4 +1,4 @@
-// What every call begins with: the length of the picks is judged, then the file is loaded.
+// What every call with picks begins with: the length of the picks is judged, then the file is loaded.
 use call_rules::NotOpened;
 use call_rules::Opened;
 use call_rules::Opening;

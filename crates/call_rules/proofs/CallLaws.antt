@@ -1,16 +1,14 @@
 -- What a call comes to, by its first two checks. Assumes nothing.
 use Prim.Native.Nat.{ℕ, _-_, _%_, _^_, _≤_, _<_}
 use mathlib.Core.Path.{_≡_, refl, sym, ap, _∙_}
-use mathlib.Core.Bool.{Bool, true, false, cond}
 use mathlib.Core.List.{List, _++_}
 use mathlib.Core.Option.{Option, none, some}
 use native.Mathlib.Nat.{sub-zero}
 use native.Mathlib.Omega.{arith}
-use lib.Dec.{T, leb}
+use lib.Dec.{T}
 use lib.ListN.{length, drop}
 use borrow.Author.Tests.{eq-eqb, ne-eqb, le-leb, lt-leb}
 use Rattle.nets.specs.declared.Pick.{Pick}
-use Rattle.values.proofs.Bools.{is-true}
 use Rattle.nets.specs.Nets.{Net}
 use Rattle.nets.specs.Sound.{sound}
 use Rattle.nets.specs.View.{view}
@@ -29,7 +27,7 @@ use Rattle.call_rules.specs.declared.Opening.the-variants.{Accepted, Ref
 use Rattle.call_rules.specs.declared.Opened.{Opened}
 use Rattle.value_bytes.specs.Bytes.{putAll}
 use Rattle.step_bytes.specs.PickBytes.{picksIn}
-use Rattle.call_rules.specs.Replies.{Called, refusing, putting, needed, ifRoom}
+use Rattle.call_rules.specs.Replies.{Called, refusing, needed, ifRoomFor, ifRoom}
 use Rattle.call_rules.specs.Calls.{onLoaded, called, Gives}
 use Rattle.call_rules.specs.Openings.{openingBy, refusalReply, openingGives, OpenIs}
 
@@ -84,13 +82,13 @@ needed-is n h = rw (le-leb n (2 ^ 64 - 1) (omega arith)) refl
 
 module _ (bs o : List ℕ) (n : ℕ) (l : length bs ≡ n) where
   pub gives-short : (p : ℕ) → length o < n → p ≡ needed n → Gives (ifRoom bs o) o o 21 p
-  unfolding ifRoom
+  unfolding ifRoomFor
   gives-short p h q = rw (l, lt-leb n (length o) h) (record { number = refl; place = q; buffer = refl })
 
   pub gives-put : (ys : List ℕ) → n ≤ length o → ys ≡ bs → Gives (ifRoom bs o) o (ys ++ drop (n - 0) o) 0 n
-  unfolding ifRoom
+  unfolding ifRoomFor
   gives-put ys h e = rw (l, le-leb n (length o) h, e, sub-zero) (record { number = refl; place = sym l; buffer = rw l refl })
 
   pub gives-all : (out : List ℕ) → n ≤ length o → out ≡ putAll bs o → Gives (ifRoom bs o) o out 0 n
-  unfolding ifRoom putAll
+  unfolding ifRoomFor putAll
   gives-all out h e = rw (e, l, le-leb n (length o) h) (record { number = refl; place = sym l; buffer = rw l refl })

@@ -1,9 +1,9 @@
 -- The contracts of the calls: the answer, and every byte of the lent buffer. A call has a file, most have picks of two bytes each, and a buffer.
-use Prim.Native.Nat.{ℕ, _-_, _%_, _^_}
+use Prim.Native.Nat.{ℕ, _%_}
 use mathlib.Core.Path.{_≡_}
 use mathlib.Core.Bool.{cond}
 use mathlib.Core.List.{List, _++_}
-use lib.Dec.{eqb, leb}
+use lib.Dec.{eqb}
 use lib.ListN.{length, drop}
 use Rattle.nets.specs.declared.Pick.{Pick}
 use Rattle.nets.specs.Nets.{Net}

@@ -30,9 +30,9 @@ use Rattle.files.specs.Writing.{written}
 use Rattle.value_bytes.specs.Bytes.{endToEnd, eightBytes}
 use Rattle.step_bytes.specs.AnswerBytes.{threeBytes, answerBytes, answersPut}
 use Rattle.call_rules.specs.Layouts.{visitBytes, headBytes, threadBytes, tablesPut, threadsPut, picksPut}
-use Rattle.call_rules.specs.Replies.{Called, refusing, putting, ifRoom}
-use Rattle.call_rules.specs.Moments.{valuesRecord, variableRecords, relationHead, bindingsRecords, entryRecord, threadHead, momentHead, momentPut}
-use Rattle.call_rules.specs.Traces.{tracePut, tracedFrom, traced}
+use Rattle.call_rules.specs.Replies.{Called, refusing, putting, ifRoomFor, ifRoom}
+use Rattle.call_rules.specs.Moments.{valuesRecord, variableRecords, relationHead, bindingsRecords, entryRecord, threadHead, threadRecords, momentHead, momentPut}
+use Rattle.call_rules.specs.Traces.{tracePut, traced}
 use Rattle.call_rules.specs.Calls.{onLoaded, called, bufferIn}
 
 abbrev z : ℕ → List ℕ
@@ -61,7 +61,7 @@ twice = z 4
 
 -- all definitions that a call computes with: to unfold this is to unfold them all
 opened : Unit {0}
-unfolding bind textOrder matches hits draft tupleFor changes selectedColumns aggregated distinct change fieldsOkAs linksOkAs sound sceneOf siteOfL site table relation source anyReady opens readsOk check12 check13 check14 check15 check16 check17 check18 check19 check20 rowsBy tablesBy addedBy takenBy boundBy varsBy bindingsBy threadsAfter netAfter performed firstRefusal checks step nextNet after answers kindAt operandForm operandIn operandsForm operandsIn nodeIn aliasForm tableForm rowForm nodeBytes startForm pickForm recordIn recordsIn loadChecks put advance readAll firstBadLink load loadBytes tupleBytes tableBytes rowBytes written eightBytes threeBytes answerBytes visitBytes headBytes threadBytes tablesPut answersPut threadsPut picksPut ifRoom called valuesRecord variableRecords relationHead entryRecord threadHead momentHead momentPut tracePut tracedFrom
+unfolding bind textOrder matches hits draft tupleFor changes selectedColumns aggregated distinct change fieldsOkAs linksOkAs sound sceneOf siteOfL site table relation source anyReady opens readsOk check12 check13 check14 check15 check16 check17 check18 check19 check20 rowsBy tablesBy addedBy takenBy boundBy varsBy bindingsBy threadsAfter netAfter performed firstRefusal checks step nextNet after answers kindAt operandForm operandIn operandsForm operandsIn nodeIn aliasForm tableForm rowForm nodeBytes startForm pickForm recordIn recordsIn loadChecks put advance readAll firstBadLink load loadBytes tupleBytes tableBytes rowBytes written eightBytes threeBytes answerBytes visitBytes headBytes threadBytes tablesPut answersPut threadsPut picksPut ifRoomFor called valuesRecord variableRecords relationHead entryRecord threadHead momentHead momentPut tracePut
 opened = tt
 
 -- a call that hands out these bytes, with a buffer of n bytes
@@ -122,7 +122,7 @@ abbrev inserted : List ℕ
 inserted = 64 ∷ 1 ∷ 0 ∷ 0 ∷ 3 ∷ z 99 ++ (nums ++ (3 ∷ z 3 ++ (NUMS ++ (z 48 ++ (five ++ z 40)))))
 
 -- from the first pick on, both moments left are the same: the second pick is refused
-pub trace-from-one : called (λ net ps. traced 1 net ps (replicate 700 7)) file twice ≡ putting (inserted ++ inserted)
+pub trace-from-one : called (λ net ps. traced 1 net ps (replicate 624 7)) file twice ≡ putting (inserted ++ inserted)
 unfolding opened
 trace-from-one = refl
 
@@ -130,6 +130,11 @@ trace-from-one = refl
 pub trace-of-one : called (λ net ps. traced 1 net ps (replicate 623 7)) file twice ≡ putting inserted
 unfolding opened
 trace-of-one = refl
+
+-- just enough for the last one
+pub trace-of-the-last : called (λ net ps. traced 9 net ps (replicate 312 7)) file twice ≡ putting inserted
+unfolding opened
+trace-of-the-last = refl
 
 pub trace-short : called (λ net ps. traced 9 net ps (replicate 311 7)) file twice ≡ refusing 21 312
 unfolding opened
@@ -158,3 +163,15 @@ bound = refl
 pub entry-of-loop : entryRecord (visiting 3 (1 ∷ [])) ≡ 69 ∷ 1 ∷ 3 ∷ z 6 ++ (1 ∷ z 94)
 unfolding opened
 entry-of-loop = refl
+
+-- a thread at site 2: T1 is bound, with the rows (5) and (5); a loop at node 3 stands above node 4 to run
+pub thread-whole : endToEnd (threadRecords (record { site = record { 0 = 2 }; bindings = record { vars = []; relations = none ∷ some (record { columns = 1 ∷ []; rows = (Int (pos 5) ∷ []) ∷ (Int (pos 5) ∷ []) ∷ [] }) ∷ [] }; stack = visiting 3 (1 ∷ []) ∷ toRun 4 ∷ [] }))
+    ≡ 65 ∷ 2 ∷ 2 ∷ z 101
+    ++ (endToEnd (map (λ (i : ℕ). 66 ∷ i ∷ z 102) (places 0 16))
+    ++ (67 ∷ z 103
+    ++ (67 ∷ 1 ∷ 1 ∷ z 5 ++ (1 ∷ z 95)
+    ++ (68 ∷ 1 ∷ z 54 ++ (five ++ z 40)
+    ++ (68 ∷ 1 ∷ z 54 ++ (five ++ z 40)
+    ++ (69 ∷ 1 ∷ 3 ∷ z 6 ++ (1 ∷ z 94) ++ (69 ∷ 0 ∷ 4 ∷ z 101)))))))
+unfolding opened
+thread-whole = refl

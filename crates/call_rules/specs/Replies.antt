@@ -14,6 +14,10 @@ pub data Called : Type 0 where
 abbrev pub needed : ℕ → ℕ
 needed n = cond (leb n (2 ^ 64 - 1)) n (2 ^ 64 - 1)
 
--- 21, with the length that is needed, where the buffer is too short
-unfoldable pub ifRoom : List ℕ → List ℕ → Called
-ifRoom bs buffer = cond (leb (length bs) (length buffer)) (putting bs) (refusing 21 (needed (length bs)))
+-- these bytes, where the buffer has room for `n`; else 21, with the length that is needed
+unfoldable pub ifRoomFor : ℕ → List ℕ → List ℕ → Called
+ifRoomFor n bs buffer = cond (leb n (length buffer)) (putting bs) (refusing 21 (needed n))
+
+-- room for all of them
+abbrev pub ifRoom : List ℕ → List ℕ → Called
+ifRoom bs buffer = ifRoomFor (length bs) bs buffer

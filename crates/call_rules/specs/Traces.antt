@@ -8,7 +8,7 @@ use Rattle.nets.specs.declared.Pick.{Pick}
 use Rattle.nets.specs.Nets.{Net}
 use Rattle.nets.specs.Accounts.{nextNet, after}
 use Rattle.call_rules.specs.Moments.{momentPut}
-use Rattle.call_rules.specs.Replies.{Called, refusing, putting}
+use Rattle.call_rules.specs.Replies.{Called, ifRoomFor}
 
 -- the net after each pick
 abbrev pub netsAfter : Net → List Pick → List Net
@@ -24,11 +24,10 @@ inRoom room (bs ∷ l) = cond (leb (length bs) room) (bs ++ inRoom (room - lengt
 unfoldable pub tracePut : Net → List Pick → ℕ → List ℕ
 tracePut net ps room = inRoom room (map momentPut (net ∷ netsAfter net ps))
 
--- 21, with the length that is needed, where not even the first moment has room
-unfoldable pub tracedFrom : Net → List Pick → List ℕ → Called
-tracedFrom net ps buffer =
-    cond (leb (length (momentPut net)) (length buffer)) (putting (tracePut net ps (length buffer))) (refusing 21 (length (momentPut net)))
+-- there must be room for the first moment
+abbrev pub tracedFrom : Net → List Pick → List ℕ → Called
+tracedFrom net ps buffer = ifRoomFor (length (momentPut net)) (tracePut net ps (length buffer)) buffer
 
--- the first `from` picks are carried out and leave no moment but the last
+-- the first moment is that after the first `from` picks
 abbrev pub traced : ℕ → Net → List Pick → List ℕ → Called
 traced from net ps buffer = tracedFrom (after net (take from ps)) (drop from ps) buffer

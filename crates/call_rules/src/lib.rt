@@ -3,7 +3,7 @@ use nets::Net;
 ghost use mathlib.Core.Path.{_≡_};
 ghost use Rattle.call_rules.specs.Openings.{refusalReply};
 
-// Number 0 and the bytes put, or a refusal's number and its record place.
+// Number 0 and how many bytes were put; or a refusal's number and its place: a file's record, with 21 the length that is needed.
 pub struct Reply {
     pub number: u8,
     pub place: usize,

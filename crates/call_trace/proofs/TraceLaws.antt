@@ -20,7 +20,9 @@ use Rattle.value_bytes.proofs.Stores.{part-size, part-written}
 use Rattle.step_bytes.specs.PickBytes.{picksIn}
 use Rattle.step_bytes.proofs.PickLaws.{picks-length, picks-take}
 use Rattle.call_rules.specs.Moments.{momentPut}
-use Rattle.call_rules.specs.Traces.{netsAfter, inRoom, tracePut, tracedFrom, traced}
+use Rattle.call_rules.specs.Replies.{needed, ifRoomFor}
+use Rattle.call_rules.specs.Traces.{netsAfter, inRoom, tracePut, traced}
+use Rattle.call_rules.proofs.CallLaws.{needed-is}
 use Rattle.call_rules.specs.Calls.{Gives}
 
 -- the moments after each of the picks
@@ -165,13 +167,13 @@ module _ (bs : List ℕ) (from n : ℕ) (e : n ≡ cond (ltb from (length bs / 2
 -- ── the reply ──
 
 module _ (net first : Net) (ps : List Pick) (from : ℕ) (o : List ℕ) (e : first ≡ after net (take from ps)) (size : ℕ) (es : size ≡ length (momentPut first)) where
-  pub trace-short : length o < size → Gives (traced from net ps o) o o 21 size
-  unfolding tracedFrom
-  trace-short h =
-      rw (sym e, lt-leb (length (momentPut first)) (length o) (omega arith)) (record { number = refl; place = es; buffer = refl })
+  pub trace-short : length o < size → size ≤ 63336 → Gives (traced from net ps o) o o 21 size
+  unfolding ifRoomFor
+  trace-short h few =
+      rw (sym e, lt-leb (length (momentPut first)) (length o) (omega arith)) (record { number = refl; place = needed-is size (omega arith) ∙ ap needed es; buffer = refl })
 
   pub trace-given : (out : List ℕ) (n : ℕ) (qs : List Pick) → size ≤ length o → qs ≡ drop from ps → n ≡ length (tracePut first qs (length o)) → out ≡ tracePut first qs (length o) ++ drop n o →
       Gives (traced from net ps o) o out 0 n
-  unfolding tracedFrom
+  unfolding ifRoomFor
   trace-given out n qs h eq en eo =
       rw (sym e, le-leb (length (momentPut first)) (length o) (omega arith), sym eq) (record { number = refl; place = en; buffer = eo ∙ ap (λ (m : ℕ). tracePut first qs (length o) ++ drop m o) en })

@@ -1,6 +1,6 @@
 -- `call_moment::moment_size` meets its contract: its own record, those of its tables and rows, and those of its threads. Assumes nothing.
 use native.Mathlib.Omega.{arith}
-use Rattle.call_moment.proofs.SoundParts.{few-threads, few-tables, tables-ok, all-shaped}
+use Rattle.call_moment.proofs.NetShapes.{few-threads, few-tables, tables-ok, all-shaped}
 use Rattle.call_moment.proofs.MomentLaws.{moment-length}
 use borrow.Author.Needs.{needs}
 use Rattle.call_moment.proofs.moment_size.Statement.{statement}
@@ -10,7 +10,7 @@ returns : tie.Need-returns
 returns c =
     let s = c .before .before .before .before in
     let e = moment-length (s .args .net) (s .pre) in
-    (omega (arith, e, c .before .tables-size .ensures .0, c .threads-records .ensures .0), omega arith)
+    (omega (arith, e, c .before .tables-size .ensures .0, c .count-all .ensures .0), omega arith)
 
 pub moment-size-spec : {M : Type 1} → statement M
 moment-size-spec =

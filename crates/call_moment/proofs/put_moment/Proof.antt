@@ -18,7 +18,7 @@ use Rattle.files.specs.Writing.{written, bufferAfter}
 use Rattle.write.specs.WriteCall.{ifRoom}
 use Rattle.call_rules.specs.Moments.{allThreads, momentHead, momentPut}
 use Rattle.call_hold.proofs.RecordLaws.{three-fill, part-left, part-first}
-use Rattle.call_moment.proofs.SoundParts.{few-threads, few-tables, tables-ok, all-shaped}
+use Rattle.call_moment.proofs.NetShapes.{few-threads, few-tables, tables-ok, all-shaped}
 use Rattle.call_moment.proofs.MomentLaws.{head-length, moment-length, moment-parts}
 use borrow.Author.Needs.{needs}
 use Rattle.call_moment.proofs.put_moment.Statement.{statement}

@@ -27,7 +27,7 @@ rest bs n = take-all (length bs - n) (drop n bs) (simp length-drop (omega arith)
 returns : tie.Need-returns
 returns c =
     let s = c .before .before .before .before .before .before .before in
-    trace-short (view (s .args .net)) (view (c .before .before .run-picks .result)) (picksIn (s .args .picks .now)) (s .args .from) (s .args .out .now) (begins (c .before .before)) (c .before .moment-size .result) (c .before .moment-size .ensures .0) (c .if1 .taken)
+    trace-short (view (s .args .net)) (view (c .before .before .run-picks .result)) (picksIn (s .args .picks .now)) (s .args .from) (s .args .out .now) (begins (c .before .before)) (c .before .moment-size .result) (c .before .moment-size .ensures .0) (c .if1 .taken) (c .before .moment-size .ensures .1)
 
 returns-2 : tie.Need-returns-2
 returns-2 c =

@@ -17,7 +17,7 @@ use Rattle.call_rules.specs.Layouts.{threadBytes, threadsPut}
 use Rattle.call_rules.specs.Replies.{ifRoom}
 use Rattle.call_rules.specs.Calls.{Gives}
 use Rattle.call_rules.proofs.CallLaws.{needed-is, gives-short, gives-put}
-use Rattle.call_moment.proofs.SoundParts.{few-threads}
+use Rattle.call_moment.proofs.NetShapes.{few-threads}
 use Rattle.call_each.proofs.ThreadsLeft.{all-stacked, threads-put, threads-size}
 use Rattle.call_each.proofs.threads.threads_left.Statement.{statement}
 use Rattle.call_each.proofs.threads.threads_left.Tie as tie

@@ -12,14 +12,14 @@ use Rattle.nets.specs.View.{noVariable, variableOf, bindingsOf}
 use Rattle.value_bytes.specs.Bytes.{endToEnd}
 use Rattle.value_bytes.proofs.Stores.{part-size, ends-append}
 use Rattle.call_rules.specs.Moments.{variableRecords, relationRecords, bindingsRecords}
-use Rattle.call_hold.specs.Holdings.{RelationsShaped, rowsHeld, recordsHeld}
+use Rattle.call_hold.specs.Holdings.{RelationsShaped, rowsGiven, recordsGiven}
 use Rattle.call_hold.proofs.RecordLaws.{three-fill, part-left}
 use Rattle.call_hold.proofs.HoldLaws.{bindings-are, bindings-long, variables-long, relation-long}
 use borrow.Author.Needs.{needs}
 use Rattle.call_hold.proofs.bindings.put_bindings.Statement.{statement}
 use Rattle.call_hold.proofs.bindings.put_bindings.Tie as tie
 
-module _ (vs : List Slot) (rs : List TableVariable) (k : RelationsShaped rs) (o : List ℕ) (l : length o ≡ recordsHeld rs * 104) (a b : ℕ) (ea : a ≡ rowsHeld (getD rs 0 noVariable)) (eb : b ≡ rowsHeld (getD rs 1 noVariable)) where
+module _ (vs : List Slot) (rs : List TableVariable) (k : RelationsShaped rs) (o : List ℕ) (l : length o ≡ recordsGiven rs * 104) (a b : ℕ) (ea : a ≡ rowsGiven (getD rs 0 noVariable)) (eb : b ≡ rowsGiven (getD rs 1 noVariable)) where
   put-all : (x y z : List ℕ) → x ≡ endToEnd (variableRecords (varsOf vs)) → y ≡ endToEnd (relationRecords 0 (variableOf (getD rs 0 noVariable))) → z ≡ endToEnd (relationRecords 1 (variableOf (getD rs 1 noVariable))) →
       putMid (1664 + (1 + a) * 104) (1664 + (1 + a) * 104 + (1 + b) * 104 - (1664 + (1 + a) * 104)) (putMid 1664 (1664 + (1 + a) * 104 - 1664) (x ++ drop 1664 o) y) z
       ≡ endToEnd (bindingsRecords (bindingsOf vs rs))
@@ -36,7 +36,7 @@ module _ (vs : List Slot) (rs : List TableVariable) (k : RelationsShaped rs) (o 
   same x y z hx hy hz = ap length (put-all x y z hx hy hz) ∙ bindings-long vs rs k ∙ sym l
 
   second-part : (x y : List ℕ) → x ≡ endToEnd (variableRecords (varsOf vs)) → y ≡ endToEnd (relationRecords 0 (variableOf (getD rs 0 noVariable))) →
-      length (take (1664 + (1 + a) * 104 + (1 + b) * 104 - (1664 + (1 + a) * 104)) (drop (1664 + (1 + a) * 104) (putMid 1664 (1664 + (1 + a) * 104 - 1664) (x ++ drop 1664 o) y))) ≡ 104 + rowsHeld (getD rs 1 noVariable) * 104
+      length (take (1664 + (1 + a) * 104 + (1 + b) * 104 - (1664 + (1 + a) * 104)) (drop (1664 + (1 + a) * 104) (putMid 1664 (1664 + (1 + a) * 104 - 1664) (x ++ drop 1664 o) y))) ≡ 104 + rowsGiven (getD rs 1 noVariable) * 104
   second-part x y hx hy =
       let n = (1 + a) * 104 in
       let m = (1 + b) * 104 in

@@ -12,14 +12,14 @@ use Rattle.nets.specs.View.{variableOf}
 use Rattle.value_bytes.specs.Bytes.{endToEnd}
 use Rattle.value_bytes.proofs.Stores.{part-size}
 use Rattle.call_rules.specs.Moments.{valuesRecord, relationHead, relationRecords}
-use Rattle.call_hold.specs.Holdings.{rowsHeld}
+use Rattle.call_hold.specs.Holdings.{rowsGiven}
 use Rattle.call_hold.proofs.RecordLaws.{two-fill}
 use Rattle.call_hold.proofs.HoldLaws.{none-held, some-held, head-length}
 use borrow.Author.Needs.{needs}
 use Rattle.call_hold.proofs.bindings.put_relation.Statement.{statement}
 use Rattle.call_hold.proofs.bindings.put_relation.Tie as tie
 
-module _ (v : TableVariable) (i : ℕ) (o : List ℕ) (l : length o ≡ 104 + rowsHeld v * 104) where
+module _ (v : TableVariable) (i : ℕ) (o : List ℕ) (l : length o ≡ 104 + rowsGiven v * 104) where
   alone : v .bound ≡ false → length o ≡ 104
   alone e = omega (arith, none-held v e)
 

@@ -1,4 +1,4 @@
--- `call_hold::threads::put_thread` meets its contract: three adjacent parts. Assumes nothing.
+-- `call_hold::threads::put_records` meets its contract: three adjacent parts. Assumes nothing.
 use Prim.Native.Nat.{ℕ, _+_, _-_, _*_}
 use mathlib.Core.Path.{_≡_, sym, ap, _∙_}
 use mathlib.Core.List.{List, _++_, map}
@@ -10,14 +10,14 @@ use Rattle.nets.specs.View.{stackOf, bindingsOf, threadOf}
 use Rattle.value_bytes.specs.Bytes.{endToEnd}
 use Rattle.value_bytes.proofs.Stores.{part-size}
 use Rattle.call_rules.specs.Moments.{bindingsRecords, entryRecord, threadHead, threadRecords}
-use Rattle.call_hold.specs.Holdings.{RelationsShaped, recordsHeld}
+use Rattle.call_hold.specs.Holdings.{RelationsShaped, recordsGiven}
 use Rattle.call_hold.proofs.RecordLaws.{three-fill, part-left}
 use Rattle.call_hold.proofs.HoldLaws.{thread-are, thread-count, thread-long, bindings-long, thread-head}
 use borrow.Author.Needs.{needs}
-use Rattle.call_hold.proofs.threads.put_thread.Statement.{statement}
-use Rattle.call_hold.proofs.threads.put_thread.Tie as tie
+use Rattle.call_hold.proofs.threads.put_records.Statement.{statement}
+use Rattle.call_hold.proofs.threads.put_records.Tie as tie
 
-module _ (t : Thread) (k : RelationsShaped (t .relations)) (o : List ℕ) (l : length o ≡ length (threadRecords (threadOf t)) * 104) (b : ℕ) (eb : b ≡ recordsHeld (t .relations)) where
+module _ (t : Thread) (k : RelationsShaped (t .relations)) (o : List ℕ) (l : length o ≡ length (threadRecords (threadOf t)) * 104) (b : ℕ) (eb : b ≡ recordsGiven (t .relations)) where
   -- the parts fill the buffer
   filled : length o ≡ 104 + b * 104 + t .depth * 104
   filled = omega (arith, l, eb, thread-count t)
@@ -40,8 +40,8 @@ module _ (t : Thread) (k : RelationsShaped (t .relations)) (o : List ℕ) (l : l
   last-part x y hx hy =
       rw (part-size 104 (b * 104), part-size (104 + b * 104) (t .depth * 104)) (part-left o x y 104 (b * 104) (t .depth * 104) (ap length hx ∙ thread-head (t .site .0) (t .depth)) (long y hy) filled)
 
-pub put-thread-spec : {M : Type 1} → statement M
-put-thread-spec =
+pub put-records-spec : {M : Type 1} → statement M
+put-records-spec =
     tie.close
     (tie.spec
     (λ c κs. search needs)

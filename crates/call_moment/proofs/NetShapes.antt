@@ -22,7 +22,7 @@ use Rattle.nets.proofs.SoundLaws.{clauses}
 use Rattle.step_thread.proofs.ThreadLaws.{length-stack}
 use Rattle.write.proofs.WholeLaws.{all-firsts}
 use Rattle.call_hold.specs.Holdings.{VariableShaped, RelationsShaped}
-use Rattle.call_moment.specs.Standing.{ThreadShaped, AllShaped}
+use Rattle.call_moment.specs.Shapes.{ThreadShaped, AllShaped}
 
 -- ── a thread ──
 

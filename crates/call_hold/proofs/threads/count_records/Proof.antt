@@ -1,12 +1,12 @@
--- `call_hold::threads::thread_records` meets its contract: the counts of its parts. Assumes nothing.
+-- `call_hold::threads::count_records` meets its contract: the counts of its parts. Assumes nothing.
 use native.Mathlib.Omega.{arith}
 use Rattle.call_hold.proofs.HoldLaws.{thread-count}
 use borrow.Author.Needs.{needs}
-use Rattle.call_hold.proofs.threads.thread_records.Statement.{statement}
-use Rattle.call_hold.proofs.threads.thread_records.Tie as tie
+use Rattle.call_hold.proofs.threads.count_records.Statement.{statement}
+use Rattle.call_hold.proofs.threads.count_records.Tie as tie
 
-pub thread-records-spec : {M : Type 1} → statement M
-thread-records-spec =
+pub count-records-spec : {M : Type 1} → statement M
+count-records-spec =
     tie.close
     (tie.spec
     (λ c κs. search needs)
