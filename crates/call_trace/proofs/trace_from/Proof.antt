@@ -14,7 +14,7 @@ use Rattle.call_trace.proofs.trace_from.Statement.{statement}
 use Rattle.call_trace.proofs.trace_from.Tie as tie
 
 few : (c : tie.After-smaller) → (c .smaller .result * 2 ≤ length (c .before .before .before .args .picks .now)) × (length (c .before .before .before .args .picks .now) < 2 ^ 64)
-few c = (few-skipped (c .before .before .before .args .picks .now) (c .before .before .before .args .from) (c .smaller .result) (c .smaller .ensures), search needs)
+few c = (few-skipped (c .before .before .before .args .picks .now) _ (c .smaller .result) (c .smaller .ensures), search needs)
 
 -- the net that the trace begins with
 begins : (c : tie.After-run-picks) → view (c .run-picks .result) ≡ after (view (c .before .before .before .before .before .args .net)) (take (c .before .before .before .before .before .args .from) (picksIn (c .before .before .before .before .before .args .picks .now)))
