@@ -12,12 +12,13 @@
  * What goes in
  *
  *   file    A net file: records of 104 bytes, as README.md lists them ("Files"). The picks in the file are not run: tivgeral_picks gives them.
- *   picks   The picks to run, in order, two bytes each: thread place, row place. Any number of them, also none.
+ *   picks   The picks to run, in order, two bytes each: thread place, row place. Any number of them, also none. Not for tivgeral_picks.
+ *   from    How many picks are run before the first moment of a trace. Any number. For tivgeral_trace alone.
  *   out     A buffer that the call may write to.
  *   place   Always set by the call.
  *
- * Each pointer is followed by its length in bytes. No pointer may be null, not even with the length 0. `out` and `*place` must not overlap
- * each other, the file or the picks.
+ * Each pointer but `place` is followed by its length in bytes. No pointer may be null, not even with the length 0. `out` and `*place` must
+ * not overlap each other, the file or the picks.
  *
  * What comes back: a number, and *place
  *
@@ -25,15 +26,16 @@
  *   1 to 9    The file was refused when it was loaded. *place is the place of the record at fault, counted from 0 (for number 1 the count of
  *             whole records, for number 2 always 256). README.md, "The numbers", says what each means and what to do.
  *   21        `out` is too short for what would be put there. *place is the length that is needed (SIZE_MAX where that does not fit a size_t).
- *   100       The length of `picks` is odd. *place is 0. (Numbers that only these calls have begin at 100.)
+ *   100       The length of `picks` is odd. *place is 0. tivgeral_picks takes no picks, so it has no 100. (Numbers that only these calls have
+ *             begin at 100.)
  *
  * After 1 to 9, 21 and 100 every byte of `out` is as it was. 100 is judged first, then the file, then 21. There is no other number.
  *
  * A refused pick is no error of a call: it changes nothing, is answered with its number, and the run goes on with the next pick.
  *
  * What comes back is proved for every file, every list of picks and every buffer: crates/call_rules/specs/Calls.antt has the definition of what a
- * call gives back, Layouts.antt beside it that of the bytes of tables, threads and picks, Moments.antt and Traces.antt that of a trace, and
- * crates/step_bytes/specs/AnswerBytes.antt that of answers. The stack space is measured, not proved.
+ * call gives back, Replies.antt beside it that of 21 and of SIZE_MAX, Layouts.antt that of the bytes of tables, threads and picks, Moments.antt
+ * and Traces.antt that of a trace, and crates/step_bytes/specs/AnswerBytes.antt that of answers. The stack space is measured, not proved.
  */
 #ifndef TIVGERAL_H
 #define TIVGERAL_H
@@ -49,14 +51,14 @@ extern "C" {
 
 /* Lengths in bytes. */
 enum {
-    TIVGERAL_RECORD = 104, /* a record of a file or of a trace */
-    TIVGERAL_ANSWER = 24,  /* the answer to a pick */
-    TIVGERAL_THREAD = 24,  /* a thread, as tivgeral_threads puts it */
+    TIVGERAL_RECORD_BYTES = 104, /* a record of a file or of a trace */
+    TIVGERAL_ANSWER_BYTES = 24,  /* the answer to a pick */
+    TIVGERAL_THREAD_BYTES = 24,  /* a thread, as tivgeral_threads puts it */
     /* the most that a call puts out */
-    TIVGERAL_TABLES_MOST = 136 * TIVGERAL_RECORD,
-    TIVGERAL_THREADS_MOST = 8 * TIVGERAL_THREAD,
-    TIVGERAL_MOMENT_MOST = 609 * TIVGERAL_RECORD, /* one moment of a trace */
-    TIVGERAL_PICKS_MOST = 512
+    TIVGERAL_TABLES_BYTES = 136 * TIVGERAL_RECORD_BYTES,
+    TIVGERAL_THREADS_BYTES = 8 * TIVGERAL_THREAD_BYTES,
+    TIVGERAL_MOMENT_BYTES = 609 * TIVGERAL_RECORD_BYTES, /* one moment of a trace */
+    TIVGERAL_PICKS_BYTES = 512
 };
 
 /* The numbers of calls and of answers to picks. README.md, "The numbers", says what to do about each. */
@@ -65,7 +67,7 @@ enum tivgeral_number {
     /* the file was refused when it was loaded */
     TIVGERAL_LENGTH = 1,
     TIVGERAL_RECORDS = 2,
-    TIVGERAL_KIND = 3,
+    TIVGERAL_UNKNOWN_KIND = 3,
     TIVGERAL_FIELD = 4,
     TIVGERAL_ORDER = 5,
     TIVGERAL_TWICE = 6,
@@ -94,7 +96,7 @@ static inline const char *tivgeral_text(unsigned number) {
     case TIVGERAL_DONE: return "done";
     case TIVGERAL_LENGTH: return "the length is no multiple of 104; the place counts the whole records";
     case TIVGERAL_RECORDS: return "over 256 records; the place is 256";
-    case TIVGERAL_KIND: return "the kind is unknown";
+    case TIVGERAL_UNKNOWN_KIND: return "the kind is unknown";
     case TIVGERAL_FIELD: return "a field, tag or unused byte breaks its rule";
     case TIVGERAL_ORDER: return "its group comes before that of an earlier record";
     case TIVGERAL_TWICE: return "this alias (site and locality) or table (site and name) came before";
@@ -118,10 +120,10 @@ static inline const char *tivgeral_text(unsigned number) {
 }
 
 /* The tables that stand after all picks: a table record for each table and then a row record for each row, table by table, 104 bytes each.
- * The bytes are a net file again: it loads, and has the same tables. TIVGERAL_TABLES_MOST bytes are the most. */
+ * The bytes are a net file again: it loads, and has the same tables. TIVGERAL_TABLES_BYTES is the most. */
 uint8_t tivgeral_tables(const uint8_t *file, size_t file_length, const uint8_t *picks, size_t picks_length, uint8_t *out, size_t out_length, size_t *place);
 
-/* The answer to each pick, in order, TIVGERAL_ANSWER bytes each:
+/* The answer to each pick, in order, TIVGERAL_ANSWER_BYTES each:
  *
  *   bytes 0 to 7     0 for done, else the number 11 to 20 of the refusal
  *   bytes 8 to 15    rows added
@@ -130,7 +132,7 @@ uint8_t tivgeral_tables(const uint8_t *file, size_t file_length, const uint8_t *
  * each as eight bytes, the lowest first. A refused pick adds and takes none. So `out` needs 12 bytes for each byte of `picks`. */
 uint8_t tivgeral_answers(const uint8_t *file, size_t file_length, const uint8_t *picks, size_t picks_length, uint8_t *out, size_t out_length, size_t *place);
 
-/* The threads that stand after all picks, in order, TIVGERAL_THREAD bytes each:
+/* The threads that stand after all picks, in order, TIVGERAL_THREAD_BYTES each:
  *
  *   byte 0           site
  *   byte 1           entries on its stack, 1 to 8
@@ -139,14 +141,16 @@ uint8_t tivgeral_answers(const uint8_t *file, size_t file_length, const uint8_t 
  *   bytes 4 to 7     zeros
  *   bytes 8 to 23    for each row place 0 to 15: 1 if the loop has still to visit it, else 0; all 0 for a node to run
  *
- * TIVGERAL_THREADS_MOST bytes are the most. A thread's place in this list is the one that picks name. */
+ * TIVGERAL_THREADS_BYTES is the most. A thread's place in this list is the one that picks name. */
 uint8_t tivgeral_threads(const uint8_t *file, size_t file_length, const uint8_t *picks, size_t picks_length, uint8_t *out, size_t out_length, size_t *place);
 
 /* A trace: moment after moment, each with all that stands then. The first is the net after the first `from` picks (after all of them, where
  * there are fewer), then comes the net after each further pick; as many whole moments, in order, as `out` has room for. With `from` at
- * picks_length / 2 or above it is the net after all picks alone. 21 where not even the first moment has room; TIVGERAL_MOMENT_MOST bytes always do.
+ * picks_length / 2 or above it is the net after all picks alone. 21 where not even the first moment has room: *place is then the length of the
+ * first moment. A buffer of TIVGERAL_MOMENT_BYTES has room for any moment.
  *
- * To trace a long list in pieces, call again with `from` raised by the number of moments that came back. The answers come from tivgeral_answers.
+ * To trace a long list in pieces, call again with `from` raised by the number of moments that came back. There are picks_length / 2 + 1 moments
+ * in all: stop once `from` is above picks_length / 2. The answers come from tivgeral_answers.
  *
  * A moment is records of 104 bytes, in this order; bytes that are not named are zero:
  *
@@ -160,21 +164,23 @@ uint8_t tivgeral_threads(const uint8_t *file, size_t file_length, const uint8_t 
  *   kind 69, the top first       a stack entry: byte 1 0 a node to run, 1 a loop, byte 2 the node's number, bytes 8 to 23 for each row place 0 to 15:
  *                                1 if the loop has still to visit it
  *
- * Skip kinds that you do not know: later versions add some. What follows a record of kind 69 and is of kinds 66 to 68 is held by that entry. */
-enum tivgeral_trace_kind {
-    TIVGERAL_TABLE = 2,
-    TIVGERAL_TABLE_ROW = 3,
-    TIVGERAL_MOMENT = 64,
-    TIVGERAL_A_THREAD = 65,
-    TIVGERAL_VARIABLE = 66,
-    TIVGERAL_TABLE_VARIABLE = 67,
-    TIVGERAL_VARIABLE_ROW = 68,
-    TIVGERAL_ENTRY = 69
+ * Later versions add kinds, name bytes that are zero now, and give variables further tags. Skip a kind that you do not know; do not test unnamed
+ * bytes; a variable whose byte 56 is a tag that you do not know is bound, to a value that you do not know. Records of kinds 66 to 68 between a
+ * record of kind 69 and the next of kind 69, 65 or 64 are held by that entry; this version puts none there. */
+enum tivgeral_kind {
+    TIVGERAL_KIND_TABLE = 2,
+    TIVGERAL_KIND_ROW = 3,
+    TIVGERAL_KIND_MOMENT = 64,
+    TIVGERAL_KIND_THREAD = 65,
+    TIVGERAL_KIND_VARIABLE = 66,
+    TIVGERAL_KIND_TABLE_VARIABLE = 67,
+    TIVGERAL_KIND_TABLE_VARIABLE_ROW = 68,
+    TIVGERAL_KIND_ENTRY = 69
 };
 
 uint8_t tivgeral_trace(const uint8_t *file, size_t file_length, const uint8_t *picks, size_t picks_length, size_t from, uint8_t *out, size_t out_length, size_t *place);
 
-/* The picks that the file has itself, in order, two bytes each, as the other calls take them. TIVGERAL_PICKS_MOST bytes are the most. */
+/* The picks that the file has itself, in order, two bytes each, as the other calls take them. TIVGERAL_PICKS_BYTES is the most. */
 uint8_t tivgeral_picks(const uint8_t *file, size_t file_length, uint8_t *out, size_t out_length, size_t *place);
 
 #ifdef __cplusplus

@@ -101,7 +101,7 @@ fn the_c_program_goes_by_the_header() {
     let program = fs::read_to_string(root().join("examples/embed/embed.c")).expect("the program");
     assert!(program.contains("tivgeral_picks("));
     assert!(!program.contains("== 33"));
-    for name in ["TIVGERAL_RECORD", "TIVGERAL_ANSWER", "TIVGERAL_TABLES_MOST"] {
+    for name in ["TIVGERAL_RECORD_BYTES", "TIVGERAL_ANSWER_BYTES", "TIVGERAL_TABLES_BYTES"] {
         assert!(program.contains(name), "{name}");
     }
 }

@@ -10,11 +10,11 @@
 
 #include "tivgeral.h"
 
-enum { PICKS = TIVGERAL_PICKS_MOST / 2 }; /* as many as a file can have */
+enum { PICKS = TIVGERAL_PICKS_BYTES / 2 }; /* as many as a file can have */
 
-static uint8_t picks[TIVGERAL_PICKS_MOST];
-static uint8_t answers[TIVGERAL_ANSWER * PICKS];
-static uint8_t tables[TIVGERAL_TABLES_MOST];
+static uint8_t picks[TIVGERAL_PICKS_BYTES];
+static uint8_t answers[TIVGERAL_ANSWER_BYTES * PICKS];
+static uint8_t tables[TIVGERAL_TABLES_BYTES];
 
 /* The whole file, also one that is too long: the engine says what is wrong with it. NULL where it can't be read. */
 static uint8_t *read_file(const char *path, size_t *length) {
@@ -53,13 +53,13 @@ static uint64_t number_at(const uint8_t *bytes, int length) {
 }
 
 static void print_answers(size_t length) {
-    for (size_t at = 0; at < length; at += TIVGERAL_ANSWER) {
+    for (size_t at = 0; at < length; at += TIVGERAL_ANSWER_BYTES) {
         const uint8_t *answer = answers + at;
         if (number_at(answer, 8) == TIVGERAL_DONE)
-            printf("pick %zu done %llu %llu\n", at / TIVGERAL_ANSWER, (unsigned long long)number_at(answer + 8, 8),
+            printf("pick %zu done %llu %llu\n", at / TIVGERAL_ANSWER_BYTES, (unsigned long long)number_at(answer + 8, 8),
                    (unsigned long long)number_at(answer + 16, 8));
         else
-            printf("pick %zu no %llu\n", at / TIVGERAL_ANSWER, (unsigned long long)number_at(answer, 8));
+            printf("pick %zu no %llu\n", at / TIVGERAL_ANSWER_BYTES, (unsigned long long)number_at(answer, 8));
     }
 }
 
@@ -80,18 +80,18 @@ static void print_row(const uint8_t *record) {
 
 /* Byte 0 is the kind; site and name are at bytes 1 and 4. */
 static int is_row_of(const uint8_t *record, const uint8_t *table) {
-    return record[0] == TIVGERAL_TABLE_ROW && record[1] == table[1] && memcmp(record + 4, table + 4, 4) == 0;
+    return record[0] == TIVGERAL_KIND_ROW && record[1] == table[1] && memcmp(record + 4, table + 4, 4) == 0;
 }
 
 /* All tables come first, then the rows of each. */
 static void print_tables(size_t length) {
-    for (size_t at = 0; at < length && tables[at] == TIVGERAL_TABLE; at += TIVGERAL_RECORD) {
+    for (size_t at = 0; at < length && tables[at] == TIVGERAL_KIND_TABLE; at += TIVGERAL_RECORD_BYTES) {
         const uint8_t *table = tables + at;
         size_t rows = 0;
-        for (size_t other = 0; other < length; other += TIVGERAL_RECORD)
+        for (size_t other = 0; other < length; other += TIVGERAL_RECORD_BYTES)
             rows += is_row_of(tables + other, table);
         printf("table %d %.4s %zu\n", table[1], (const char *)table + 4, rows);
-        for (size_t other = 0; other < length; other += TIVGERAL_RECORD)
+        for (size_t other = 0; other < length; other += TIVGERAL_RECORD_BYTES)
             if (is_row_of(tables + other, table))
                 print_row(tables + other);
     }

@@ -4,7 +4,7 @@
 //!     cargo run --offline -p embed-example --features proved -- examples/update.net
 //!     cargo run --offline -p embed-example --features proved -- examples/update.net 0:0 1:3
 
-use embed::{answers, picks, tables, Answer, Pick, Refused, RECORD};
+use embed::{answers, picks, tables, Answer, Pick, Refused, RECORD_BYTES};
 use std::process::ExitCode;
 use std::{env, fs};
 
@@ -58,7 +58,8 @@ fn run(file: &[u8], given: Vec<Pick>) -> Result<(), Refused> {
 /// All tables come first, then the rows of each. Byte 0 is the kind, 2 a table and 3 a row; bytes 1 and
 /// 4 to 7 are site and name.
 fn print_tables(records: &[u8]) {
-    let of_kind = |kind: u8| records.chunks_exact(RECORD).filter(move |record| record[0] == kind);
+    let of_kind =
+        |kind: u8| records.chunks_exact(RECORD_BYTES).filter(move |record| record[0] == kind);
     for table in of_kind(2) {
         let own = |row: &&[u8]| row[1] == table[1] && row[4..8] == table[4..8];
         let rows: Vec<&[u8]> = of_kind(3).filter(own).collect();

@@ -1,14 +1,7 @@
 //! The calls of the library, each behind a safe function. The only unsafe code is here.
 #![allow(unsafe_code)]
 
-use crate::{Answer, Pick, Refused, Thread, RECORD};
-
-/// 8 tables of 16 rows: a record for each table and each row.
-const TABLES_ROOM: usize = RECORD * (8 + 8 * 16);
-/// 8 threads.
-const THREADS_ROOM: usize = Thread::SIZE * 8;
-/// 256 records, all of them picks.
-const PICKS_ROOM: usize = Pick::SIZE * 256;
+use crate::{Answer, Pick, Refused, Thread, PICKS_BYTES, TABLES_BYTES, THREADS_BYTES};
 
 /// Declares calls of the library that have one signature.
 macro_rules! declared {
@@ -93,7 +86,7 @@ fn pick_bytes(picks: &[Pick]) -> Vec<u8> {
 
 /// The table and row records of the net after all picks, which load again.
 pub fn tables(file: &[u8], picks: &[Pick]) -> Result<Vec<u8>, Refused> {
-    Call::Tables.lent(file, picks, TABLES_ROOM)
+    Call::Tables.lent(file, picks, TABLES_BYTES)
 }
 
 /// An answer for each pick.
@@ -104,14 +97,18 @@ pub fn answers(file: &[u8], picks: &[Pick]) -> Result<Vec<Answer>, Refused> {
 
 /// The threads that stand after all picks, by place.
 pub fn threads(file: &[u8], picks: &[Pick]) -> Result<Vec<Thread>, Refused> {
-    let bytes = Call::Threads.lent(file, picks, THREADS_ROOM)?;
+    let bytes = Call::Threads.lent(file, picks, THREADS_BYTES)?;
     Ok(Thread::read_all(&bytes))
 }
 
-/// Puts moments into the buffer, which `Moment::all` reads: the net after the first `from` picks,
-/// and then after each further one, as many as there is room for. Gives back how many bytes it
-/// put there. A buffer that is too short for the first moment is refused by 21, and the place is
-/// the length that this one needs.
+/// Puts moments into the buffer, which `Moment::all` reads: the net after the first `from` picks
+/// (after all of them, where there are fewer), and then after each further one, as many as there is
+/// room for. Gives back how many bytes it put there. A buffer that is too short for the first
+/// moment is refused by 21, and the place is then the length of the first moment. One of
+/// `MOMENT_BYTES` has room for any moment.
+///
+/// To trace a long list in pieces, call again with `from` raised by the number of moments that came
+/// back. There are `picks.len() + 1` moments in all: stop once `from` is above `picks.len()`.
 pub fn trace(file: &[u8], picks: &[Pick], from: usize, out: &mut [u8]) -> Result<usize, Refused> {
     let picks = pick_bytes(picks);
     let (f, p, o) = (file.as_ptr(), picks.as_ptr(), out.as_mut_ptr());
@@ -124,13 +121,14 @@ pub fn trace(file: &[u8], picks: &[Pick], from: usize, out: &mut [u8]) -> Result
 
 /// The picks that the file has itself. The other calls run those that they are given.
 pub fn picks(file: &[u8]) -> Result<Vec<Pick>, Refused> {
-    let mut out = [0; PICKS_ROOM];
+    let mut out = [0; PICKS_BYTES];
     let put = picks_into(file, &mut out)?;
     Ok(Pick::read_all(&out[..put]))
 }
 
 /// Puts the file's own picks into the buffer, two bytes each, and gives back how many bytes it put
 /// there. A buffer that is too short is refused by 21, and the place is the length that is needed.
+/// One of `PICKS_BYTES` has room for the picks of any file.
 pub fn picks_into(file: &[u8], out: &mut [u8]) -> Result<usize, Refused> {
     let (f, o) = (file.as_ptr(), out.as_mut_ptr());
     let mut place = 0;

@@ -10,21 +10,22 @@
 mod answer;
 #[cfg(feature = "proved")]
 mod calls;
+mod lengths;
 mod moment;
 mod pick;
 mod thread;
 mod value;
+mod variable;
 
 pub use answer::{Answer, Refused};
 #[cfg(feature = "proved")]
 pub use calls::{answers, picks, picks_into, tables, threads, trace, Call};
+pub use lengths::{MOMENT_BYTES, PICKS_BYTES, RECORD_BYTES, TABLES_BYTES, THREADS_BYTES};
 pub use moment::{Entry, Moment, Table, ThreadState};
 pub use pick::Pick;
 pub use thread::{Thread, Top};
 pub use value::{Kind, Relation, Row, Value};
+pub use variable::Variable;
 
 /// The version of this crate, which is that of the header.
 pub const VERSION: &str = env!("CARGO_PKG_VERSION");
-
-/// Bytes of a record.
-pub const RECORD: usize = 104;

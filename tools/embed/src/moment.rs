@@ -1,9 +1,9 @@
 //! The net between two picks, as `tivgeral_trace` puts it out.
 
 use crate::value::{Kind, Relation, Value};
-use crate::RECORD;
+use crate::{Variable, RECORD_BYTES};
 
-type Record = [u8; RECORD];
+type Record = [u8; RECORD_BYTES];
 
 // The kinds of a moment's records.
 const TABLE: u8 = 2;
@@ -17,6 +17,7 @@ const ENTRY: u8 = 69;
 
 /// The tables and threads, each at its place.
 #[derive(Clone, PartialEq, Eq, Debug, Default)]
+#[non_exhaustive]
 pub struct Moment {
     pub tables: Vec<Table>,
     pub threads: Vec<ThreadState>,
@@ -29,21 +30,25 @@ pub struct Table {
     pub content: Relation,
 }
 
-/// All that a thread holds; what is unbound is none.
+/// All that a thread holds; a table variable that is unbound is none.
 #[derive(Clone, PartialEq, Eq, Debug, Default)]
+#[non_exhaustive]
 pub struct ThreadState {
     pub site: u8,
-    pub variables: [Option<Value>; 16],
+    pub variables: [Variable; 16],
     pub table_variables: [Option<Relation>; 2],
     /// The top entry first, which a pick would run.
     pub stack: Vec<Entry>,
 }
 
+/// A later library may have entries hold more.
 #[derive(Clone, PartialEq, Eq, Debug)]
 pub enum Entry {
     /// A node to run.
-    Run(u8),
+    #[non_exhaustive]
+    Run { node: u8 },
     /// A loop that has begun, with the row places still to visit.
+    #[non_exhaustive]
     Loop { node: u8, left: Vec<u8> },
 }
 
@@ -58,11 +63,13 @@ impl Moment {
         })
     }
 
-    /// The first of these moments, and how many bytes it takes.
+    /// The first of these moments, and how many bytes there are up to its end. Records before it,
+    /// which are of no moment, are skipped.
     pub fn first(bytes: &[u8]) -> Option<(Moment, usize)> {
         let records: &[Record] = bytes.as_chunks().0;
-        let count = length(records.first()?);
-        Some((Moment::read(records.get(..count)?), count * RECORD))
+        let start = records.iter().position(|record| record[0] == MOMENT)?;
+        let end = start + length(&records[start]);
+        Some((Moment::read(records.get(start..end)?), end * RECORD_BYTES))
     }
 
     /// Kinds that are unknown here are skipped, so that a later library may add some.
@@ -96,17 +103,15 @@ impl Moment {
     }
 }
 
-/// How many records the moment has that begins with this one.
+/// How many records the moment has that begins with this one, which counts.
 fn length(first: &Record) -> usize {
-    match first {
-        [MOMENT, _, _, _, a, b, c, d, ..] => (u32::from_le_bytes([*a, *b, *c, *d]) as usize).max(1),
-        _ => 1,
-    }
+    let [_, _, _, _, a, b, c, d, ..] = *first;
+    (u32::from_le_bytes([a, b, c, d]) as usize).max(1)
 }
 
-/// Where a record has its values.
-fn values(record: &Record) -> &[u8] {
-    &record[56..88]
+/// Where a record has its values, four operands.
+fn values(record: &Record) -> &[[u8; 8]] {
+    record[56..88].as_chunks().0
 }
 
 /// Where a record has its columns.
@@ -142,7 +147,7 @@ impl ThreadState {
 
     fn bind(&mut self, number: usize, record: &Record) {
         if let Some(variable) = self.variables.get_mut(number) {
-            *variable = Value::read_row(values(record)).first().copied();
+            *variable = Variable::read(&values(record)[0]);
         }
     }
 
@@ -162,14 +167,14 @@ impl ThreadState {
 impl Entry {
     pub fn node(&self) -> u8 {
         match self {
-            Entry::Run(node) | Entry::Loop { node, .. } => *node,
+            Entry::Run { node } | Entry::Loop { node, .. } => *node,
         }
     }
 
     fn read(record: &Record) -> Entry {
         let left = (0..16).zip(&record[8..24]).filter(|(_, flag)| **flag == 1);
         match record[1] {
-            0 => Entry::Run(record[2]),
+            0 => Entry::Run { node: record[2] },
             _ => Entry::Loop { node: record[2], left: left.map(|(place, _)| place).collect() },
         }
     }
@@ -181,7 +186,7 @@ mod tests {
 
     /// A record of zeros but for these bytes, from the first on, and an Int among its values.
     fn record(head: &[u8], int: Option<i32>) -> Record {
-        let mut record = [0; RECORD];
+        let mut record = [0; RECORD_BYTES];
         record[..head.len()].copy_from_slice(head);
         if let Some(int) = int {
             record[56] = 1;
@@ -217,14 +222,17 @@ mod tests {
         let moments: Vec<Moment> = Moment::all(&bytes).collect();
         assert_eq!(moments.len(), 1);
         let thread = &moments[0].threads[0];
-        assert_eq!((thread.site, thread.variables[0]), (5, None));
-        assert_eq!(thread.variables[15], Some(Value::Int(38)));
+        assert_eq!((thread.site, thread.variables[0]), (5, Variable::Unbound));
+        assert_eq!(thread.variables[15], Variable::Known(Value::Int(38)));
         let rows = vec![vec![Value::Int(1)]; 2];
         assert_eq!(
             thread.table_variables,
             [Some(Relation { columns: vec![Kind::Int], rows }), None]
         );
-        assert_eq!(thread.stack, [Entry::Run(9), Entry::Loop { node: 4, left: vec![1, 3] }]);
+        assert_eq!(
+            thread.stack,
+            [Entry::Run { node: 9 }, Entry::Loop { node: 4, left: vec![1, 3] }]
+        );
         let table = &moments[0].tables[0];
         assert_eq!(
             (table.site, &table.name, &table.content.columns[..]),
@@ -233,7 +241,8 @@ mod tests {
         assert_eq!(table.content.rows, [[Value::Int(-7)]]);
     }
 
-    /// A later library adds kinds, and bindings after a stack entry, which are the entry's.
+    /// A later library adds kinds, also outside of moments, and bindings after a stack entry, which
+    /// are the entry's.
     #[test]
     fn what_is_not_known_is_skipped() {
         let known = moment(&[record(&[VARIABLE, 2], Some(1)), record(&[ENTRY, 0, 9], None)]);
@@ -245,9 +254,30 @@ mod tests {
             record(&[TABLE_VARIABLE, 0, 1, 0, 0, 0, 0, 0, 1], None),
             record(&[99], None),
         ]);
-        let moments: Vec<Moment> = Moment::all(&[known, later].concat()).collect();
+        let outside = record(&[70, 2], None).to_vec();
+        let bytes = [&outside, &known, &outside, &outside, &later, &outside].map(|part| &part[..]);
+        let moments: Vec<Moment> = Moment::all(&bytes.concat()).collect();
         assert_eq!(moments.len(), 2);
         assert_eq!(moments[0], moments[1]);
+        let (_, length) = Moment::first(&bytes.concat()).expect("a moment");
+        assert_eq!(length, RECORD_BYTES + known.len());
+    }
+
+    /// A later library has values of more kinds.
+    #[test]
+    fn a_value_that_is_not_known_is_bound() {
+        let tagged = |number: u8, tag: u8| {
+            let mut record = record(&[VARIABLE, number], Some(7));
+            record[56] = tag;
+            record
+        };
+        let bytes = moment(&[tagged(3, 4), tagged(4, 255), tagged(5, 1), tagged(6, 0)]);
+        let (moment, _) = Moment::first(&bytes).expect("a moment");
+        let variables = &moment.threads[0].variables[3..7];
+        let known = Variable::Known(Value::Int(7));
+        let expected = [Variable::Unknown, Variable::Unknown, known, Variable::Unbound];
+        assert_eq!(variables, expected);
+        assert_eq!(variables.iter().filter(|variable| variable.is_bound()).count(), 3);
     }
 
     #[test]

@@ -32,7 +32,7 @@ impl Relation {
 }
 
 impl Value {
-    /// An operand of 8 bytes: a tag, three zeros, the value. None is tag 0.
+    /// An operand of 8 bytes: a tag, three zeros, the value. None is any other tag.
     pub(crate) fn read(operand: &[u8; 8]) -> Option<Value> {
         let [tag, _, _, _, value @ ..] = *operand;
         match tag {
@@ -44,8 +44,8 @@ impl Value {
     }
 
     /// One to four operands, then only tag 0.
-    pub(crate) fn read_row(operands: &[u8]) -> Row {
-        operands.as_chunks().0.iter().map_while(Value::read).collect()
+    pub(crate) fn read_row(operands: &[[u8; 8]]) -> Row {
+        operands.iter().map_while(Value::read).collect()
     }
 }
 

@@ -1,7 +1,7 @@
 //! Lengths that no safe function gives: each has its number, and the buffer stays as it was.
 #![cfg(feature = "proved")]
 
-use embed::{picks, picks_into, trace, Call, Pick, Refused};
+use embed::{picks, picks_into, trace, Call, Moment, Pick, Refused, MOMENT_BYTES};
 use std::fs;
 
 /// Number and place, for a buffer of so many bytes, which must stay as it was.
@@ -52,6 +52,19 @@ fn a_buffer_too_short_for_a_moment_is_21() {
     assert_eq!(trace(&file(), &[], 0, &mut out), refused);
     assert!(out.iter().all(|byte| *byte == 7), "the buffer was touched");
     assert_eq!(trace(&file(), &[], 0, &mut vec![7; needed]), Ok(needed));
+}
+
+/// The place tells of the first moment, however many come after it: here the net before a pick
+/// that ends its thread.
+#[test]
+fn the_length_that_is_needed_is_that_of_the_first_moment() {
+    let (file, pick) = (file(), Pick { thread: 0, row: 0 });
+    let needed = |from| trace(&file, &[pick], from, &mut []).map_err(|refused| refused.place);
+    let mut out = vec![0; 2 * MOMENT_BYTES];
+    let put = trace(&file, &[pick], 0, &mut out).expect("a file that loads");
+    let (_, first) = Moment::first(&out[..put]).expect("a moment");
+    assert_eq!((needed(0), needed(1)), (Err(first), Err(put - first)));
+    assert_eq!((Moment::all(&out[..put]).count(), needed(9)), (2, needed(1)));
 }
 
 /// A file of so many picks and nothing else.

@@ -1,7 +1,8 @@
 //! What a thread holds, and what a pick bound.
 
-use crate::words::counted;
-use engine::{Operand, Relation, Thread, Value};
+use crate::moment::{Thread, Variable};
+use crate::words::{counted, UNKNOWN_VALUE};
+use engine::{Operand, Relation};
 use nettext::{columns, row, value};
 
 /// Everything that a thread holds.
@@ -33,7 +34,7 @@ fn told(
 ) -> Vec<String> {
     let bound = thread.variables.iter().enumerate().filter(|(number, _)| variables(*number));
     let mut lines: Vec<String> =
-        bound.filter_map(|(number, bound)| Some(variable(number, (*bound)?))).collect();
+        bound.filter_map(|(number, bound)| variable(number, *bound)).collect();
     let bound = thread.tables.iter().enumerate().filter(|(number, _)| tables(*number));
     lines.extend(bound.flat_map(|(number, bound)| {
         bound.as_ref().map_or(Vec::new(), |relation| table_variable(number, relation))
@@ -41,8 +42,12 @@ fn told(
     lines
 }
 
-fn variable(number: usize, bound: Value) -> String {
-    format!("x{number} = {}", value(bound))
+fn variable(number: usize, variable: Variable) -> Option<String> {
+    match variable {
+        Variable::Unbound => None,
+        Variable::Known(known) => Some(format!("x{number} = {}", value(known))),
+        Variable::Unknown => Some(format!("x{number} = {UNKNOWN_VALUE}")),
+    }
 }
 
 /// The rows with their places, which picks name.

@@ -1,9 +1,10 @@
 //! What a row was judged against: the fields of the template that are no formals, and the predicate.
 //! This only puts in words what the engine did; a trace shows it where it agrees with the answer.
 
+use crate::moment::Variables;
 use crate::parts::Parts;
 use crate::reading::Bindings;
-use engine::{Operand, Predicate, Row, Test, Value, Variables};
+use engine::{Operand, Predicate, Row, Test, Value};
 use nettext::value as shown;
 use std::cmp::Ordering;
 

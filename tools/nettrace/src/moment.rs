@@ -1,13 +1,31 @@
 //! The net between two picks, in the types that steps and texts are read in.
 
 use engine::{Columns, Entry, Kind, List, Locality, Places, Relation, Row, Site, Table};
-use engine::{Text, Thread, Value};
+use engine::{Text, Value};
 
 /// The tables and threads that the engine gave out.
 #[derive(PartialEq, Eq, Debug)]
 pub struct Moment {
     pub tables: Vec<Table>,
     pub threads: Vec<Thread>,
+}
+
+#[derive(PartialEq, Eq, Debug)]
+pub struct Thread {
+    pub site: Site,
+    pub variables: Variables,
+    pub tables: [Option<Relation>; 2],
+    pub stack: List<Entry, 8>,
+}
+
+pub type Variables = [Variable; 16];
+
+/// A later engine may bind values that are unknown here.
+#[derive(Clone, Copy, PartialEq, Eq, Debug)]
+pub enum Variable {
+    Unbound,
+    Known(Value),
+    Unknown,
 }
 
 impl From<&embed::Moment> for Moment {
@@ -28,16 +46,24 @@ fn table(table: &embed::Table) -> Table {
 fn thread(thread: &embed::ThreadState) -> Thread {
     Thread {
         site: Site(thread.site),
-        variables: thread.variables.map(|variable| variable.map(value)),
+        variables: thread.variables.map(variable),
         tables: thread.table_variables.each_ref().map(|held| held.as_ref().map(relation)),
         stack: list(thread.stack.iter().rev().map(entry)),
     }
 }
 
+fn variable(variable: embed::Variable) -> Variable {
+    match variable {
+        embed::Variable::Unbound => Variable::Unbound,
+        embed::Variable::Known(known) => Variable::Known(value(known)),
+        _ => Variable::Unknown,
+    }
+}
+
 fn entry(entry: &embed::Entry) -> Entry {
     match entry {
-        embed::Entry::Run(node) => Entry::Run(*node),
-        embed::Entry::Loop { node, left } => {
+        embed::Entry::Run { node, .. } => Entry::Run(*node),
+        embed::Entry::Loop { node, left, .. } => {
             let left = left.iter().fold(0, |places, place| places | 1_u16 << place);
             Entry::Loop { node: *node, left: Places(left) }
         }

@@ -1,11 +1,12 @@
 //! Where threads stand after a pick, with the round that it opened and what it bound.
 
 use crate::bindings::bound;
+use crate::moment::Thread;
 use crate::run::Turn;
 use crate::scene::Scene;
 use crate::steps::row_places;
 use crate::threads::{Names, ThreadChange};
-use engine::{Act, Thread};
+use engine::Act;
 use nettext::row;
 
 /// The threads' names around a pick.

@@ -1,6 +1,8 @@
 //! What operands come to.
 
-use engine::{Operand, Value, Variables};
+use crate::moment::{Variable, Variables};
+use crate::words::UNKNOWN_VALUE;
+use engine::{Operand, Value};
 use nettext::{operand as shown, value as shown_value};
 
 /// The bindings that operands are read with: a thread's variables, over which the formals of a
@@ -23,30 +25,39 @@ impl<'a> Bindings<'a> {
         Bindings { template, row, ..self }
     }
 
-    pub fn variable(&self, variable: u8) -> Option<Value> {
+    pub fn variable(&self, variable: u8) -> Variable {
         let column = self.template.iter().position(|field| *field == Operand::Formal(variable));
         let of_row = column.and_then(|column| self.row.get(column)).copied();
-        of_row.or(self.variables.get(usize::from(variable)).copied().flatten())
+        let own = self.variables.get(usize::from(variable)).copied();
+        of_row.map(Variable::Known).or(own).unwrap_or(Variable::Unbound)
+    }
+
+    fn known(&self, variable: u8) -> Option<Value> {
+        match self.variable(variable) {
+            Variable::Known(value) => Some(value),
+            _ => None,
+        }
     }
 
     pub fn value(&self, operand: Operand) -> Option<Value> {
         match operand {
             Operand::Constant(value) => Some(value),
-            Operand::Variable(variable) => self.variable(variable),
-            Operand::Plus(variable, more) => self.variable(variable)?.plus(more),
+            Operand::Variable(variable) => self.known(variable),
+            Operand::Plus(variable, more) => self.known(variable)?.plus(more),
             Operand::Formal(_) => None,
         }
     }
 
     /// Why an operand has no value.
     pub fn lack(&self, operand: Operand) -> String {
-        match operand {
-            Operand::Plus(variable, _) => match self.variable(variable) {
-                Some(Value::Int(_)) => format!("{} is outside 32 bits", shown(operand)),
-                Some(other) => format!("x{variable} is {}, no Int", shown_value(other)),
-                None => format!("x{variable} is unbound"),
-            },
-            _ => format!("{} has no value", shown(operand)),
+        let (Operand::Variable(variable) | Operand::Plus(variable, _)) = operand else {
+            return format!("{} has no value", shown(operand));
+        };
+        match self.variable(variable) {
+            Variable::Known(Value::Int(_)) => format!("{} is outside 32 bits", shown(operand)),
+            Variable::Known(other) => format!("x{variable} is {}, no Int", shown_value(other)),
+            Variable::Unknown => format!("x{variable} is {UNKNOWN_VALUE}"),
+            Variable::Unbound => format!("x{variable} is unbound"),
         }
     }
 }

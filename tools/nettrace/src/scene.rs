@@ -1,12 +1,12 @@
 //! What a pick meets: the step, its thread, and the net around it.
 
-use crate::moment::Moment;
+use crate::moment::{Moment, Thread};
 use crate::parts::Parts;
 use crate::reading::Bindings;
 use crate::run::Turn;
 use crate::steps::Steps;
 use crate::words;
-use engine::{Act, Entry, Places, Relation, Site, Table, Thread, Value};
+use engine::{Act, Entry, Places, Relation, Site, Table, Value};
 
 pub struct Scene<'a> {
     pub act: &'a Act,

@@ -1,7 +1,8 @@
 //! The net's steps, and how a trace names them.
 
+use crate::moment::Thread;
 use crate::source::{Source, Step};
-use engine::{Act, Aliases, Entry, Places, Thread};
+use engine::{Act, Aliases, Entry, Places};
 
 pub struct Steps {
     steps: Vec<Step>,

@@ -1,7 +1,7 @@
 //! A run as text: the net before it, each pick, the net after it.
 
 use crate::bindings::held;
-use crate::moment::Moment;
+use crate::moment::{Moment, Thread};
 use crate::outcome::outcome;
 use crate::progress::Around;
 use crate::run::Turn;
@@ -10,7 +10,7 @@ use crate::steps::Steps;
 use crate::threads::{Names, ThreadChange};
 use crate::words::{self, counted, counts};
 use embed::Answer;
-use engine::{Table, Thread};
+use engine::Table;
 use nettext::{columns, row};
 
 /// Tells turn after turn, and keeps the names of the threads.

@@ -3,6 +3,9 @@
 use engine::{Kind, Locality, Operand, Site, Table, Value};
 use nettext::name;
 
+/// What a variable holds that a later engine bound.
+pub const UNKNOWN_VALUE: &str = "a value that this nettrace does not know";
+
 /// A number of things.
 pub fn counted(count: usize, thing: &str) -> String {
     match count {

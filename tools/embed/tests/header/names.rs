@@ -2,23 +2,22 @@
 
 use crate::compiled::{compile, printed, Language};
 use crate::header;
-use embed::{Answer, Thread, RECORD};
+use embed::{Answer, Thread};
+use embed::{MOMENT_BYTES, PICKS_BYTES, RECORD_BYTES, TABLES_BYTES, THREADS_BYTES};
 
 /// All names of the header's enums, in its order.
 const NAMES: [(&str, usize); 37] = [
-    ("RECORD", RECORD),
-    ("ANSWER", Answer::SIZE),
-    ("THREAD", Thread::SIZE),
-    ("TABLES_MOST", RECORD * (8 + 8 * 16)),
-    ("THREADS_MOST", Thread::SIZE * 8),
-    // The moment, tables and rows; of each thread itself, 16 variables, 2 table variables of 16
-    // rows and 8 stack entries.
-    ("MOMENT_MOST", RECORD * (1 + 8 + 8 * 16 + 8 * (1 + 16 + 2 + 2 * 16 + 8))),
-    ("PICKS_MOST", 2 * 256),
+    ("RECORD_BYTES", RECORD_BYTES),
+    ("ANSWER_BYTES", Answer::SIZE),
+    ("THREAD_BYTES", Thread::SIZE),
+    ("TABLES_BYTES", TABLES_BYTES),
+    ("THREADS_BYTES", THREADS_BYTES),
+    ("MOMENT_BYTES", MOMENT_BYTES),
+    ("PICKS_BYTES", PICKS_BYTES),
     ("DONE", 0),
     ("LENGTH", 1),
     ("RECORDS", 2),
-    ("KIND", 3),
+    ("UNKNOWN_KIND", 3),
     ("FIELD", 4),
     ("ORDER", 5),
     ("TWICE", 6),
@@ -37,14 +36,14 @@ const NAMES: [(&str, usize); 37] = [
     ("LIMIT", 20),
     ("SHORT", 21),
     ("ODD_PICKS", 100),
-    ("TABLE", 2),
-    ("TABLE_ROW", 3),
-    ("MOMENT", 64),
-    ("A_THREAD", 65),
-    ("VARIABLE", 66),
-    ("TABLE_VARIABLE", 67),
-    ("VARIABLE_ROW", 68),
-    ("ENTRY", 69),
+    ("KIND_TABLE", 2),
+    ("KIND_ROW", 3),
+    ("KIND_MOMENT", 64),
+    ("KIND_THREAD", 65),
+    ("KIND_VARIABLE", 66),
+    ("KIND_TABLE_VARIABLE", 67),
+    ("KIND_TABLE_VARIABLE_ROW", 68),
+    ("KIND_ENTRY", 69),
 ];
 
 /// The names that the header gives a number.

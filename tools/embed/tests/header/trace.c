@@ -5,32 +5,32 @@
 #include "tivgeral.h"
 
 static uint8_t file[65536];
-static uint8_t picks[TIVGERAL_PICKS_MOST];
-static uint8_t out[TIVGERAL_MOMENT_MOST]; /* room for one moment at least */
+static uint8_t picks[TIVGERAL_PICKS_BYTES];
+static uint8_t out[TIVGERAL_MOMENT_BYTES]; /* room for one moment at least */
 
 /* How many bytes a moment has. */
 static size_t moment_length(const uint8_t *moment) {
     size_t records = moment[4] | (size_t)moment[5] << 8 | (size_t)moment[6] << 16 | (size_t)moment[7] << 24;
-    return records * TIVGERAL_RECORD;
+    return records * TIVGERAL_RECORD_BYTES;
 }
 
 static void print_moment(const uint8_t *moment) {
     unsigned threads = 0, variables = 0, tables = 0, entries = 0;
     int of_thread = 0; /* and not of a stack entry */
     const uint8_t *end = moment + moment_length(moment);
-    for (const uint8_t *record = moment; record < end; record += TIVGERAL_RECORD) {
+    for (const uint8_t *record = moment; record < end; record += TIVGERAL_RECORD_BYTES) {
         switch (record[0]) {
-        case TIVGERAL_A_THREAD:
+        case TIVGERAL_KIND_THREAD:
             threads++;
             of_thread = 1;
             break;
-        case TIVGERAL_VARIABLE:
+        case TIVGERAL_KIND_VARIABLE:
             variables += of_thread && record[56] != 0;
             break;
-        case TIVGERAL_TABLE_VARIABLE:
+        case TIVGERAL_KIND_TABLE_VARIABLE:
             tables += of_thread && record[2] == 1;
             break;
-        case TIVGERAL_ENTRY:
+        case TIVGERAL_KIND_ENTRY:
             entries++;
             of_thread = 0;
             break;
@@ -44,7 +44,7 @@ static void print_moment(const uint8_t *moment) {
 /* Prints the moments in so many bytes of `out`, and gives back how many they are. */
 static size_t print_moments(size_t length) {
     size_t count = 0;
-    for (size_t at = 0; at < length && out[at] == TIVGERAL_MOMENT; at += moment_length(out + at)) {
+    for (size_t at = 0; at < length && out[at] == TIVGERAL_KIND_MOMENT; at += moment_length(out + at)) {
         print_moment(out + at);
         count++;
     }

@@ -31,7 +31,7 @@ fn counts(net: &[u8]) -> String {
 /// Threads, bound variables, bound table variables, stack entries.
 fn counted(moment: &Moment) -> String {
     let all = |count: fn(&ThreadState) -> usize| moment.threads.iter().map(count).sum::<usize>();
-    let variables = all(|thread| thread.variables.iter().flatten().count());
+    let variables = all(|thread| thread.variables.iter().filter(|held| held.is_bound()).count());
     let tables = all(|thread| thread.table_variables.iter().flatten().count());
     let entries = all(|thread| thread.stack.len());
     format!("{} {variables} {tables} {entries}\n", moment.threads.len())

@@ -1,5 +1,6 @@
 //! Number 12: which variable or table variable is unbound.
 
+use crate::moment::Variable;
 use crate::parts::Parts;
 use crate::scene::Scene;
 use engine::Operand;
@@ -49,7 +50,8 @@ fn variable(operand: Operand) -> Option<u8> {
 
 fn is_unbound(scene: &Scene, place: Read, variable: u8) -> bool {
     let of_row = matches!(place, Read::InPredicate | Read::InTuple);
-    scene.own().variable(variable).is_none() && !(of_row && scene.parts.has_formal(variable))
+    scene.own().variable(variable) == Variable::Unbound
+        && !(of_row && scene.parts.has_formal(variable))
 }
 
 impl Read {

@@ -5,6 +5,7 @@ mod bound;
 mod double;
 mod doubts;
 mod judged;
+mod later;
 mod page;
 mod pages;
 mod pieces;

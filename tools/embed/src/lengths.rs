@@ -1,0 +1,20 @@
+//! Lengths in bytes, by the names of the header: of a record, and the most that a call puts out.
+
+use crate::{Pick, Thread};
+
+/// A record of a file or of a trace.
+pub const RECORD_BYTES: usize = 104;
+
+/// The most that `tivgeral_tables` puts out: a record for each of 8 tables and each of their 16
+/// rows.
+pub const TABLES_BYTES: usize = RECORD_BYTES * (8 + 8 * 16);
+
+/// The most that `tivgeral_threads` puts out: 8 threads.
+pub const THREADS_BYTES: usize = Thread::SIZE * 8;
+
+/// The most that a moment of a trace has: itself, the tables with their rows, and 8 threads, each
+/// with 16 variables, 2 table variables of 16 rows and 8 stack entries.
+pub const MOMENT_BYTES: usize = RECORD_BYTES * (1 + 8 + 8 * 16 + 8 * (1 + 16 + 2 + 2 * 16 + 8));
+
+/// The most that `tivgeral_picks` puts out: a file has 256 records.
+pub const PICKS_BYTES: usize = Pick::SIZE * 256;
