@@ -118,6 +118,20 @@ exits 1; says 'marked.nettext:1:13: found "x", expected a thread place 0..255'
 printf '\377\376p\000i\000c\000k\000' >wide.nettext
 tries netasm wide.nettext
 exits 1; prints_nothing; says "wide.nettext: this is text in UTF-16"; says "save it as UTF-8"
+printf 'p\000i\000c\000k\000' >wide.nettext
+tries netasm wide.nettext
+exits 1; prints_nothing; says "wide.nettext: this is text in UTF-16"
+printf '\000p\000i\000c\000k' >wide.nettext
+tries netasm wide.nettext
+exits 1; prints_nothing; says "wide.nettext: this is text in UTF-16"
+printf '# a\rtable A at site 0 (Int)\r' >returns.nettext
+tries netasm returns.nettext -o returns.net
+exits 1; says "returns.nettext: lines end in carriage returns alone, and line feeds are expected"; says "what to do: "
+[ ! -e returns.net ] || complains "returns.net was written"
+tr '\r' '\n' <returns.nettext >fed.nettext
+tries netasm fed.nettext
+exits 0; says_nothing
+[ "$(stat -c %s out)" = 104 ] || complains "the table is not there"
 tries netasm "$ROOT/examples/update.net"
 exits 1; prints_nothing; says "update.net: these are records"; says "netdump"; says "netrun"
 

@@ -33,6 +33,9 @@ exits 1; prints_nothing; says "update.nettext: this is a text, and records are e
 printf '\377\376p\000i\000c\000k\000' >wide.nettext
 tries netdump wide.nettext
 exits 1; says "this is a text"; says "netasm"
+printf '#\000a\000\n\000' >wide.nettext
+tries netdump wide.nettext
+exits 1; says "this is a text"
 
 # A refused file is shown if one asks for it, with what is at fault, and assembles again.
 refused=$ROOT/examples/refused-file.net
