@@ -145,4 +145,15 @@ tries netasm warned.nettext -o warned.net
 exits 0; says "warned.nettext:3:5: warning: no table CRAD is declared or created; did you mean CARD?"
 [ "$(stat -c %s warned.net)" = 312 ] || complains "the records are not written"
 
+# Nothing at all is assembled, but not in silence.
+tried="netasm -o plain.net <&-"
+netasm -o plain.net <&- >out 2>err
+status=$?
+exits 0; says "<stdin>: warning: the text has no statement, so the net is empty"; says "what to do: "
+echo "# only a comment" >comment.nettext
+for text in /dev/null comment.nettext; do
+    tries netasm "$text"
+    exits 0; prints_nothing; says "$text: warning: the text has no statement, so the net is empty"
+done
+
 finish

@@ -52,4 +52,14 @@ tries netdump --unchecked a.net
 netdump a.net >plain
 exits 0; cmp -s out plain || complains "a file that loads has another text"
 
+# A file of no records is a net, but hardly the one that was meant.
+for option in "" --unchecked; do
+    tries netdump $option /dev/null
+    exits 0; prints_nothing; says "/dev/null: warning: the file has no record, so the net is empty"; says "what to do: "
+done
+tried="netdump <&-"
+netdump <&- >out 2>err
+status=$?
+exits 0; says "<stdin>: warning: the file has no record, so the net is empty"
+
 finish

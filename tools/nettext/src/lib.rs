@@ -22,6 +22,7 @@ mod words;
 mod written;
 
 pub use assemble::{assemble, assemble_checked, Assembled};
+pub use check::no_record;
 pub use error::Error;
 pub use errors::Errors;
 pub use names::Names;

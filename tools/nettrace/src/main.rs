@@ -52,7 +52,9 @@ fn main() -> ExitCode {
 
 fn work(input: &Input, out: &mut dyn Write) -> Result<(), Failure> {
     let picks = picks(input).map_err(Failure::Unusable)?;
-    trace(&Proved, &source(input)?, picks, out)
+    let source = source(input)?;
+    cli::say(&source.warnings());
+    trace(&Proved, &source, picks, out)
 }
 
 /// None where the file's own are to be run.

@@ -1,7 +1,7 @@
 //! netdump: writes the text of a file of records.
 
 use nettext::cli::{self, Failure, Input, Program};
-use nettext::{dump, dump_unchecked, refused_file, text_for_records, FILE_LIMIT};
+use nettext::{dump, dump_unchecked, no_record, refused_file, text_for_records, FILE_LIMIT};
 use std::io::Write;
 use std::process::ExitCode;
 
@@ -36,6 +36,9 @@ fn main() -> ExitCode {
 
 fn work(input: &Input, out: &mut dyn Write) -> Result<(), Failure> {
     let Input { name, bytes, .. } = input;
+    if bytes.is_empty() {
+        cli::say(&no_record().shown(name, ""));
+    }
     if input.has("--unchecked") {
         return Ok(dump_unchecked(bytes, out)?);
     }
