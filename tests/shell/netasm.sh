@@ -145,6 +145,16 @@ tries netasm warned.nettext -o warned.net
 exits 0; says "warned.nettext:3:5: warning: no table CRAD is declared or created; did you mean CARD?"
 [ "$(stat -c %s warned.net)" = 312 ] || complains "the records are not written"
 
+# Options that can't be meant.
+tries netasm plain.nettext -o one.net -o two.net
+exits 2; says "netasm: -o is given twice"; says "--help"
+[ ! -e one.net ] && [ ! -e two.net ] || complains "a file was written"
+tries netasm plain.nettext -o ''
+exits 2; says "netasm: a file name is missing after -o"
+netasm --help >help
+tries netasm -h
+exits 0; cmp -s out help || complains "not what --help shows"
+
 # Nothing at all is assembled, but not in silence.
 tried="netasm -o plain.net <&-"
 netasm -o plain.net <&- >out 2>err
