@@ -118,6 +118,20 @@ exits 1; says 'marked.nettext:1:13: found "x", expected a thread place 0..255'
 printf '\377\376p\000i\000c\000k\000' >wide.nettext
 tries netasm wide.nettext
 exits 1; prints_nothing; says "wide.nettext: this is text in UTF-16"; says "save it as UTF-8"
+printf 'p\000i\000c\000k\000' >wide.nettext
+tries netasm wide.nettext
+exits 1; prints_nothing; says "wide.nettext: this is text in UTF-16"
+printf '\000p\000i\000c\000k' >wide.nettext
+tries netasm wide.nettext
+exits 1; prints_nothing; says "wide.nettext: this is text in UTF-16"
+printf '# a\rtable A at site 0 (Int)\r' >returns.nettext
+tries netasm returns.nettext -o returns.net
+exits 1; says "returns.nettext: lines end in carriage returns alone, and line feeds are expected"; says "what to do: "
+[ ! -e returns.net ] || complains "returns.net was written"
+tr '\r' '\n' <returns.nettext >fed.nettext
+tries netasm fed.nettext
+exits 0; says_nothing
+[ "$(stat -c %s out)" = 104 ] || complains "the table is not there"
 tries netasm "$ROOT/examples/update.net"
 exits 1; prints_nothing; says "update.net: these are records"; says "netdump"; says "netrun"
 
@@ -130,5 +144,26 @@ printf 'table CARD at site 0 (Int)\nprocess p:\n    drop CRAD @self\nstart p at 
 tries netasm warned.nettext -o warned.net
 exits 0; says "warned.nettext:3:5: warning: no table CRAD is declared or created; did you mean CARD?"
 [ "$(stat -c %s warned.net)" = 312 ] || complains "the records are not written"
+
+# Options that can't be meant.
+tries netasm plain.nettext -o one.net -o two.net
+exits 2; says "netasm: -o is given twice"; says "--help"
+[ ! -e one.net ] && [ ! -e two.net ] || complains "a file was written"
+tries netasm plain.nettext -o ''
+exits 2; says "netasm: a file name is missing after -o"
+netasm --help >help
+tries netasm -h
+exits 0; cmp -s out help || complains "not what --help shows"
+
+# Nothing at all is assembled, but not in silence.
+tried="netasm -o plain.net <&-"
+netasm -o plain.net <&- >out 2>err
+status=$?
+exits 0; says "<stdin>: warning: the text has no statement, so the net is empty"; says "what to do: "
+echo "# only a comment" >comment.nettext
+for text in /dev/null comment.nettext; do
+    tries netasm "$text"
+    exits 0; prints_nothing; says "$text: warning: the text has no statement, so the net is empty"
+done
 
 finish

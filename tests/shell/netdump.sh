@@ -33,6 +33,9 @@ exits 1; prints_nothing; says "update.nettext: this is a text, and records are e
 printf '\377\376p\000i\000c\000k\000' >wide.nettext
 tries netdump wide.nettext
 exits 1; says "this is a text"; says "netasm"
+printf '#\000a\000\n\000' >wide.nettext
+tries netdump wide.nettext
+exits 1; says "this is a text"
 
 # A refused file is shown if one asks for it, with what is at fault, and assembles again.
 refused=$ROOT/examples/refused-file.net
@@ -48,5 +51,15 @@ exits 0; prints "# load 1 at 1: "; prints "table CARD at site 0 (Int, Text)"; pr
 tries netdump --unchecked a.net
 netdump a.net >plain
 exits 0; cmp -s out plain || complains "a file that loads has another text"
+
+# A file of no records is a net, but hardly the one that was meant.
+for option in "" --unchecked; do
+    tries netdump $option /dev/null
+    exits 0; prints_nothing; says "/dev/null: warning: the file has no record, so the net is empty"; says "what to do: "
+done
+tried="netdump <&-"
+netdump <&- >out 2>err
+status=$?
+exits 0; says "<stdin>: warning: the file has no record, so the net is empty"
 
 finish

@@ -55,6 +55,48 @@ tries nettrace records.nettext
 exits 1
 says "records.nettext: these are records, and a text is expected"
 
+# A text that is too long is held to the limit of texts, however long it is; a list of picks to that of files.
+for size in 1048577 70000000; do
+    for call in "--text" "--text long.net" "long.nettext"; do
+        yes "# a comment" | head -c "$size" >long.nettext
+        ln -f long.nettext long.net
+        tried="nettrace $call < long.nettext, of $size bytes"
+        nettrace $call <long.nettext >out 2>err
+        status=$?
+        exits 1
+        prints_nothing
+        says "over 1048576 bytes, and no net needs so much"
+    done
+done
+yes 0 | head -c 1100000 >many
+tries nettrace update.nettext --picks-from many -o /dev/null
+exits 0
+rm long.nettext long.net many
+tries nettrace update.nettext --picks 0 --picks 1
+exits 2
+says "nettrace: --picks is given twice"
+
+# What netasm warns of, nettrace warns of in the same words.
+printf 'table CARD at site 0 (Int)\nprocess p:\n    drop CRAD @self\nprocess q:\n    drop CARD @self\nstart p at site 0\npick thread 0\n' >warned.nettext
+echo "# only a comment" >comment.nettext
+for text in warned.nettext comment.nettext; do
+    netasm "$text" 2>warnings >/dev/null
+    tries nettrace "$text"
+    exits 0
+    says "warning: "
+    prints "in all: "
+    cmp -s err warnings || complains "other warnings than netasm's"
+done
+tries nettrace /dev/null
+exits 0
+says "/dev/null: warning: the file has no record, so the net is empty"
+# Of a net that is refused the errors are enough.
+printf 'process p:\n    drop CRAD @self\n    drop CRAD @self then p\n' >refused.nettext
+netasm refused.nettext 2>errors >/dev/null
+tries nettrace refused.nettext
+exits 1
+cmp -s err errors || complains "other errors than netasm's"
+
 # A build of the whole workspace leaves a nettrace that has the engine.
 tries cargo build --release --offline --quiet --manifest-path "$ROOT/Cargo.toml"
 exits 0

@@ -22,12 +22,13 @@ mod words;
 mod written;
 
 pub use assemble::{assemble, assemble_checked, Assembled};
+pub use check::no_record;
 pub use error::Error;
 pub use errors::Errors;
 pub use names::Names;
 pub use numbers::{number, refused_file, Number};
 pub use print::{columns, dump, dump_unchecked, name, operand, row, step, value};
-pub use shape::{read_text, text_for_records};
+pub use shape::{lone_return, read_text, text_for_records};
 pub use token::Place;
 
 /// Bytes of a text at most. A net has at most 256 records, so none needs more.

@@ -117,6 +117,7 @@ fn help() {
     for program in [NETASM, NETDUMP] {
         let (status, help, errors) = outcome(&run(program, &["--help"], b""));
         assert_eq!((status, errors.as_str()), (Some(0), ""));
+        assert_eq!(outcome(&run(program, &["-h"], b"")), (Some(0), help.clone(), errors));
         for part in ["usage: net", "Example", "docs/TEXT.md", "-o FILE", "standard input"] {
             assert!(help.contains(part), "{part} in {help}");
         }
@@ -125,10 +126,14 @@ fn help() {
 
 #[test]
 fn wrong_options() {
-    let usage = "usage: netasm [FILE] [-o FILE] [--unchecked]\n";
+    let usage = "usage: netasm [FILE] [-o FILE] [--unchecked] [--help]\n";
     for (arguments, wrong) in [
         (&["--chekced"][..], "unknown option --chekced"),
         (&["-o"], "-o needs a file"),
+        (&["-o", ""], "a file name is missing after -o: \"\" is none"),
+        (&[""], "a file name is missing: \"\" is none"),
+        (&["-o", "a", "-o", "b"], "-o is given twice"),
+        (&["--unchecked", "--unchecked"], "--unchecked is given twice"),
         (&["a.nettext", "b.nettext"], "a second file b.nettext"),
     ] {
         let expected = (Some(2), String::new(), format!("netasm: {wrong}\n{usage}"));
@@ -136,7 +141,7 @@ fn wrong_options() {
     }
     let (status, _, shown) = outcome(&run(NETDUMP, &["--raw"], b""));
     assert_eq!(status, Some(2));
-    let usage = "usage: netdump [FILE] [-o FILE] [--unchecked]";
+    let usage = "usage: netdump [FILE] [-o FILE] [--unchecked] [--help]";
     assert_eq!(shown, format!("netdump: unknown option --raw\n{usage}\n"));
 }
 

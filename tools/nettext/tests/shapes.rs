@@ -56,6 +56,35 @@ what to do: save it as UTF-8 (in Notepad: Save as, Encoding UTF-8), or turn it b
     assert_eq!(no_text(&little), shown);
     assert_eq!(no_text(&big), shown);
     assert!(text_for_records(&little).is_some() && text_for_records(&big).is_some());
+    // Without the mark, too, however it begins and also with characters that have no zero.
+    for text in ["# Wörter\r\npick thread 0\r\n", " \n# ≠\nrow", "#a"] {
+        let little: Vec<u8> = text.encode_utf16().flat_map(u16::to_le_bytes).collect();
+        let big: Vec<u8> = text.encode_utf16().flat_map(u16::to_be_bytes).collect();
+        assert_eq!([no_text(&little), no_text(&big)], [shown, shown], "{text}");
+        assert!(text_for_records(&little).is_some() && text_for_records(&big).is_some(), "{text}");
+    }
+}
+
+/// A comment would hide the lines after it.
+#[test]
+fn lines_that_end_in_carriage_returns_alone() {
+    let to_do = "what to do: save it with the line ends of Linux or Windows, or turn it by: \
+                 tr '\\r' '\\n'\n";
+    let shown = "net: lines end in carriage returns alone, and line feeds are expected\n";
+    for text in ["# a\rtable A at site 0 (Int)\r", "\u{feff}# a\r\rpick thread 0", "\r#"] {
+        assert_eq!(no_text(text.as_bytes()), format!("{shown}{to_do}"), "{text:?}");
+    }
+    let shown = "\
+net:2:4: this line ends in a carriage return alone, and a line feed is expected
+    # a?table A at site 0 (Int)
+       ^
+";
+    let mixed = "# one\r\n# a\rtable A at site 0 (Int)\r\n";
+    assert_eq!(no_text(mixed.as_bytes()), format!("{shown}{to_do}"));
+    // Before a line feed or at the end of the text, any number of them do no harm.
+    for text in ["pick thread 0\r\n\r\r\npick thread 0\r", "\r", "\r\n", ""] {
+        assert!(read_text(text.as_bytes()).is_ok(), "{text:?}");
+    }
 }
 
 #[test]

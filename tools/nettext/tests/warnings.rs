@@ -81,6 +81,15 @@ fn bodies_that_also_come_next() {
 }
 
 #[test]
+fn a_text_without_statements() {
+    for text in ["", "\n\n", "# only a comment\n", "\u{feff}"] {
+        let shown = " warning: the text has no statement, so the net is empty";
+        assert_eq!(warnings(text), [shown], "{text:?}");
+    }
+    assert_eq!(warnings("pick thread 0\n"), NONE);
+}
+
+#[test]
 fn a_warning_says_what_to_do() {
     let text = "process p:\n    drop A @self\nstart p at site 0\n";
     let shown = "\

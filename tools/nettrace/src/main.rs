@@ -1,8 +1,8 @@
 //! nettrace: runs a net through the proved engine and tells each pick.
 
 use embed::Pick;
-use nettext::cli::{self, Failure, Input, Program};
-use nettext::FILE_LIMIT;
+use nettext::cli::{self, Failure, Input, Options, Program};
+use nettext::{FILE_LIMIT, TEXT_LIMIT};
 use nettrace::{parse_pick_list, parse_picks, trace, Proved, Source};
 use std::io::Write;
 use std::process::ExitCode;
@@ -12,7 +12,7 @@ nettrace runs the picks of a Klaim-DB net through the proved engine and tells ea
 thread and its step, done with its counts or refused with the reason, the rows that the step
 judged, and what changed in tables, bindings and threads.
 
-usage: nettrace [FILE] [--picks PICKS | --picks-from FILE] [--text] [-o FILE]
+usage: nettrace [FILE] [--picks PICKS | --picks-from FILE] [--text] [-o FILE] [--help]
 
 Reads a text from a FILE.nettext, else records, from FILE or from standard input, and writes
 to standard output, each pick as soon as it is known.
@@ -23,7 +23,7 @@ to standard output, each pick as soon as it is known.
                      from # to the end of its line
   --text             read a text, whatever the file is called
   -o FILE            write to FILE
-  --help             show this
+  -h, --help         show this
 
 A thread is told by its place, which picks name, and by a name that it keeps while places close
 up: A, B and on for the threads that the net starts with, A.1, A.2 and on for the forks of A.
@@ -45,14 +45,16 @@ fn main() -> ExitCode {
         flags: &["--text"],
         settings: &["--picks"],
         files: &["--picks-from"],
-        limit: FILE_LIMIT,
+        limit,
         work,
     })
 }
 
 fn work(input: &Input, out: &mut dyn Write) -> Result<(), Failure> {
     let picks = picks(input).map_err(Failure::Unusable)?;
-    trace(&Proved, &source(input)?, picks, out)
+    let source = source(input)?;
+    cli::say(&source.warnings());
+    trace(&Proved, &source, picks, out)
 }
 
 /// None where the file's own are to be run.
@@ -68,8 +70,20 @@ fn picks(input: &Input) -> Result<Option<Vec<Pick>>, String> {
     }
 }
 
+fn limit(options: &Options) -> usize {
+    let name = options.input.as_ref().map(|path| path.display().to_string());
+    match is_text(options.has("--text"), &name.unwrap_or_default()) {
+        true => TEXT_LIMIT,
+        false => FILE_LIMIT,
+    }
+}
+
+fn is_text(said: bool, name: &str) -> bool {
+    said || name.ends_with(".nettext")
+}
+
 fn source(input: &Input) -> Result<Source, String> {
-    match input.has("--text") || input.name.ends_with(".nettext") {
+    match is_text(input.has("--text"), &input.name) {
         true => Source::of_text(&input.name, &input.bytes),
         false => Ok(Source::of_records(&input.name, input.bytes.clone())),
     }

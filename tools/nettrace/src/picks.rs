@@ -1,6 +1,7 @@
 //! Picks as they are written on a command line or in a file.
 
 use embed::Pick;
+use nettext::lone_return;
 
 /// Picks parted by blanks, each a thread place, or a thread place, a colon and a row place.
 pub fn parse(text: &str) -> Result<Vec<Pick>, String> {
@@ -12,6 +13,9 @@ pub fn parse(text: &str) -> Result<Vec<Pick>, String> {
 pub fn parse_list(name: &str, bytes: &[u8]) -> Result<Vec<Pick>, String> {
     let text = std::str::from_utf8(bytes)
         .map_err(|error| format!("{name}: no text, at byte {}", error.valid_up_to()))?;
+    if let Some(error) = lone_return(text) {
+        return Err(error.shown(name, text).trim_end().to_owned());
+    }
     let text = text.strip_prefix('\u{feff}').unwrap_or(text);
     let mut picks = Vec::new();
     for (number, line) in text.lines().enumerate() {
@@ -77,6 +81,14 @@ mod tests {
                      0..255";
         assert_eq!(list("0\n# 7-0\n1 7-0\n"), Err(wrong.to_owned()));
         assert_eq!(parse_list("list", b"0 \xff"), Err("list: no text, at byte 2".to_owned()));
+    }
+
+    /// The comment would hide all picks after it.
+    #[test]
+    fn lines_that_end_in_carriage_returns_alone() {
+        let wrong = parse_list("list", b"# a\r0\r1:3\r").expect_err("one line");
+        assert!(wrong.starts_with("list: lines end in carriage returns alone, and"), "{wrong}");
+        assert!(parse_list("list", b"0 # a\r\n1\r").is_ok_and(|picks| picks.len() == 2));
     }
 
     #[test]

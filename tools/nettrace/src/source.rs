@@ -2,7 +2,7 @@
 
 use embed::Refused;
 use engine::{decode, Aliases, Node, Record};
-use nettext::{assemble, read_text, refused_file, step, text_for_records};
+use nettext::{assemble, no_record, read_text, refused_file, step, text_for_records};
 use nettext::{Assembled, Error, Names};
 
 /// What to do where a text was taken for records.
@@ -85,6 +85,17 @@ impl Source {
             }
         }
         aliases
+    }
+
+    /// What loads and is hardly meant, as netasm says it; nothing of a text that loading refuses.
+    pub fn warnings(&self) -> String {
+        match &self.origin {
+            Origin::Text(text, assembled) if assembled.check().is_ok() => {
+                assembled.warnings().shown(&self.name, text)
+            }
+            Origin::Records(file) if file.is_empty() => no_record().shown(&self.name, ""),
+            _ => String::new(),
+        }
     }
 
     /// The report on a file that the engine refuses, in the words of the text if there is one.

@@ -55,11 +55,41 @@ fn to_visit(left: Places) -> String {
     }
 }
 
-/// One row place or more, for a sentence.
+/// So many places that follow each other are told by the first and the last.
+const RUN: usize = 4;
+
+/// One row place or more, in ascending order, for a sentence.
 pub fn row_places(places: impl Iterator<Item = u8>) -> String {
-    let places: Vec<String> = places.map(|place| place.to_string()).collect();
+    let places: Vec<u8> = places.collect();
+    let runs = places.chunk_by(|place, next| place.checked_add(1) == Some(*next));
+    let told: Vec<String> = runs.flat_map(run).collect();
     match places.len() {
-        1 => format!("row {}", places[0]),
-        _ => format!("rows {}", places.join(", ")),
+        1 => format!("row {}", told.join(", ")),
+        _ => format!("rows {}", told.join(", ")),
+    }
+}
+
+fn run(places: &[u8]) -> Vec<String> {
+    match places {
+        [first, .., last] if places.len() >= RUN => vec![format!("{first} to {last}")],
+        _ => places.iter().map(u8::to_string).collect(),
+    }
+}
+
+#[cfg(test)]
+mod tests {
+    use super::*;
+
+    #[test]
+    fn runs_of_row_places() {
+        for (places, told) in [
+            (&[7][..], "row 7"),
+            (&[0, 1, 2], "rows 0, 1, 2"),
+            (&[0, 1, 2, 3], "rows 0 to 3"),
+            (&[0, 2, 3, 4, 5, 7, 8, 10], "rows 0, 2 to 5, 7, 8, 10"),
+            (&[252, 253, 254, 255], "rows 252 to 255"),
+        ] {
+            assert_eq!(row_places(places.iter().copied()), told);
+        }
     }
 }

@@ -47,6 +47,7 @@ fn scratch(name: &str, bytes: &[u8]) -> String {
 fn help() {
     let (status, help, errors) = run(&["--help"], b"");
     assert_eq!((status, errors.as_str()), (Some(0), ""));
+    assert_eq!(run(&["-h"], b""), (status, help.clone(), errors));
     let options = ["--picks PICKS", "--picks-from FILE", "--text", "-o FILE"];
     for part in options.into_iter().chain(["usage: nettrace", "Example: nettrace", "docs/TOUR.md"])
     {
@@ -56,11 +57,15 @@ fn help() {
 
 #[test]
 fn wrong_options() {
-    let usage = "usage: nettrace [FILE] [--picks PICKS | --picks-from FILE] [--text] [-o FILE]\n";
+    let usage = "usage: nettrace [FILE] [--picks PICKS | --picks-from FILE] [--text] [-o FILE] \
+                 [--help]\n";
     for (arguments, wrong) in [
         (&["--pick"][..], "unknown option --pick"),
         (&["--picks"], "--picks needs a value"),
         (&["--picks-from"], "--picks-from needs a file"),
+        (&["--picks-from", ""], "a file name is missing after --picks-from: \"\" is none"),
+        (&["--picks", "0", "--picks", ""], "--picks is given twice"),
+        (&["--picks-from", "a", "--picks-from", "b"], "--picks-from is given twice"),
         (&["a.net", "b.net"], "a second file b.net"),
     ] {
         let expected = (Some(2), String::new(), format!("nettrace: {wrong}\n{usage}"));

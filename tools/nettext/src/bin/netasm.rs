@@ -1,6 +1,6 @@
 //! netasm: assembles the text of a net to records.
 
-use nettext::cli::{self, Failure, Input, Program};
+use nettext::cli::{self, Failure, Input, Options, Program};
 use nettext::{assemble, assemble_checked, read_text, TEXT_LIMIT};
 use std::io::Write;
 use std::process::ExitCode;
@@ -8,7 +8,7 @@ use std::process::ExitCode;
 const HELP: &str = "\
 netasm assembles the text of a Klaim-DB net to the records that netrun reads.
 
-usage: netasm [FILE] [-o FILE] [--unchecked]
+usage: netasm [FILE] [-o FILE] [--unchecked] [--help]
 
 Reads the text from FILE, or from standard input, and writes the records, 104 bytes each, to
 standard output. Where the text breaks the grammar, or loading would refuse the net, it names
@@ -17,7 +17,7 @@ something that loads and is hardly meant; the records are written all the same.
 
   -o FILE      write to FILE, which stays as it was if anything goes wrong
   --unchecked  write the records even if loading would refuse them
-  --help       show this
+  -h, --help   show this
 
 Example: netasm examples/update.nettext | netrun
 
@@ -28,7 +28,7 @@ bytes. The grammar is in docs/TEXT.md.
 
 fn main() -> ExitCode {
     let (flags, settings) = (&["--unchecked"], &[]);
-    let limit = TEXT_LIMIT;
+    let limit = |_: &Options| TEXT_LIMIT;
     cli::run(&Program { name: "netasm", help: HELP, flags, settings, files: &[], limit, work })
 }
 

@@ -1,14 +1,14 @@
 //! netdump: writes the text of a file of records.
 
-use nettext::cli::{self, Failure, Input, Program};
-use nettext::{dump, dump_unchecked, refused_file, text_for_records, FILE_LIMIT};
+use nettext::cli::{self, Failure, Input, Options, Program};
+use nettext::{dump, dump_unchecked, no_record, refused_file, text_for_records, FILE_LIMIT};
 use std::io::Write;
 use std::process::ExitCode;
 
 const HELP: &str = "\
 netdump writes the records of a Klaim-DB net as text, which netasm assembles to the same bytes.
 
-usage: netdump [FILE] [-o FILE] [--unchecked]
+usage: netdump [FILE] [-o FILE] [--unchecked] [--help]
 
 Reads the records from FILE, or from standard input, and writes the text to standard output.
 Where loading refuses the file, it says the number, the record's place and what to do, and
@@ -18,7 +18,7 @@ writes nothing.
   --unchecked  write also what loading refuses: the record at fault has a comment above it with
                the number, the place and what to do. A record that does not read is a comment
                with its bytes; if there is none, netasm --unchecked gives the same bytes again
-  --help       show this
+  -h, --help   show this
 
 Examples: netdump examples/update.net
           netdump --unchecked examples/refused-file.net
@@ -30,12 +30,15 @@ is in docs/TEXT.md.
 
 fn main() -> ExitCode {
     let (flags, settings) = (&["--unchecked"], &[]);
-    let limit = FILE_LIMIT;
+    let limit = |_: &Options| FILE_LIMIT;
     cli::run(&Program { name: "netdump", help: HELP, flags, settings, files: &[], limit, work })
 }
 
 fn work(input: &Input, out: &mut dyn Write) -> Result<(), Failure> {
     let Input { name, bytes, .. } = input;
+    if bytes.is_empty() {
+        cli::say(&no_record().shown(name, ""));
+    }
     if input.has("--unchecked") {
         return Ok(dump_unchecked(bytes, out)?);
     }

@@ -12,7 +12,7 @@ use crate::item::Statement;
 use crate::labels::Labels;
 use crate::numbers::refusal_that;
 use crate::token::Place;
-pub use warnings::warnings;
+pub use warnings::{no_record, warnings};
 
 /// What is wrong with a net, in the order in which loading finds it.
 #[derive(Default)]

@@ -13,12 +13,25 @@ use std::collections::{BTreeSet, HashSet};
 /// In the order of their places.
 pub fn warnings(statements: &[Statement], labels: &Labels) -> Errors {
     let mut warnings = Errors::default();
+    if statements.is_empty() {
+        warnings.add(|| empty("the text has no statement"));
+    }
     unknown_tables(statements, &mut warnings);
     let links = Links { labels, steps: steps(statements) };
     links.bodies_that_come_next(&mut warnings);
     links.unreached(statements, &mut warnings);
     warnings.in_order();
     warnings
+}
+
+/// The warning of a file of no records.
+pub fn no_record() -> Error {
+    empty("the file has no record")
+}
+
+fn empty(wrong: &str) -> Error {
+    let wrong = format!("warning: {wrong}, so the net is empty");
+    Error::of_file(&wrong, "look whether this is the file that was meant")
 }
 
 fn warn(place: Place, wrong: &str, to_do: &str) -> Error {

@@ -13,8 +13,7 @@ const STANDARD_INPUT: &str = "<stdin>";
 pub struct Input {
     pub name: String,
     pub bytes: Vec<u8>,
-    flags: Vec<String>,
-    settings: Vec<(String, String)>,
+    options: Options,
     files: Vec<(String, Content)>,
 }
 
@@ -25,24 +24,24 @@ pub struct Content {
 }
 
 impl Input {
-    /// The file that an option names, the last one where it is given twice.
+    /// The file that an option names.
     pub fn file(&self, option: &str) -> Option<&Content> {
-        let given = self.files.iter().rev().find(|(given, _)| given == option);
+        let given = self.files.iter().find(|(given, _)| given == option);
         given.map(|(_, content)| content)
     }
 
     pub fn new(net: Content, options: Options, files: Vec<(String, Content)>) -> Input {
         let Content { name, bytes } = net;
-        Input { name, bytes, flags: options.flags, settings: options.settings, files }
+        Input { name, bytes, options, files }
     }
 
     pub fn has(&self, flag: &str) -> bool {
-        self.flags.iter().any(|given| given == flag)
+        self.options.has(flag)
     }
 
-    /// The value of an option, the last one where it is given twice.
+    /// The value of an option.
     pub fn setting(&self, option: &str) -> Option<&str> {
-        let given = self.settings.iter().rev().find(|(given, _)| given == option);
+        let given = self.options.settings.iter().find(|(given, _)| given == option);
         given.map(|(_, value)| value.as_str())
     }
 }

@@ -4,9 +4,10 @@ mod input;
 mod options;
 mod output;
 
+use crate::FILE_LIMIT;
 use input::Opened;
 pub use input::{Content, Input};
-use options::Options;
+pub use options::Options;
 use output::Destination;
 use std::io::{self, Write};
 use std::path::Path;
@@ -24,14 +25,14 @@ const TOO_MUCH: &str = "which is more than is read of it";
 pub struct Program {
     pub name: &'static str,
     pub help: &'static str,
-    /// The options beside `--help` and `-o`.
+    /// The options beside `-h`, `--help` and `-o`.
     pub flags: &'static [&'static str],
     /// The options that a value follows.
     pub settings: &'static [&'static str],
     /// The options that the name of a further file to read follows.
     pub files: &'static [&'static str],
     /// So many bytes of the input are read at most; one that has more is at fault.
-    pub limit: usize,
+    pub limit: fn(&Options) -> usize,
     /// Writes the result for an input, or says what to report. A file after `-o` keeps what it
     /// had where this fails.
     pub work: fn(&Input, &mut dyn Write) -> Result<(), Failure>,
@@ -99,11 +100,11 @@ fn carried_out(program: &Program, options: Options) -> Result<(), Failure> {
         return written(Destination::new(None)?, |out| Ok(out.write_all(help)?));
     }
     let destination = Destination::new(options.output.as_deref())?;
-    let read = |path, reason| read(&destination, path, program.limit, reason);
-    let net = read(options.input.as_deref(), NO_NET)?;
+    let limit = (program.limit)(&options);
+    let net = read(&destination, options.input.as_deref(), limit, NO_NET)?;
     let mut files = Vec::new();
     for (option, path) in &options.files {
-        files.push((option.clone(), read(Some(path), TOO_MUCH)?));
+        files.push((option.clone(), read(&destination, Some(path), FILE_LIMIT, TOO_MUCH)?));
     }
     let input = Input::new(net, options, files);
     written(destination, |out| (program.work)(&input, out))

@@ -30,6 +30,17 @@ pick thread 0
 pick thread 0 row 0
 ";
 
+/// A loop over many rows is told in a short line.
+#[test]
+fn many_rows_to_visit_are_told_as_runs() {
+    let rows: String = (0..16).map(|row| format!("row ({row}) in CARD at site 0\n")).collect();
+    let text = LOOP.replace("row (7) in CARD at site 0\nrow (8) in CARD at site 0\n", &rows);
+    let parts = parts(&text.replace("row 1\n", "row 5\n"));
+    let within =
+        "line 22 of round, within line 20 of visit with rows 0 to 4, 6 to 15 still to visit";
+    assert!(parts[2].ends_with(within), "{}", parts[2]);
+}
+
 #[test]
 fn loops_tell_their_rounds_and_the_stack() {
     let parts = parts(LOOP);

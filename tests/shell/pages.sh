@@ -1,0 +1,33 @@
+# What docs/TEXT.md and examples/README.md tell to type works as it stands, and leaves its files where git does not look.
+. "$ROOT/tests/shell/lib.sh"
+
+# types PAGE: the commands of its blocks, but for those that build.
+types() {
+    awk '$0 == "```sh" { on = 1; next } /^```/ { on = 0 } on' "$ROOT/$1" | grep -vE '^(tools/build|cargo) *' >commands
+    [ -s commands ] || complains "$1 has no commands"
+    rm -rf scratch
+    tries bash -e commands
+    exits 0
+    says_nothing
+    made=$(ls -d -- * | grep -vxE 'commands|out|err' | tr '\n' ' ')
+    [ "$made" = "build examples include scratch target " ] || complains "made more than scratch/: $made"
+}
+
+ln -s "$ROOT/build" "$ROOT/target" "$ROOT/examples" "$ROOT/include" .
+types docs/TEXT.md
+prints "update (!x0, !x1) in CARD @1"
+cmp -s scratch/update.net examples/update.net || complains "scratch/update.net is not the records of the text"
+types examples/README.md
+cat examples/update.out examples/update.out examples/update.out >thrice
+cmp -s out thrice || complains "not what netrun prints, three times"
+rm thrice
+
+# What the README says of netsums.
+tries grep -F 'netsums prints `run ADDED TAKEN`, the sums over all picks, and then the tables as netrun prints them.' "$ROOT/README.md"
+exits 0
+{ echo "run 1 1"; grep -v '^pick' examples/printed-run.out; } >expected
+tried="netsums < examples/printed-run.net"
+netsums <examples/printed-run.net >out 2>err
+cmp -s out expected || complains "not what the README says"
+
+finish
