@@ -1,8 +1,8 @@
 /* Runs a net through the proved engine from C and prints what netrun would: the answer to each pick, then the tables.
  *
- *     cc -Iinclude examples/embed/embed.c target/staticlib/libtivgeral.a -o embed
- *     ./embed examples/update.net            the file's own picks
- *     ./embed examples/update.net 0:0 1:3    other picks, THREAD:ROW each
+ *     mkdir -p scratch && cc -Iinclude examples/embed/embed.c target/staticlib/libtivgeral.a -o scratch/embed
+ *     scratch/embed examples/update.net            the file's own picks
+ *     scratch/embed examples/update.net 0:0 1:3    other picks, THREAD:ROW each
  */
 #include <stdio.h>
 #include <stdlib.h>
