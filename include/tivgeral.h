@@ -1,4 +1,4 @@
-/* Tivgeral for C: run a Klaim-DB net file and read off tables, answers, threads, or a trace with all that threads hold.
+/* Tivgeral for C: run a Klaim-DB net file and read off tables, a table's page, answers, threads, or a trace with all that threads hold.
  *
  *     tools/build                                    makes target/staticlib/libtivgeral.a
  *     cc -Iinclude program.c target/staticlib/libtivgeral.a
@@ -14,6 +14,8 @@
  *   file    A net file: records of 104 bytes, as README.md lists them ("Files"). The picks in the file are not run: tivgeral_picks gives them.
  *   picks   The picks to run, in order, two bytes each: thread place, row place. Any number of them, also none. Not for tivgeral_picks.
  *   from    How many picks are run before the first moment of a trace. Any number. For tivgeral_trace alone.
+ *   site    The number of the site whose table is laid out. Any number. For tivgeral_page alone.
+ *   name    The name of that table as a number, which tivgeral_name makes. Any number. For tivgeral_page alone.
  *   out     A buffer that the call may write to.
  *   place   Always set by the call.
  *
@@ -25,17 +27,22 @@
  *   0         Done. *place is the number of bytes put into `out`, from its start. The bytes after them are as they were.
  *   1 to 9    The file was refused when it was loaded. *place is the place of the record at fault, counted from 0 (for number 1 the count of
  *             whole records, for number 2 always 256). README.md, "The numbers", says what each means and what to do.
+ *   14        No table of that name stands at that site after all picks; a site above 7 has none. *place is 0. From tivgeral_page alone.
  *   21        `out` is too short for what would be put there. *place is the length that is needed (SIZE_MAX where that does not fit a size_t).
+ *   22        `out` is shorter than the page. *place is the length that is needed. From tivgeral_page alone, which has no 21.
  *   100       The length of `picks` is odd. *place is 0. tivgeral_picks takes no picks, so it has no 100. (Numbers that only these calls have
  *             begin at 100.)
  *
- * After 1 to 9, 21 and 100 every byte of `out` is as it was. 100 is judged first, then the file, then 21. There is no other number.
+ * After 1 to 9, 14, 21, 22 and 100 every byte of `out` is as it was. 100 is judged first, then the file, then 14, then 21 or 22. There is no other
+ * number.
  *
  * A refused pick is no error of a call: it changes nothing, is answered with its number, and the run goes on with the next pick.
  *
  * What comes back is proved for every file, every list of picks and every buffer: crates/call_rules/specs/Calls.antt has the definition of what a
  * call gives back, Replies.antt beside it that of 21 and of SIZE_MAX, Layouts.antt that of the bytes of tables, threads and picks, Moments.antt
- * and Traces.antt that of a trace, and crates/step_bytes/specs/AnswerBytes.antt that of answers. The stack space is measured, not proved.
+ * and Traces.antt that of a trace, crates/step_bytes/specs/AnswerBytes.antt that of answers, and crates/page_rules/specs/Pages.antt that of a page,
+ * of 14 and of 22. That the numbers on a page read as those of the table is a theorem, PageReading.antt beside Calls.antt. The stack space is
+ * measured, not proved.
  */
 #ifndef TIVGERAL_H
 #define TIVGERAL_H
@@ -47,17 +54,20 @@
 extern "C" {
 #endif
 
-#define TIVGERAL_VERSION "0.1.0"
+#define TIVGERAL_VERSION "0.2.0"
 
 /* Lengths in bytes. */
 enum {
     TIVGERAL_RECORD_BYTES = 104, /* a record of a file or of a trace */
     TIVGERAL_ANSWER_BYTES = 24,  /* the answer to a pick */
     TIVGERAL_THREAD_BYTES = 24,  /* a thread, as tivgeral_threads puts it */
+    TIVGERAL_CELL_BYTES = 13,    /* a cell of a page */
+    TIVGERAL_LINE_BYTES = 53,    /* a line of a page: four cells and a line feed */
     /* the most that a call puts out */
     TIVGERAL_TABLES_BYTES = 136 * TIVGERAL_RECORD_BYTES,
     TIVGERAL_THREADS_BYTES = 8 * TIVGERAL_THREAD_BYTES,
     TIVGERAL_MOMENT_BYTES = 609 * TIVGERAL_RECORD_BYTES, /* one moment of a trace */
+    TIVGERAL_PAGE_BYTES = 17 * TIVGERAL_LINE_BYTES,
     TIVGERAL_PICKS_BYTES = 512
 };
 
@@ -74,7 +84,7 @@ enum tivgeral_number {
     TIVGERAL_ROW = 7,
     TIVGERAL_FILE_LIMIT = 8,
     TIVGERAL_LINK = 9,
-    /* a pick was refused */
+    /* a pick was refused; by 14 also a call for a page */
     TIVGERAL_NO_THREAD = 11,
     TIVGERAL_UNBOUND = 12,
     TIVGERAL_NO_SITE = 13,
@@ -87,6 +97,7 @@ enum tivgeral_number {
     TIVGERAL_LIMIT = 20,
     /* the call was refused */
     TIVGERAL_SHORT = 21,
+    TIVGERAL_SHORT_FOR_PAGE = 22,
     TIVGERAL_ODD_PICKS = 100
 };
 
@@ -106,7 +117,7 @@ static inline const char *tivgeral_text(unsigned number) {
     case TIVGERAL_NO_THREAD: return "no thread has that place";
     case TIVGERAL_UNBOUND: return "a variable read in the predicate or in t is unbound and no formal of T, one read in L, T or T' is unbound, or the table variable read is";
     case TIVGERAL_NO_SITE: return "L is no Loc, or its locality has no alias at the thread's site";
-    case TIVGERAL_NO_TABLE: return "no such table at the site that L means (not for create)";
+    case TIVGERAL_NO_TABLE: return "no such table at the site that L means (not for create); paging: no such table at the site given";
     case TIVGERAL_TABLE_THERE: return "create: the table is there";
     case TIVGERAL_MISFIT: return "T is not as long as the columns, a row or table to insert does not fit, or the column of functions 2 to 4 is absent or no Int";
     case TIVGERAL_HELD: return "a loop entry of this thread holds the table variable to be bound, also with no row left";
@@ -114,6 +125,7 @@ static inline const char *tivgeral_text(unsigned number) {
     case TIVGERAL_ROW_PLACE: return "a matching row is left to visit, but the pick's row place is not one";
     case TIVGERAL_LIMIT: return "a limit on rows, tables, threads or stack entries would be passed";
     case TIVGERAL_SHORT: return "writing: the buffer is too short";
+    case TIVGERAL_SHORT_FOR_PAGE: return "paging: the buffer is shorter than the page";
     case TIVGERAL_ODD_PICKS: return "the length of the picks is odd";
     default: return NULL;
     }
@@ -179,6 +191,37 @@ enum tivgeral_kind {
 };
 
 uint8_t tivgeral_trace(const uint8_t *file, size_t file_length, const uint8_t *picks, size_t picks_length, size_t from, uint8_t *out, size_t out_length, size_t *place);
+
+/* A table's name as tivgeral_page takes it: its four bytes as one number, the first byte highest, so "CARD" is 0x43415244. A shorter text is filled
+ * up with blanks at its end, as netasm does. A longer one is no name: it gives 0, and no table is called that, so tivgeral_page finds none. */
+static inline uint32_t tivgeral_name(const char *text) {
+    uint32_t name = 0;
+    for (int place = 0; place < 4; place++)
+        name = name << 8 | (uint8_t)(*text != '\0' ? *text++ : ' ');
+    return *text == '\0' ? name : 0;
+}
+
+/* The page of one table that stands after all picks, for people to read: a line for each row, in order, and a last line with the sums.
+ *
+ *     uint8_t picks[TIVGERAL_PICKS_BYTES], page[TIVGERAL_PAGE_BYTES];
+ *     size_t picks_length, length;
+ *     if (tivgeral_picks(file, file_length, picks, sizeof picks, &picks_length) == TIVGERAL_DONE
+ *         && tivgeral_page(file, file_length, picks, picks_length, 1, tivgeral_name("CARD"), page, sizeof page, &length) == TIVGERAL_DONE)
+ *         fwrite(page, 1, length, stdout);
+ *
+ *   a line    TIVGERAL_LINE_BYTES: four cells of TIVGERAL_CELL_BYTES, one for each column, and a line feed. Cells past the last column are blank.
+ *   an Int    in decimal at the right of its cell, with - directly before its digits
+ *   a Text    its four bytes at the left of its cell
+ *   a Loc     @ and its digit at the left of its cell
+ *   a sum     in the last line, in the cell of each Int column: the sum over all rows, put like an Int and never cut to 32 bits, so it is from
+ *             -34359738368 to 34359738352; 0 where there are no rows. The other cells of that line are blank.
+ *
+ * A number has at most 12 places, so its cell begins with a blank. Nothing else keeps cells apart: a Text or Loc to the right of a number begins
+ * directly behind its last digit, as in -21@1. So read cells by their places: cell i of line j, both from 0, begins at byte
+ * j * TIVGERAL_LINE_BYTES + i * TIVGERAL_CELL_BYTES.
+ *
+ * A page has (rows + 1) * TIVGERAL_LINE_BYTES. TIVGERAL_PAGE_BYTES is the most. */
+uint8_t tivgeral_page(const uint8_t *file, size_t file_length, const uint8_t *picks, size_t picks_length, uint8_t site, uint32_t name, uint8_t *out, size_t out_length, size_t *place);
 
 /* The picks that the file has itself, in order, two bytes each, as the other calls take them. TIVGERAL_PICKS_BYTES is the most. */
 uint8_t tivgeral_picks(const uint8_t *file, size_t file_length, uint8_t *out, size_t out_length, size_t *place);

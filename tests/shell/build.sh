@@ -2,7 +2,7 @@
 . "$ROOT/tests/shell/lib.sh"
 
 tries grep -oE '^    (target|build)/[^ ]+' "$ROOT/tools/build"
-[ "$(wc -l <out)" -eq 6 ] || complains "expected six names"
+[ "$(wc -l <out)" -eq 7 ] || complains "expected seven names"
 while read -r built; do
     [ -s "$ROOT/$built" ] || complains "$built is not there"
 done <out

@@ -13,6 +13,7 @@ same() { diff out "$1" >difference || complains "not what the README shows: $(he
 
 block sh >commands
 block netrun >shown
+block netpage >>shown
 block trace >>shown
 tries bash commands
 exits 0
@@ -25,7 +26,7 @@ exits 0
 
 # The end of the build.
 sed -n '/^built:/,/^END/p' "$ROOT/tools/build" | grep -v '^END' | sed 's/^/    /' >built
-tries grep -A 6 '^    built:' "$readme"
+tries grep -A 7 '^    built:' "$readme"
 same built
 
 # The program in C.

@@ -2,7 +2,7 @@
 use Prim.Native.Nat.{ℕ, zero, suc, _+_, _-_, _*_}
 use mathlib.Core.Path.{_≡_, refl, sym, ap, subst, _∙_}
 use mathlib.Core.Bool.{Bool, true, false, cond}
-use mathlib.Core.List.{List, [], _∷_, _++_, map, append-nil}
+use mathlib.Core.List.{List, [], _∷_, _++_, map}
 use mathlib.Core.Option.{none, some}
 use native.Mathlib.Omega.{arith}
 use lib.ListN.{length, getD, length-append, length-map, List·getD-map}
@@ -12,9 +12,7 @@ use Rattle.values.specs.declared.Got.the-variants.{Nothing, One}
 use Rattle.values.specs.Lists.{places}
 use Rattle.values.specs.declared.Slot.{Slot}
 use Rattle.values.specs.Operands.{Vars, varsOf, valuesIn}
-use Rattle.values.proofs.Firsts.{length-firsts, map-firsts}
-use Rattle.rows.specs.declared.Row.{Row}
-use Rattle.rows.specs.declared.Relation.{Relation}
+use Rattle.values.proofs.Firsts.{length-firsts}
 use Rattle.rows.specs.View.{Shaped, noRow, valuesOf, relationOf}
 use Rattle.nets.specs.declared.Frame.{Frame}
 use Rattle.nets.specs.declared.TableVariable.{TableVariable}
@@ -24,11 +22,12 @@ use Rattle.nets.specs.View.{noFrame, noVariable, entryOf, stackOf, variableOf, 
 use Rattle.step_thread.proofs.ThreadLaws.{length-stack}
 use Rattle.record_bytes.specs.Encoding.{tupleBytes}
 use Rattle.value_bytes.specs.Bytes.{endToEnd}
-use Rattle.value_bytes.proofs.Stores.{ends-append, ends-length}
-use Rattle.call_rules.specs.Layouts.{toVisit, visitBytes}
+use Rattle.value_bytes.proofs.Stores.{ends-append}
+use Rattle.call_rules.specs.Layouts.{visitBytes}
 use Rattle.call_rules.specs.Moments.{valuesRecord, variableRecord, variableRecords, relationHead, relationRecords, bindingsRecords, entryRecord, threadHead, threadRecords}
 use Rattle.call_hold.specs.Holdings.{VariableShaped, RelationsShaped, rowsGiven, recordsGiven}
-use Rattle.call_hold.proofs.RecordLaws.{Sized, sized-length, sized-append, sized-map, sized-firsts, values-length}
+use Rattle.value_bytes.proofs.Parts.{Sized, sized-length, sized-append, sized-map, sized-firsts}
+use Rattle.call_hold.proofs.RecordLaws.{values-length}
 
 -- ── variables ──
 
@@ -46,9 +45,9 @@ variables-count : (vs : Vars) → length (variableRecords vs) ≡ 16
 unfolding variableRecords
 variables-count vs = refl
 
-variables-sized : (vs : Vars) → Sized (variableRecords vs)
+variables-sized : (vs : Vars) → Sized 104 (variableRecords vs)
 unfolding variableRecords
-variables-sized vs = sized-map (variableRecord vs) (variable-length vs) (places 0 16)
+variables-sized vs = sized-map 104 (variableRecord vs) (variable-length vs) (places 0 16)
 
 -- ── table variables ──
 
@@ -70,11 +69,11 @@ pub head-length : (i b : ℕ) (cs : List ℕ) → length (relationHead i b cs) �
 unfolding relationHead
 head-length i b cs = refl
 
-relation-sized : (i : ℕ) (v : TableVariable) → VariableShaped v → Sized (relationRecords i (variableOf v))
+relation-sized : (i : ℕ) (v : TableVariable) → VariableShaped v → Sized 104 (relationRecords i (variableOf v))
 relation-sized i v k = go (v .bound) (k .shaped)
   where
-    go : (b : Bool) → (b ≡ true → Shaped (v .content)) → Sized (relationRecords i (cond b (some (relationOf (v .content))) none))
-    go true h = (head-length i 1 _, sized-firsts (valuesRecord 68 i) (valuesOf (v .content .columns)) noRow (λ x. values-length (v .content .columns) x (h refl .columns) 68 i) (v .content .count) (v .content .rows))
+    go : (b : Bool) → (b ≡ true → Shaped (v .content)) → Sized 104 (relationRecords i (cond b (some (relationOf (v .content))) none))
+    go true h = (head-length i 1 _, sized-firsts 104 (valuesRecord 68 i) (valuesOf (v .content .columns)) noRow (λ x. values-length (v .content .columns) x (h refl .columns) 68 i) (v .content .count) (v .content .rows))
     go false h = (head-length i 0 _, tt)
 
 -- ── the stack ──
@@ -111,21 +110,21 @@ module _ (vs : List Slot) (rs : List TableVariable) where
       ap length bindings-are
       ∙ simp length-append (omega (arith, variables-count (varsOf vs), relation-count 0 (getD rs 0 noVariable), relation-count 1 (getD rs 1 noVariable)))
 
-  pub bindings-sized : RelationsShaped rs → Sized (bindingsRecords (bindingsOf vs rs))
+  pub bindings-sized : RelationsShaped rs → Sized 104 (bindingsRecords (bindingsOf vs rs))
   bindings-sized k =
       let a = relationRecords 0 (variableOf (getD rs 0 noVariable)) in
       let b = relationRecords 1 (variableOf (getD rs 1 noVariable)) in
-      subst Sized (sym bindings-are)
-      (sized-append (variableRecords (varsOf vs)) (a ++ b) (variables-sized (varsOf vs)) (sized-append a b (relation-sized 0 (getD rs 0 noVariable) (k .first)) (relation-sized 1 (getD rs 1 noVariable) (k .second))))
+      subst (Sized 104) (sym bindings-are)
+      (sized-append 104 (variableRecords (varsOf vs)) (a ++ b) (variables-sized (varsOf vs)) (sized-append 104 a b (relation-sized 0 (getD rs 0 noVariable) (k .first)) (relation-sized 1 (getD rs 1 noVariable) (k .second))))
 
 pub variables-long : (vs : List Slot) → length (endToEnd (variableRecords (varsOf vs))) ≡ 1664
-variables-long vs = sized-length (variableRecords (varsOf vs)) (variables-sized (varsOf vs)) ∙ ap (λ (n : ℕ). n * 104) (variables-count (varsOf vs))
+variables-long vs = sized-length 104 (variableRecords (varsOf vs)) (variables-sized (varsOf vs)) ∙ ap (λ (n : ℕ). n * 104) (variables-count (varsOf vs))
 
 pub relation-long : (i : ℕ) (v : TableVariable) → VariableShaped v → length (endToEnd (relationRecords i (variableOf v))) ≡ (1 + rowsGiven v) * 104
-relation-long i v k = sized-length (relationRecords i (variableOf v)) (relation-sized i v k) ∙ ap (λ (n : ℕ). n * 104) (relation-count i v)
+relation-long i v k = sized-length 104 (relationRecords i (variableOf v)) (relation-sized i v k) ∙ ap (λ (n : ℕ). n * 104) (relation-count i v)
 
 pub bindings-long : (vs : List Slot) (rs : List TableVariable) → RelationsShaped rs → length (endToEnd (bindingsRecords (bindingsOf vs rs))) ≡ recordsGiven rs * 104
-bindings-long vs rs k = sized-length (bindingsRecords (bindingsOf vs rs)) (bindings-sized vs rs k) ∙ ap (λ (n : ℕ). n * 104) (bindings-count vs rs)
+bindings-long vs rs k = sized-length 104 (bindingsRecords (bindingsOf vs rs)) (bindings-sized vs rs k) ∙ ap (λ (n : ℕ). n * 104) (bindings-count vs rs)
 
 pub thread-head : (s d : ℕ) → length (threadHead s d) ≡ 104
 unfolding threadHead
@@ -147,9 +146,9 @@ module _ (t : Thread) where
   pub thread-count : length (threadRecords (threadOf t)) ≡ 1 + recordsGiven (t .relations) + t .depth
   thread-count = omega (arith, length-append bindings entries, bindings-count (t .vars) (t .relations), entries-count)
 
-  pub thread-sized : RelationsShaped (t .relations) → Sized (threadRecords (threadOf t))
+  pub thread-sized : RelationsShaped (t .relations) → Sized 104 (threadRecords (threadOf t))
   thread-sized k =
-      (thread-head (t .site .0) (length (threadOf t .stack)), sized-append bindings entries (bindings-sized (t .vars) (t .relations) k) (sized-map entryRecord entry-length (stackOf (t .depth) (t .stack))))
+      (thread-head (t .site .0) (length (threadOf t .stack)), sized-append 104 bindings entries (bindings-sized (t .vars) (t .relations) k) (sized-map 104 entryRecord entry-length (stackOf (t .depth) (t .stack))))
 
   pub thread-long : RelationsShaped (t .relations) → length (endToEnd (threadRecords (threadOf t))) ≡ length (threadRecords (threadOf t)) * 104
-  thread-long k = sized-length (threadRecords (threadOf t)) (thread-sized k)
+  thread-long k = sized-length 104 (threadRecords (threadOf t)) (thread-sized k)

@@ -12,15 +12,16 @@ use Rattle.nets.specs.declared.Net.{Net}
 use Rattle.nets.specs.Nets as M
 use Rattle.nets.specs.Sound.{sound}
 use Rattle.nets.specs.View.{noTable, tableOf, tablesOf, threadsOf, view}
+use Rattle.nets.proofs.ShapeLaws.{tables-of, tables-ok, shaped-at}
 use Rattle.record_bytes.specs.Encoding.{tableBytes, rowBytes}
 use Rattle.value_bytes.specs.Bytes.{endToEnd}
 use Rattle.value_bytes.proofs.Stores.{ends-append}
 use Rattle.files.specs.Writing.{rowsBytes, allRows, written}
 use Rattle.write_fields.proofs.WriteLaws.{row-length, table-length}
-use Rattle.write.proofs.WholeLaws.{shaped-at, rows-append}
+use Rattle.write.proofs.WholeLaws.{rows-append}
 use Rattle.call_rules.specs.Moments.{allThreads, momentHead, momentPut}
-use Rattle.call_hold.proofs.RecordLaws.{Sized, sized-length, sized-append, sized-map, sized-firsts}
-use Rattle.call_moment.proofs.NetShapes.{threads-of, tables-of, tables-ok, all-shaped}
+use Rattle.value_bytes.proofs.Parts.{Sized, sized-length, sized-append, sized-map, sized-firsts}
+use Rattle.call_moment.proofs.NetShapes.{threads-of, all-shaped}
 use Rattle.call_moment.proofs.ThreadRecordLaws.{threads-sized}
 
 pub head-length : (a b n : ℕ) → length (momentHead a b n) ≡ 104
@@ -48,28 +49,28 @@ module _ (net : Net) (ok : T (sound (view net))) where
   abbrev threads : List M.Thread
   threads = threadsOf (net .threadcount) (net .threads)
 
-  rows-sized : (i : ℕ) → i ≤ net .tablecount → Sized (rowsTo i (net .tables))
+  rows-sized : (i : ℕ) → i ≤ net .tablecount → Sized 104 (rowsTo i (net .tables))
   rows-sized zero h = tt
   rows-sized (suc i) h =
       let t = getD (net .tables) i noTable in
       let r = t .content in
       let k = shaped-at (net .tables) (net .tablecount) i (omega arith) (tables-ok net ok) in
       let e : i + 1 ≡ suc i = omega arith in
-      subst (λ (m : ℕ). Sized (rowsTo m (net .tables))) e
-      (subst Sized (sym (rows-next i (net .tables)))
-      (sized-append (rowsTo i (net .tables)) (rowsAt (net .tables) i) (rows-sized i (omega arith))
-      (sized-firsts (rowBytes (t .site) (t .name)) (valuesOf (r .columns)) noRow (λ x. row-length (r .columns) x (k .columns) (t .site) (t .name)) (r .count) (r .rows))))
+      subst (λ (m : ℕ). Sized 104 (rowsTo m (net .tables))) e
+      (subst (Sized 104) (sym (rows-next i (net .tables)))
+      (sized-append 104 (rowsTo i (net .tables)) (rowsAt (net .tables) i) (rows-sized i (omega arith))
+      (sized-firsts 104 (rowBytes (t .site) (t .name)) (valuesOf (r .columns)) noRow (λ x. row-length (r .columns) x (k .columns) (t .site) (t .name)) (r .count) (r .rows))))
 
-  tables-sized : Sized (map tableBytes tables ++ allRows tables)
-  tables-sized = sized-append (map tableBytes tables) (allRows tables) (sized-map tableBytes table-length tables) (rows-sized (net .tablecount) (omega arith))
+  tables-sized : Sized 104 (map tableBytes tables ++ allRows tables)
+  tables-sized = sized-append 104 (map tableBytes tables) (allRows tables) (sized-map 104 tableBytes table-length tables) (rows-sized (net .tablecount) (omega arith))
 
   -- ── the whole ──
 
   abbrev records : List (List ℕ)
   records = (map tableBytes tables ++ allRows tables) ++ allThreads threads
 
-  records-sized : Sized records
-  records-sized = sized-append (map tableBytes tables ++ allRows tables) (allThreads threads) tables-sized (threads-sized (net .threadcount) (net .threads) (all-shaped net ok) (net .threadcount) (omega arith))
+  records-sized : Sized 104 records
+  records-sized = sized-append 104 (map tableBytes tables ++ allRows tables) (allThreads threads) tables-sized (threads-sized (net .threadcount) (net .threads) (all-shaped net ok) (net .threadcount) (omega arith))
 
   abbrev head : ℕ → List ℕ
   head n = momentHead (length tables) (length threads) n
@@ -79,7 +80,7 @@ module _ (net : Net) (ok : T (sound (view net))) where
   moment-is = rw (tables-of net, threads-of net)
 
   long : length (momentPut (view net)) ≡ 104 + length records * 104
-  long = ap length moment-is ∙ length-append (head (suc (length records))) (endToEnd records) ∙ omega (arith, head-length (length tables) (length threads) (suc (length records)), sized-length records records-sized)
+  long = ap length moment-is ∙ length-append (head (suc (length records))) (endToEnd records) ∙ omega (arith, head-length (length tables) (length threads) (suc (length records)), sized-length 104 records records-sized)
 
   ends : endToEnd records ≡ written tables ++ endToEnd (allThreads threads)
   unfolding written
@@ -87,7 +88,7 @@ module _ (net : Net) (ok : T (sound (view net))) where
 
   written-long : length (written tables) ≡ length (map tableBytes tables ++ allRows tables) * 104
   unfolding written
-  written-long = sized-length (map tableBytes tables ++ allRows tables) tables-sized
+  written-long = sized-length 104 (map tableBytes tables ++ allRows tables) tables-sized
 
   pub moment-length : length (momentPut (view net)) ≡ 104 + length (written tables) + length (allThreads threads) * 104
   moment-length = omega (arith, long, written-long, length-append (map tableBytes tables ++ allRows tables) (allThreads threads))

@@ -10,7 +10,7 @@ use Rattle.nets.specs.Nets as M
 use Rattle.nets.specs.View.{noThread, threadOf, threadsOf}
 use Rattle.value_bytes.specs.Bytes.{endToEnd}
 use Rattle.call_rules.specs.Moments.{threadRecords, allThreads}
-use Rattle.call_hold.proofs.RecordLaws.{Sized, sized-length, sized-append}
+use Rattle.value_bytes.proofs.Parts.{Sized, sized-length, sized-append}
 use Rattle.call_hold.proofs.HoldLaws.{thread-sized}
 use Rattle.call_moment.specs.Shapes.{AllShaped}
 
@@ -49,12 +49,12 @@ records-room i n ts h =
     let g : length (recordsTo (i + 1) ts) ≤ length (recordsTo n ts) = subst (λ (m : ℕ). length (recordsTo (i + 1) ts) ≤ length (recordsTo m ts)) e (counts-grow (i + 1) (n - (i + 1)) ts) in
     omega (arith, g, count-next i ts)
 
-pub threads-sized : (n : ℕ) (ts : List Thread) → AllShaped n ts → (i : ℕ) → i ≤ n → Sized (recordsTo i ts)
+pub threads-sized : (n : ℕ) (ts : List Thread) → AllShaped n ts → (i : ℕ) → i ≤ n → Sized 104 (recordsTo i ts)
 threads-sized n ts k zero h = tt
 threads-sized n ts k (suc i) h =
     let e : i + 1 ≡ suc i = omega arith in
-    subst (λ (m : ℕ). Sized (recordsTo m ts)) e
-    (subst Sized (sym (records-next i ts)) (sized-append (recordsTo i ts) (recordsAt ts i) (threads-sized n ts k i (omega arith)) (thread-sized (getD ts i noThread) (k i (omega arith) .relations))))
+    subst (λ (m : ℕ). Sized 104 (recordsTo m ts)) e
+    (subst (Sized 104) (sym (records-next i ts)) (sized-append 104 (recordsTo i ts) (recordsAt ts i) (threads-sized n ts k i (omega arith)) (thread-sized (getD ts i noThread) (k i (omega arith) .relations))))
 
 pub records-long : (n : ℕ) (ts : List Thread) → AllShaped n ts → (i : ℕ) → i ≤ n → length (endToEnd (recordsTo i ts)) ≡ length (recordsTo i ts) * 104
-records-long n ts k i h = sized-length (recordsTo i ts) (threads-sized n ts k i h)
+records-long n ts k i h = sized-length 104 (recordsTo i ts) (threads-sized n ts k i h)

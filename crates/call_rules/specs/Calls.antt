@@ -5,6 +5,7 @@ use mathlib.Core.Bool.{cond}
 use mathlib.Core.List.{List, _++_}
 use lib.Dec.{eqb}
 use lib.ListN.{length, drop}
+use Rattle.values.specs.declared.Site.{Site}
 use Rattle.nets.specs.declared.Pick.{Pick}
 use Rattle.nets.specs.Nets.{Net}
 use Rattle.files.specs.Loading.{LoadAnswer, rejected, accepted, loadBytes}
@@ -12,6 +13,7 @@ use Rattle.step_bytes.specs.PickBytes.{picksIn}
 use Rattle.step_bytes.specs.AnswerBytes.{answersPut}
 use Rattle.call_rules.specs.Layouts.{tablesPut, threadsPut, picksPut}
 use Rattle.call_rules.specs.Traces.{traced}
+use Rattle.call_rules.specs.TablePages.{paged}
 use Rattle.call_rules.specs.Replies.{Called, refusing, putting, ifRoom}
 
 -- picks of an odd length; numbers that only calls have begin at 100, so that they never meet a number of the papers
@@ -64,6 +66,10 @@ ThreadsIs file picks before after number place = Gives (called (λ net ps. ifRoo
 -- from the net after the first `from` picks on
 abbrev pub TraceIs : (file picks : List ℕ) (from : ℕ) (before after : List ℕ) (number place : ℕ) → Type 0
 TraceIs file picks from before after number place = Gives (called (λ net ps. traced from net ps before) file picks) before after number place
+
+-- the page of one table after all picks
+abbrev pub PageAfterIs : (file picks : List ℕ) (site : Site) (name : ℕ) (before after : List ℕ) (number place : ℕ) → Type 0
+PageAfterIs file picks site name before after number place = Gives (called (λ net ps. paged site name net ps before) file picks) before after number place
 
 -- the file's own picks
 abbrev pub PicksIs : (file before after : List ℕ) (number place : ℕ) → Type 0

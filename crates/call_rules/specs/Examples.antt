@@ -28,11 +28,14 @@ use Rattle.record_bytes.specs.Encoding.{tupleBytes, tableBytes, rowBytes}
 use Rattle.files.specs.Loading.{loadChecks, put, advance, readAll, firstBadLink, load, loadBytes}
 use Rattle.files.specs.Writing.{written}
 use Rattle.value_bytes.specs.Bytes.{endToEnd, eightBytes}
+use Rattle.value_decimal.specs.Decimals.{decimal, blanks}
+use Rattle.page_rules.specs.Pages.{cell, lineOf, sumCell, pageOf, page}
 use Rattle.step_bytes.specs.AnswerBytes.{threeBytes, answerBytes, answersPut}
 use Rattle.call_rules.specs.Layouts.{visitBytes, headBytes, threadBytes, tablesPut, threadsPut, picksPut}
 use Rattle.call_rules.specs.Replies.{Called, refusing, putting, ifRoomFor, ifRoom}
 use Rattle.call_rules.specs.Moments.{valuesRecord, variableRecords, relationHead, bindingsRecords, entryRecord, threadHead, threadRecords, momentHead, momentPut}
 use Rattle.call_rules.specs.Traces.{tracePut, traced}
+use Rattle.call_rules.specs.TablePages.{paged}
 use Rattle.call_rules.specs.Calls.{onLoaded, called, bufferIn}
 
 abbrev z : ℕ → List ℕ
@@ -61,7 +64,7 @@ twice = z 4
 
 -- all definitions that a call computes with: to unfold this is to unfold them all
 opened : Unit {0}
-unfolding bind textOrder matches hits draft tupleFor changes selectedColumns aggregated distinct change fieldsOkAs linksOkAs sound sceneOf siteOfL site table relation source anyReady opens readsOk check12 check13 check14 check15 check16 check17 check18 check19 check20 rowsBy tablesBy addedBy takenBy boundBy varsBy bindingsBy threadsAfter netAfter performed firstRefusal checks step nextNet after answers kindAt operandForm operandIn operandsForm operandsIn nodeIn aliasForm tableForm rowForm nodeBytes startForm pickForm recordIn recordsIn loadChecks put advance readAll firstBadLink load loadBytes tupleBytes tableBytes rowBytes written eightBytes threeBytes answerBytes visitBytes headBytes threadBytes tablesPut answersPut threadsPut picksPut ifRoomFor called valuesRecord variableRecords relationHead entryRecord threadHead momentHead momentPut tracePut
+unfolding bind textOrder matches hits draft tupleFor changes selectedColumns aggregated distinct change fieldsOkAs linksOkAs sound sceneOf siteOfL site table relation source anyReady opens readsOk check12 check13 check14 check15 check16 check17 check18 check19 check20 rowsBy tablesBy addedBy takenBy boundBy varsBy bindingsBy threadsAfter netAfter performed firstRefusal checks step nextNet after answers kindAt operandForm operandIn operandsForm operandsIn nodeIn aliasForm tableForm rowForm nodeBytes startForm pickForm recordIn recordsIn loadChecks put advance readAll firstBadLink load loadBytes tupleBytes tableBytes rowBytes written eightBytes threeBytes answerBytes visitBytes headBytes threadBytes tablesPut answersPut threadsPut picksPut ifRoomFor called valuesRecord variableRecords relationHead entryRecord threadHead momentHead momentPut tracePut decimal cell lineOf sumCell pageOf page paged
 opened = tt
 
 -- a call that hands out these bytes, with a buffer of n bytes
@@ -114,6 +117,31 @@ file-fault = refl
 pub own-picks : onLoaded (λ net own. ifRoom (picksPut own) (z 4)) (loadBytes (file ++ (33 ∷ 4 ∷ 255 ∷ z 101))) ≡ putting (4 ∷ 255 ∷ [])
 unfolding opened
 own-picks = refl
+
+-- ── a page ──
+
+-- NUMS after both picks: "5" and the sum "5", each at the end of 13 bytes
+abbrev numsPage : List ℕ
+numsPage = blanks 12 ++ (0x35 ∷ blanks 39 ++ (0x0a ∷ [])) ++ (blanks 12 ++ (0x35 ∷ blanks 39 ++ (0x0a ∷ [])))
+
+pub page-after-two : called (λ net ps. paged (record { 0 = 0 }) 0x4e554d53 net ps (replicate 106 7)) file twice ≡ putting numsPage
+unfolding opened
+page-after-two = refl
+
+-- before any pick the line of sums stands alone
+pub page-at-start : called (λ net ps. paged (record { 0 = 0 }) 0x4e554d53 net ps (replicate 53 7)) file [] ≡ putting (blanks 12 ++ (0x30 ∷ blanks 39 ++ (0x0a ∷ [])))
+unfolding opened
+page-at-start = refl
+
+-- 106 bytes are needed
+pub page-short : called (λ net ps. paged (record { 0 = 0 }) 0x4e554d53 net ps (replicate 105 7)) file twice ≡ refusing 22 106
+unfolding opened
+page-short = refl
+
+-- no table of that name, at that site
+pub page-missing : called (λ net ps. paged (record { 0 = 1 }) 0x4e554d53 net ps []) file twice ≡ refusing 14 0
+unfolding opened
+page-missing = refl
 
 -- ── a trace ──
 

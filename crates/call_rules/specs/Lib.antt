@@ -4,5 +4,7 @@ pub mod Examples
 pub mod Layouts
 pub mod Moments
 pub mod Openings
+pub mod PageReading
 pub mod Replies
+pub mod TablePages
 pub mod Traces

@@ -1,10 +1,10 @@
 // The row layer on the worked cases of the Klaim-DB paper (its Figure 3 and Examples 2 to 6): the table KLD of one branch, in texts of four bytes.
 // Columns: shoe, colour, size, sales.
 use libc::STDOUT_FILENO;
+use print_lines::buffer::put_byte;
+use print_lines::buffer::write_buffer;
 use print_lines::cells::put_rows;
 use print_lines::cells::put_value;
-use print_lines::pages::put_byte;
-use print_lines::pages::write_page;
 use row_aggregate::aggregate;
 use row_change::Swept;
 use row_change::appending::push;
@@ -167,17 +167,17 @@ fn replaced(r: Relation, s: Selector, t: Operands, any: bool, kinds: [u8; 4]) ->
 // ---- printing
 
 fn print_rows(r: Relation) {
-    let mut page = [0u8; 4096];
-    let at = put_rows(&mut page, 0, r);
-    write_page(&page, at);
+    let mut buffer = [0u8; 4096];
+    let at = put_rows(&mut buffer, 0, r);
+    write_buffer(&buffer, at);
 }
 
 fn print_one(v: Value) {
-    let mut page = [0u8; 4096];
-    let mut at = put_byte(&mut page, 0, b' ');
-    at = put_value(&mut page, at, v);
-    at = put_byte(&mut page, at, b'\n');
-    write_page(&page, at);
+    let mut buffer = [0u8; 4096];
+    let mut at = put_byte(&mut buffer, 0, b' ');
+    at = put_value(&mut buffer, at, v);
+    at = put_byte(&mut buffer, at, b'\n');
+    write_buffer(&buffer, at);
 }
 
 fn print_got(g: Got) {

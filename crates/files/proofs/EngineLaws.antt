@@ -10,6 +10,7 @@ use Rattle.nets.specs.declared.Net.{Net}
 use Rattle.nets.specs.declared.Stepped.{Stepped}
 use Rattle.nets.specs.Nets as M
 use Rattle.nets.specs.Nets.{Outcome, refused, done}
+use Rattle.nets.specs.Sound.{sound}
 use Rattle.nets.specs.Steps.{step}
 use Rattle.nets.specs.Accounts.{nextNet, after, answers, addedIn, takenIn, reportedAdded, reportedTaken}
 use Rattle.nets.specs.View.{view}
@@ -21,7 +22,7 @@ use Rattle.files.specs.FileDemand3.{fileNet, FileDemand3}
 use Rattle.files.specs.Empty.{blankNet}
 use Rattle.files.specs.Engine.{faultIn, LoadIs}
 use Rattle.files.specs.EngineDemand3.{Chain, lastNet, addedReported, takenReported, EveryEngineRun}
-use Rattle.files.proofs.FileLaws.{file-demand3}
+use Rattle.files.proofs.FileLaws.{file-loaded, file-demand3}
 
 -- ── the rules, given what was left and reported ──
 
@@ -79,6 +80,10 @@ no-fault (accepted net ps) e = tt
 
 pub verdict-accepts : (file : List ℕ) (l : Loaded) → LoadIs file l → l .verdict ≡ Accepted → T (isAccepted (loadBytes file))
 verdict-accepts file l h e = no-fault (loadBytes file) (sym (h .fault) ∙ ap faultIn e)
+
+-- and what the engine loaded is sound
+pub loaded-sound : (file : List ℕ) (l : Loaded) → LoadIs file l → l .verdict ≡ Accepted → T (sound (view (l .net)))
+loaded-sound file l h e = rw (h .net) (file-loaded file (verdict-accepts file l h e) .isSound)
 
 pub engine-demand3 : EveryEngineRun
 engine-demand3 file l h e ps rs c =

@@ -5,12 +5,12 @@ use load::length_fault;
 use load::load;
 use nets::Net;
 use nets::Pick;
+use print_lines::buffer::at_most;
+use print_lines::buffer::write_buffer;
 use print_lines::faults::print_refused;
 use print_lines::input::read_input;
 use print_lines::lines::put_picks;
 use print_lines::lines::put_tables;
-use print_lines::pages::at_most;
-use print_lines::pages::write_page;
 use step_bytes::picks::pick_bytes;
 use step_left::Carried;
 use step_picks::carry_out;
@@ -41,11 +41,11 @@ fn print_run(start: Net, picks: [Pick; 256], count: usize) -> bool
     let n = at_most(count, 256);
     let mut answers = [0u8; 6144];
     let left = run(start, picks, n, &mut answers);
-    let mut page = [0u8; 4096];
-    let mut at = put_picks(&mut page, 0, &answers, n);
+    let mut buffer = [0u8; 4096];
+    let mut at = put_picks(&mut buffer, 0, &answers, n);
     let tables = left.tables;
-    at = put_tables(&mut page, at, tables, left.tablecount);
-    write_page(&page, at)
+    at = put_tables(&mut buffer, at, tables, left.tablecount);
+    write_buffer(&buffer, at)
 }
 
 fn print_file(file: &[u8]) -> bool {

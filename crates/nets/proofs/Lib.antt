@@ -11,6 +11,7 @@ pub mod MoveLaws
 pub mod RefusalLaws
 pub mod RoundLaws
 pub mod RunLaws
+pub mod ShapeLaws
 pub mod SoundLaws
 pub mod SourceLaws
 pub mod StackLaws

@@ -5,14 +5,14 @@ use load::length_fault;
 use load::load;
 use nets::Net;
 use nets::Pick;
+use print_lines::buffer::at_most;
+use print_lines::buffer::put_byte;
+use print_lines::buffer::put_bytes;
+use print_lines::buffer::put_decimal;
+use print_lines::buffer::write_buffer;
 use print_lines::faults::print_refused;
 use print_lines::input::read_input;
 use print_lines::lines::put_tables;
-use print_lines::pages::at_most;
-use print_lines::pages::put_byte;
-use print_lines::pages::put_bytes;
-use print_lines::pages::put_decimal;
-use print_lines::pages::write_page;
 use run_state::Ran;
 use runs::bytes::run_bytes;
 use step_bytes::picks::pick_bytes;
@@ -22,33 +22,33 @@ ghost use lib.ListN.{take};
 ghost use Rattle.runs.specs.Runs.{RunIs};
 
 // The high half of a sum, where it counts.
-fn put_high(page: &mut [u8; 4096], at: usize, high: u64) -> usize {
+fn put_high(buffer: &mut [u8; 4096], at: usize, high: u64) -> usize {
     if high == 0 {
         return at;
     }
-    let place = put_decimal(page, at, high);
-    put_bytes(page, place, b" * 2^64 + ")
+    let place = put_decimal(buffer, at, high);
+    put_bytes(buffer, place, b" * 2^64 + ")
 }
 
-fn put_total(page: &mut [u8; 4096], at: usize, t: Total) -> usize {
-    let place = put_high(page, at, t.high);
-    put_decimal(page, place, t.low)
+fn put_total(buffer: &mut [u8; 4096], at: usize, t: Total) -> usize {
+    let place = put_high(buffer, at, t.high);
+    put_decimal(buffer, place, t.low)
 }
 
 // Every print_ function answers whether all of it was written.
 fn print_ran(ran: Ran) -> bool {
-    let mut page = [0u8; 4096];
-    let mut at = put_bytes(&mut page, 0, b"run ");
+    let mut buffer = [0u8; 4096];
+    let mut at = put_bytes(&mut buffer, 0, b"run ");
     let added = ran.added;
-    at = put_total(&mut page, at, added);
-    at = put_byte(&mut page, at, b' ');
+    at = put_total(&mut buffer, at, added);
+    at = put_byte(&mut buffer, at, b' ');
     let taken = ran.taken;
-    at = put_total(&mut page, at, taken);
-    at = put_byte(&mut page, at, b'\n');
+    at = put_total(&mut buffer, at, taken);
+    at = put_byte(&mut buffer, at, b'\n');
     let net = ran.net;
     let tables = net.tables;
-    at = put_tables(&mut page, at, tables, net.tablecount);
-    write_page(&page, at)
+    at = put_tables(&mut buffer, at, tables, net.tablecount);
+    write_buffer(&buffer, at)
 }
 
 // The first `count` picks of the array as one run.

@@ -1,19 +1,19 @@
 // What is told of a refused file.
-use crate::pages::put_byte;
-use crate::pages::put_bytes;
-use crate::pages::put_decimal;
-use crate::pages::write_page;
+use crate::buffer::put_byte;
+use crate::buffer::put_bytes;
+use crate::buffer::put_decimal;
+use crate::buffer::write_buffer;
 use crate::text::reads_as_text;
 use libc::STDERR_FILENO;
 
 fn print_fault(number: u8, place: usize) -> bool {
-    let mut page = [0u8; 4096];
-    let mut at = put_bytes(&mut page, 0, b"load ");
-    at = put_decimal(&mut page, at, number as u64);
-    at = put_bytes(&mut page, at, b" at ");
-    at = put_decimal(&mut page, at, place as u64);
-    at = put_byte(&mut page, at, b'\n');
-    write_page(&page, at)
+    let mut buffer = [0u8; 4096];
+    let mut at = put_bytes(&mut buffer, 0, b"load ");
+    at = put_decimal(&mut buffer, at, number as u64);
+    at = put_bytes(&mut buffer, at, b" at ");
+    at = put_decimal(&mut buffer, at, place as u64);
+    at = put_byte(&mut buffer, at, b'\n');
+    write_buffer(&buffer, at)
 }
 
 // The line of the fault; answers whether it was written. Of a text in place of records the line says little, so a hint goes to standard error.

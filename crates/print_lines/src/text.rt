@@ -1,5 +1,5 @@
 // Text where records should be.
-use crate::pages::at_most;
+use crate::buffer::at_most;
 
 // Printable, a tab or a line end, or a byte of a letter beyond ASCII, as in a byte order mark.
 fn in_text(byte: u8) -> bool {

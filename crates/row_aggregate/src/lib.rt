@@ -45,7 +45,7 @@ fn add_wide(a: i64, i: i32) -> i64
 }
 
 // The whole sum, in 64 bits.
-fn total_of(r: Relation, at: usize) -> i64
+pub fn total_of(r: Relation, at: usize) -> i64
     requires { ⌜ Shaped r × (at < r .columns) ⌝ }
     ensures { λ o. ⌜ o ≡ total (column at (relationOf r .rows)) ⌝ }
 {

@@ -5,8 +5,11 @@ use values::Slot;
 use values::Value;
 use values::kinds::kind_of;
 ghost use mathlib.Core.Path.{_≡_};
+ghost use Prim.Native.Nat.{_<_};
+ghost use lib.ListN.{getD};
 ghost use Rattle.values.specs.declared.Got.the-variants.{One};
 ghost use Rattle.rows.specs.Fit.{ofKind};
+ghost use Rattle.rows.specs.View.{columnsOf};
 
 pub struct Cell {
     pub value: Value,
@@ -113,4 +116,12 @@ pub fn fits_column(kind: u8, v: Value) -> bool
     ensures { λ r. ⌜ r ≡ ofKind kind (One v) ⌝ }
 {
     kind == kind_of(v)
+}
+
+// The kind of a column, 0 past the last one.
+pub fn kind_at(columns: usize, kinds: [u8; 4], i: usize) -> u8
+    requires { ⌜ i < 4 ⌝ }
+    ensures { λ r. ⌜ r ≡ getD (columnsOf columns kinds) i 0 ⌝ }
+{
+    if i < columns { kinds[i] } else { 0 }
 }

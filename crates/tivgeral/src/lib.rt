@@ -1,10 +1,12 @@
 // The engine for programs in C and Rust: a net file and picks in, bytes out. Every call answers every input.
 use call_each::answers::call_answers;
 use call_each::picks::call_picks;
+use call_each::table_page::call_page;
 use call_each::tables::call_tables;
 use call_each::threads::call_threads;
 use call_each::trace::call_trace;
-ghost use Rattle.call_rules.specs.Calls.{TablesIs, AnswersIs, ThreadsIs, TraceIs, PicksIs};
+use values::Site;
+ghost use Rattle.call_rules.specs.Calls.{TablesIs, AnswersIs, ThreadsIs, TraceIs, PageAfterIs, PicksIs};
 
 // The tables left after all picks, as records that load again.
 #[no_mangle]
@@ -63,6 +65,23 @@ pub extern "C" fn tivgeral_trace(
     ensures { λ r. ⌜ TraceIs (now (file .entry)) (now (picks .entry)) from (now (out .entry)) (now (out .exit)) r (now (place .exit)) ⌝ }
 {
     let reply = call_trace(file, picks, from, out);
+    *place = reply.place;
+    reply.number
+}
+
+// The page of one table after all picks.
+#[no_mangle]
+pub extern "C" fn tivgeral_page(
+    file: &[u8],
+    picks: &[u8],
+    site: u8,
+    name: u32,
+    out: &mut [u8],
+    place: &mut usize,
+) -> u8
+    ensures { λ r. ⌜ PageAfterIs (now (file .entry)) (now (picks .entry)) (record { 0 = site }) name (now (out .entry)) (now (out .exit)) r (now (place .exit)) ⌝ }
+{
+    let reply = call_page(file, picks, Site(site), name, out);
     *place = reply.place;
     reply.number
 }

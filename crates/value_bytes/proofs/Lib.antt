@@ -1,2 +1,3 @@
 -- Laws of bytes stored one after the other.
+pub mod Parts
 pub mod Stores

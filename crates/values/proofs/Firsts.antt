@@ -1,11 +1,14 @@
 -- The part of an array that is in use, seen as a list (`firsts`): its length, its places, stores behind it and in it, and a function of its elements.
 use Prim.Native.Nat.{ℕ, zero, suc, _+_, _<_, _≤_}
 use mathlib.Core.Path.{_≡_, refl, ap, ap₂}
+use mathlib.Core.Bool.{Bool}
 use mathlib.Core.List.{List, [], _∷_, _++_, map}
 use native.Mathlib.Omega.{arith}
 use native.Mathlib.Numerals.{add-one}
+use lib.Dec.{T}
 use lib.ListN.{length, drop, getD, set}
-use Rattle.values.specs.Lists.{firsts}
+use Rattle.values.specs.Lists.{all, firsts}
+use Rattle.values.proofs.Bools.{and-l, and-r}
 
 module _ {A B : Type 0} (f : A → B) (z : A) where
   -- as long as the count says
@@ -87,3 +90,11 @@ firsts-same f y g z (suc n) [] [] h = ap₂ _∷_ (h 0 (omega arith)) (firsts-sa
 firsts-same f y g z (suc n) [] (b ∷ l) h = ap₂ _∷_ (h 0 (omega arith)) (firsts-same f y g z n [] l (λ i q. h (suc i) (omega arith)))
 firsts-same f y g z (suc n) (a ∷ k) [] h = ap₂ _∷_ (h 0 (omega arith)) (firsts-same f y g z n k [] (λ i q. h (suc i) (omega arith)))
 firsts-same f y g z (suc n) (a ∷ k) (b ∷ l) h = ap₂ _∷_ (h 0 (omega arith)) (firsts-same f y g z n k l (λ i q. h (suc i) (omega arith)))
+
+-- what holds of all that is in use holds at each place
+pub all-firsts : {A B : Type 0} (p : B → Bool) (f : A → B) (z : A) (n : ℕ) (l : List A) (i : ℕ) → i < n → T (all p (firsts f z n l)) → T (p (f (getD l i z)))
+all-firsts p f z zero l i h t = absurd (omega arith)
+all-firsts p f z (suc n) [] zero h t = and-l (p (f z)) (all p (firsts f z n [])) t
+all-firsts p f z (suc n) (a ∷ l) zero h t = and-l (p (f a)) (all p (firsts f z n l)) t
+all-firsts p f z (suc n) [] (suc i) h t = all-firsts p f z n [] i (omega arith) (and-r (p (f z)) (all p (firsts f z n [])) t)
+all-firsts p f z (suc n) (a ∷ l) (suc i) h t = all-firsts p f z n l i (omega arith) (and-r (p (f a)) (all p (firsts f z n l)) t)

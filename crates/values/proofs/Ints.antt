@@ -3,7 +3,7 @@ use Prim.Native.Nat.{ℕ, suc, _≤_, _+_, _-_}
 use native.Mathlib.Omega.{arith}
 use mathlib.Core.Path.{_≡_, refl, sym, ap, ap₂, _∙_, subst}
 use mathlib.Core.Bool.{Bool, true, false, cond, not, _&&_}
-use lib.Dec.{T, leb, ltb}
+use lib.Dec.{T, leb, ltb, leb→le}
 use lib.IntN.{ℤ, pos, negsuc, natAbs, subℕ, _+ℤ_}
 use lib.Signed.{mag, nonNeg, ltZ, leZ}
 use mir.Syntax.{Width, w32, w64}
@@ -14,6 +14,7 @@ use Rattle.values.specs.declared.Value.the-variants.{Int}
 use Rattle.values.specs.declared.Got.the-variants.{Nothing, One}
 use Rattle.values.specs.Values.{in32}
 use Rattle.values.specs.Operands.{fitting}
+use Rattle.values.proofs.Bools.{and-l}
 
 -- a signed local holds bits: the number comes back where it fits
 pub back : (w : Width) (z : ℤ) → SFits w z → toZ w (ofZ w z) ≡ z
@@ -106,6 +107,10 @@ in-range (negsuc n) l h = record { sfits = omega (arith, ltb-false 2147483647 n 
 pub in32-fits : (z : ℤ) → SFits w32 z → in32 z ≡ true
 in32-fits (pos n) p = le-leb n 2147483647 (omega arith)
 in32-fits (negsuc n) p = rw (le-leb n 2147483647 (omega arith))
+
+pub in32-mag : (z : ℤ) → T (in32 z) → mag z ≤ 2147483647
+in32-mag (pos n) h = leb→le n 2147483647 h
+in32-mag (negsuc n) h = leb→le n 2147483647 (and-l (leb n 2147483647) true h)
 
 -- an Int within 32 bits, or nothing: s is z as the machine has it
 module _ (z : ℤ) {s : ℤ} (e : s ≡ z) where

@@ -1,51 +1,20 @@
 -- The row records of the first tables of a net: how long they are, and one table more.
 use Prim.Native.Nat.{ℕ, zero, suc, _+_, _-_, _*_, _<_, _≤_}
 use mathlib.Core.Path.{_≡_, refl, ap, subst, _∙_}
-use mathlib.Core.Bool.{Bool}
 use mathlib.Core.List.{List, [], _∷_, _++_, map, append-nil, append-assoc}
 use native.Mathlib.Omega.{arith}
-use lib.Dec.{T, leb, leb→le}
 use lib.ListN.{length, getD, length-append}
-use Rattle.values.specs.Lists.{all, firsts}
-use Rattle.values.proofs.Bools.{and-l, and-r}
-use Rattle.values.proofs.Firsts.{length-firsts, firsts-next, map-firsts}
+use Rattle.values.proofs.Firsts.{firsts-next, map-firsts}
 use Rattle.rows.specs.declared.Row.{Row}
 use Rattle.rows.specs.View.{Shaped, noRow, valuesOf}
 use Rattle.nets.specs.declared.Table.{Table}
 use Rattle.nets.specs.Nets as M
-use Rattle.nets.specs.Sound.{tableOk}
 use Rattle.nets.specs.View.{noTable, tableOf, tablesOf}
 use Rattle.record_bytes.specs.Encoding.{tableBytes, rowBytes}
 use Rattle.value_bytes.specs.Bytes.{endToEnd}
 use Rattle.value_bytes.proofs.Stores.{ends-append, ends-length}
 use Rattle.files.specs.Writing.{rowsBytes, allRows, written}
 use Rattle.write_fields.proofs.WriteLaws.{row-length, table-length}
-
--- ── counts of a table in its ranges ──
-
-pub all-firsts : {A B : Type 0} (p : B → Bool) (f : A → B) (z : A) (n : ℕ) (l : List A) (i : ℕ) → i < n → T (all p (firsts f z n l)) → T (p (f (getD l i z)))
-all-firsts p f z zero l i h t = absurd (omega arith)
-all-firsts p f z (suc n) [] zero h t = and-l (p (f z)) (all p (firsts f z n [])) t
-all-firsts p f z (suc n) (a ∷ l) zero h t = and-l (p (f a)) (all p (firsts f z n l)) t
-all-firsts p f z (suc n) [] (suc i) h t = all-firsts p f z n [] i (omega arith) (and-r (p (f z)) (all p (firsts f z n [])) t)
-all-firsts p f z (suc n) (a ∷ l) (suc i) h t = all-firsts p f z n l i (omega arith) (and-r (p (f a)) (all p (firsts f z n l)) t)
-
-few-columns : (t : M.Table) → T (tableOk t) → T (leb (length (t .content .columns)) 4)
-few-columns t h = search (and-l, and-r) depth 12
-
-few-rows : (t : M.Table) → T (tableOk t) → T (leb (length (t .content .rows)) 16)
-few-rows t h = search (and-l, and-r) depth 12
-
-shaped : (t : Table) → T (tableOk (tableOf t)) → Shaped (t .content)
-shaped t h =
-    let r = t .content in
-    record {
-      columns = omega (arith, length-firsts (λ (k : ℕ). k) 0 (r .columns) (r .kinds), leb→le (length (tableOf t .content .columns)) 4 (few-columns (tableOf t) h));
-      count = omega (arith, length-firsts (valuesOf (r .columns)) noRow (r .count) (r .rows), leb→le (length (tableOf t .content .rows)) 16 (few-rows (tableOf t) h));
-    }
-
-pub shaped-at : (ts : List Table) (n i : ℕ) → i < n → T (all tableOk (tablesOf n ts)) → Shaped (getD ts i noTable .content)
-shaped-at ts n i h t = shaped (getD ts i noTable) (all-firsts tableOk tableOf noTable n ts i h t)
 
 -- ── rows ──
 

@@ -1,12 +1,13 @@
 // Fields of table and row records, each written into its own bytes.
 use record_bytes::OPERAND;
 use rows::Row;
+use rows::kind_at;
 use values::Site;
 use values::Value;
 ghost use mathlib.Core.Path.{_≡_};
 ghost use mathlib.Core.List.{[], _∷_};
-ghost use Prim.Native.Nat.{_<_, _≤_};
-ghost use lib.ListN.{length, getD, replicate};
+ghost use Prim.Native.Nat.{_≤_};
+ghost use lib.ListN.{length, replicate};
 ghost use Rattle.rows.specs.View.{valuesOf, columnsOf};
 ghost use Rattle.record_bytes.specs.Encoding.{bits32, operandBytes, tupleBytes, startBytes, columnBytes};
 
@@ -122,14 +123,6 @@ pub fn put_start(out: &mut [u8], kind: u8, site: Site, name: u32)
         (name / 256 % 256) as u8,
         (name % 256) as u8,
     );
-}
-
-// The kind of a column, 0 past the last one.
-fn kind_at(columns: usize, kinds: [u8; 4], i: usize) -> u8
-    requires { ⌜ i < 4 ⌝ }
-    ensures { λ r. ⌜ r ≡ getD (columnsOf columns kinds) i 0 ⌝ }
-{
-    if i < columns { kinds[i] } else { 0 }
 }
 
 pub fn put_columns(out: &mut [u8], columns: usize, kinds: [u8; 4])

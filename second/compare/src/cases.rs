@@ -22,18 +22,33 @@ pub fn generated(class: &str, seed: u64) -> Option<Case> {
 
 /// The stored examples of a directory: NAME.net with its text in NAME.out, by name.
 pub fn stored(directory: &Path) -> io::Result<Vec<Case>> {
-    let entries: io::Result<Vec<PathBuf>> =
-        fs::read_dir(directory)?.map(|entry| entry.map(|entry| entry.path())).collect();
-    let mut nets = entries?;
-    nets.retain(|path| path.extension() == Some(OsStr::new("net")));
-    nets.sort();
-    nets.iter().map(|path| read(path)).collect()
+    let nets = with_extension(directory, "net")?;
+    nets.iter().map(|net| read(net, &net.with_extension("out"))).collect()
 }
 
-fn read(net: &Path) -> io::Result<Case> {
-    Ok(Case {
-        label: net.display().to_string(),
-        file: fs::read(net)?,
-        text: fs::read(net.with_extension("out"))?,
-    })
+/// The stored pages of a directory: NAME.net with the text of netpage in NAME.page, by name. Only
+/// some examples have one.
+pub fn stored_pages(directory: &Path) -> io::Result<Vec<Case>> {
+    let pages = with_extension(directory, "page")?;
+    pages.iter().map(|page| read(&page.with_extension("net"), page)).collect()
+}
+
+fn with_extension(directory: &Path, extension: &str) -> io::Result<Vec<PathBuf>> {
+    let entries: io::Result<Vec<PathBuf>> =
+        fs::read_dir(directory)?.map(|entry| entry.map(|entry| entry.path())).collect();
+    let mut paths = entries?;
+    paths.retain(|path| path.extension() == Some(OsStr::new(extension)));
+    paths.sort();
+    Ok(paths)
+}
+
+fn read(net: &Path, text: &Path) -> io::Result<Case> {
+    Ok(Case { label: net.display().to_string(), file: bytes(net)?, text: bytes(text)? })
+}
+
+/// The bytes of a file of an example; an error says which one it lacks.
+fn bytes(path: &Path) -> io::Result<Vec<u8>> {
+    let named =
+        |error: io::Error| io::Error::new(error.kind(), format!("{}: {error}", path.display()));
+    fs::read(path).map_err(named)
 }

@@ -1,7 +1,8 @@
-//! Holds a netrun program, and the second engine itself, to known texts.
+//! Holds a netrun, netsums or netpage program, and the second engine itself, to known texts.
 #![forbid(unsafe_code)]
 
 pub mod cases;
+pub mod expected;
 pub mod program;
 pub mod report;
-pub mod summed;
+mod summed;

@@ -1,9 +1,10 @@
-//! Runs a netrun program on generated files and stored examples and compares byte for byte.
+//! Runs a netrun, netsums or netpage program on generated files and stored examples and compares
+//! byte for byte.
 
-use compare::cases::{generated, stored, Case};
+use compare::cases::{generated, stored, stored_pages, Case};
+use compare::expected::{expected, Printer};
 use compare::program::text_of;
 use compare::report::{compare, Report};
-use compare::summed::summed;
 use generate::{sweep, Class};
 use std::ffi::OsString;
 use std::path::PathBuf;
@@ -12,7 +13,7 @@ use std::{env, io};
 
 const HELP: &str = "\
 usage: compare [PROGRAM] [--from SEED] [--count N] [--class CLASS] [--sweep TURNS]
-               [--examples DIR] [--jobs N] [--show N] [--sums]
+               [--examples DIR] [--jobs N] [--show N] [--sums | --pages]
 
 Runs PROGRAM once for each file, with the file on standard input, and compares what it
 prints with the second engine's text. Ends with status 1 where anything differs.
@@ -25,6 +26,8 @@ prints with the second engine's text. Ends with status 1 where anything differs.
   --jobs N         how many processes at a time (2)
   --show N         how many differences to print (5)
   --sums           PROGRAM runs all picks as one run: hold it to the sums of the counts and the tables
+  --pages          PROGRAM prints the tables left as pages: hold it to the second engine's, and the
+                   second engine to DIR's NAME.page
 ";
 
 struct Options {
@@ -36,7 +39,7 @@ struct Options {
     examples: Option<PathBuf>,
     jobs: usize,
     show: usize,
-    sums: bool,
+    printer: Printer,
 }
 
 fn main() -> ExitCode {
@@ -68,7 +71,7 @@ fn options(mut arguments: impl Iterator<Item = OsString>) -> Option<Options> {
         examples: None,
         jobs: 2,
         show: 5,
-        sums: false,
+        printer: Printer::Netrun,
     };
     while let Some(argument) = arguments.next() {
         let mut number = || arguments.next()?.to_str()?.parse::<u64>().ok();
@@ -78,7 +81,9 @@ fn options(mut arguments: impl Iterator<Item = OsString>) -> Option<Options> {
             Some("--sweep") => options.sweep = number()?,
             Some("--jobs") => options.jobs = number()?.max(1) as usize,
             Some("--show") => options.show = number()? as usize,
-            Some("--sums") => options.sums = true,
+            Some("--sums" | "--pages") if options.printer != Printer::Netrun => return None,
+            Some("--sums") => options.printer = Printer::Netsums,
+            Some("--pages") => options.printer = Printer::Netpage,
             Some("--class") => options.class = arguments.next()?.into_string().ok()?,
             Some("--examples") => options.examples = Some(arguments.next()?.into()),
             Some(unknown) if unknown.starts_with("--") => return None,
@@ -93,19 +98,23 @@ fn options(mut arguments: impl Iterator<Item = OsString>) -> Option<Options> {
 fn reports(options: &Options) -> io::Result<Vec<Report>> {
     let mut reports = Vec::new();
     if let Some(directory) = &options.examples {
-        let mut examples = stored(directory)?;
+        let examples = stored(directory)?;
         reports.push(compare_stored(&examples, options, |file| Ok(engine::netrun(file))));
+        if options.printer == Printer::Netpage {
+            let pages = stored_pages(directory)?;
+            reports.push(compare_stored(&pages, options, |file| Ok(engine::netpage(file))));
+        }
         if let Some(program) = &options.program {
-            examples.iter_mut().for_each(|example| expect(example, options));
+            let examples: Vec<Case> =
+                examples.into_iter().map(|example| expected(example, options.printer)).collect();
             reports.push(compare_stored(&examples, options, |file| text_of(program, file)));
         }
     }
     if let Some(program) = &options.program {
         let run = |class: &str, from: u64, count: u64| {
             let case = |place| {
-                let mut case = generated(class, from + place).expect("a class that was looked up");
-                expect(&mut case, options);
-                case
+                let case = generated(class, from + place).expect("a class that was looked up");
+                expected(case, options.printer)
             };
             compare(count, options.jobs, case, |file| text_of(program, file))
         };
@@ -113,13 +122,6 @@ fn reports(options: &Options) -> io::Result<Vec<Report>> {
         reports.push(run(&options.class, options.from, options.count));
     }
     Ok(reports)
-}
-
-/// The text expected of PROGRAM, where that is not netrun's.
-fn expect(case: &mut Case, options: &Options) {
-    if options.sums {
-        case.text = summed(&case.text);
-    }
 }
 
 fn compare_stored(

@@ -1,4 +1,4 @@
-//! A netrun program: one process for each file.
+//! A program to be held to the second engine: one process for each file.
 
 use std::ffi::OsString;
 use std::io::{self, Write};

@@ -1,6 +1,7 @@
 //! Comparing: what agrees, what differs, and the stored examples.
 
-use compare::cases::{generated, stored, Case};
+use compare::cases::{generated, stored, stored_pages, Case};
+use compare::expected::{expected, Printer};
 use compare::report::compare;
 use engine::quirk::Quirk;
 use generate::examples::{self, Example};
@@ -32,6 +33,26 @@ fn a_wrong_engine_differs_with_the_seed_that_shows_it() {
     assert!(first.contains("expected"), "{first}");
 }
 
+fn paged(place: u64) -> Case {
+    expected(mixed(place), Printer::Netpage)
+}
+
+#[test]
+fn the_engine_agrees_with_its_own_pages() {
+    let report = compare(300, 2, paged, |file| Ok(engine::netpage(file)));
+    assert_eq!((report.agreed, report.differed()), (300, 0));
+}
+
+#[test]
+fn a_wrong_page_differs_with_the_line_that_shows_it() {
+    let wrong = |file: &[u8]| Ok(Quirk::PageSumLeft.during(|| engine::netpage(file)));
+    let mut report = compare(300, 2, paged, wrong);
+    assert!(report.differed() > 0);
+    let first = report.first(1).next().expect("a difference").to_owned();
+    assert!(first.starts_with("generate --class mixed --seed "), "{first}");
+    assert!(first.contains(": expected \"            "), "{first}");
+}
+
 #[test]
 fn stored_examples_are_those_computed_by_hand() {
     agree(directory(), examples::all());
@@ -44,13 +65,20 @@ fn shown_examples_are_those_computed_by_hand() {
 }
 
 fn agree(directory: &Path, mut made: Vec<Example>) {
-    let stored = stored(directory).expect("the stored examples");
     made.sort_by_key(|example| format!("{}.net", example.name));
+    let texts = made.iter().map(|made| (made, made.text.as_str())).collect();
+    same(stored(directory).expect("the stored examples"), texts);
+    made.sort_by_key(|example| format!("{}.page", example.name));
+    let pages = made.iter().filter_map(|made| Some((made, made.page.as_deref()?))).collect();
+    same(stored_pages(directory).expect("the stored pages"), pages);
+}
+
+fn same(stored: Vec<Case>, made: Vec<(&Example, &str)>) {
     assert_eq!(stored.len(), made.len());
-    for (stored, made) in stored.iter().zip(made) {
+    for (stored, (made, text)) in stored.iter().zip(made) {
         assert!(stored.label.ends_with(&format!("{}.net", made.name)), "{}", stored.label);
         assert_eq!(stored.file, made.file, "{}", made.name);
-        assert_eq!(stored.text, made.text.as_bytes(), "{}", made.name);
+        assert_eq!(stored.text, text.as_bytes(), "{}", made.name);
     }
 }
 
@@ -70,10 +98,31 @@ fn the_program_holds_the_engine_to_stored_examples() {
     assert_eq!(text, format!("{} agreed, 0 differed\n", examples::all().len()));
 }
 
-/// `compare` itself is no netrun: without arguments it fails.
 #[test]
-fn the_program_counts_a_failing_netrun_as_different() {
-    let (success, text) = run(&[env!("CARGO_BIN_EXE_compare"), "--count", "3"]);
+fn with_pages_the_program_holds_the_engine_to_stored_pages_too() {
+    let directory = directory().to_str().expect("a path that reads");
+    let (success, text) = run(&["--examples", directory, "--pages"]);
+    assert!(success, "{text}");
+    let all = examples::all();
+    let pages = all.iter().filter(|example| example.page.is_some()).count();
+    assert!(pages > 0);
+    assert_eq!(text, format!("{} agreed, 0 differed\n", all.len() + pages));
+}
+
+/// `compare` itself is no netrun, netsums or netpage: without arguments it fails.
+#[test]
+fn the_program_counts_a_failing_program_as_different() {
+    for printer in [&[][..], &["--sums"], &["--pages"]] {
+        let (success, text) =
+            run(&[&[env!("CARGO_BIN_EXE_compare"), "--count", "3"], printer].concat());
+        assert!(!success);
+        assert!(text.ends_with("\n0 agreed, 3 differed\n"), "{text}");
+    }
+}
+
+#[test]
+fn a_program_prints_sums_or_pages_but_not_both() {
+    let (success, text) = run(&["true", "--count", "0", "--sums", "--pages"]);
     assert!(!success);
-    assert!(text.ends_with("\n0 agreed, 3 differed\n"), "{text}");
+    assert_eq!(text, "");
 }

@@ -1,23 +1,53 @@
-//! Each of the twenty wrong engines is told apart by the generated files.
+//! Each of the twenty-five wrong engines is told apart by the generated files.
 
+use compare::cases::stored_pages;
 use engine::quirk::Quirk;
 use generate::{file, Class};
+use std::path::Path;
 
 const FILES: u64 = 2_000;
 
-#[test]
-fn generated_files_tell_wrong_engines_apart() {
-    let cases: Vec<(Vec<u8>, Vec<u8>)> = (0..FILES)
-        .map(|seed| file(Class::Mixed, seed))
+/// Generated files with what the engine prints for them.
+fn cases(text: fn(&[u8]) -> Vec<u8>) -> Vec<(Vec<u8>, Vec<u8>)> {
+    let files = (0..FILES).map(|seed| file(Class::Mixed, seed));
+    files
         .map(|file| {
-            let text = engine::netrun(&file);
+            let text = text(&file);
             (file, text)
         })
-        .collect();
-    for quirk in Quirk::ALL {
-        let differs =
-            |(file, text): &(Vec<u8>, Vec<u8>)| quirk.during(|| engine::netrun(file)) != *text;
-        assert!(cases.iter().any(differs), "{quirk:?} looks right on {FILES} files");
+        .collect()
+}
+
+/// Whether an engine gone wrong prints something else for one of the files.
+fn differs(quirk: Quirk, cases: &[(Vec<u8>, Vec<u8>)], text: fn(&[u8]) -> Vec<u8>) -> bool {
+    cases.iter().any(|(file, wanted)| quirk.during(|| text(file)) != *wanted)
+}
+
+#[test]
+fn generated_files_tell_wrong_engines_apart() {
+    let cases = cases(engine::netrun);
+    for quirk in Quirk::OF_RUNS {
+        assert!(differs(quirk, &cases, engine::netrun), "{quirk:?} looks right on {FILES} files");
+    }
+}
+
+/// What is wrong with a page is no matter to netrun.
+#[test]
+fn generated_files_tell_wrong_pages_apart() {
+    let (runs, pages) = (cases(engine::netrun), cases(engine::netpage));
+    for quirk in Quirk::OF_PAGES {
+        assert!(differs(quirk, &pages, engine::netpage), "{quirk:?} looks right on {FILES} files");
+        assert!(!differs(quirk, &runs, engine::netrun), "{quirk:?} shows in netrun's text");
+    }
+}
+
+#[test]
+fn stored_pages_tell_wrong_pages_apart() {
+    let directory = Path::new(concat!(env!("CARGO_MANIFEST_DIR"), "/examples"));
+    let stored = stored_pages(directory).expect("the stored pages");
+    let cases: Vec<_> = stored.into_iter().map(|page| (page.file, page.text)).collect();
+    for quirk in Quirk::OF_PAGES {
+        assert!(differs(quirk, &cases, engine::netpage), "{quirk:?} looks right on the examples");
     }
 }
 

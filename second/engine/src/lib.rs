@@ -1,4 +1,5 @@
-//! An engine for Klaim-DB nets: loads a net, takes the scheduler's picks, writes the tables back.
+//! An engine for Klaim-DB nets: loads a net, takes the scheduler's picks, writes the tables back
+//! and lays them out as pages.
 #![forbid(unsafe_code)]
 
 pub mod accounts;
@@ -10,7 +11,9 @@ mod loops;
 mod net;
 pub mod number;
 mod operand;
+mod page;
 mod print;
+pub mod program;
 pub mod quirk;
 mod record;
 mod relation;
@@ -27,7 +30,8 @@ pub use net::{
     Table, Test, Thread, Variables,
 };
 pub use operand::{Operand, Operands};
-pub use print::netrun;
+pub use page::page;
+pub use print::{netpage, netrun};
 pub use record::{decode, Record, SIZE as RECORD_SIZE};
 pub use relation::{Columns, Relation, Row};
 pub use sound::sound;

@@ -1,7 +1,7 @@
 //! second-netrun: reads a file of records on standard input and prints what its picks come to, as
 //! the proved netrun does.
 
-use std::io::{self, Read, Write};
+use engine::program::Program;
 use std::process::ExitCode;
 
 const HELP: &str = "\
@@ -13,28 +13,5 @@ the proved one is netrun.
 ";
 
 fn main() -> ExitCode {
-    match std::env::args().nth(1).as_deref() {
-        None => {}
-        Some("--help") => {
-            print!("{HELP}");
-            return ExitCode::SUCCESS;
-        }
-        Some(_) => {
-            eprint!("{HELP}");
-            return ExitCode::from(2);
-        }
-    }
-    match run() {
-        Ok(()) => ExitCode::SUCCESS,
-        Err(error) => {
-            eprintln!("second-netrun: {error}");
-            ExitCode::FAILURE
-        }
-    }
-}
-
-fn run() -> io::Result<()> {
-    let mut file = Vec::new();
-    io::stdin().lock().read_to_end(&mut file)?;
-    io::stdout().lock().write_all(&engine::netrun(&file))
+    Program { name: "second-netrun", help: HELP, text: engine::netrun }.main()
 }

@@ -22,3 +22,4 @@ pub const NO_RESULT: u8 = 18;
 pub const NOT_READY: u8 = 19;
 pub const LIMIT: u8 = 20;
 pub const SHORT_BUFFER: u8 = 21;
+pub const SHORT_FOR_PAGE: u8 = 22;

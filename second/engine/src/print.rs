@@ -1,27 +1,43 @@
-//! The text that netrun prints.
+//! The texts that netrun and netpage print.
 
 use crate::load::load;
-use crate::net::{Net, Table};
+use crate::net::{Net, Pick, Table};
+use crate::page::{page, LONGEST};
+use crate::quirk::{wrong, Quirk};
 use crate::step::{run, Answer};
 use crate::value::Value;
 use std::io::{self, Write};
 
 /// Loads a file, runs its picks and gives the text about them and the tables left.
 pub fn netrun(file: &[u8]) -> Vec<u8> {
-    let mut text = Vec::new();
-    print(file, &mut text).expect("writing to memory");
-    text
+    text_of(file, |net, picks, out| {
+        print_answers(&run(net, picks), out)?;
+        net.tables.iter().try_for_each(|table| print_table(table, out))
+    })
 }
 
-fn print(file: &[u8], out: &mut Vec<u8>) -> io::Result<()> {
-    match load(file) {
-        Ok((mut net, picks)) => {
-            let answers = run(&mut net, &picks);
-            print_answers(&answers, out)?;
-            print_tables(&net, out)
+/// Loads a file, runs its picks and gives the tables left, each as a page.
+pub fn netpage(file: &[u8]) -> Vec<u8> {
+    text_of(file, |net, picks, out| {
+        if !wrong(Quirk::PageBeforePicks) {
+            run(net, picks);
         }
+        print_pages(net, out)
+    })
+}
+
+/// The text that `print` gives of a file's net and picks; a refused file has one line.
+fn text_of(
+    file: &[u8],
+    print: impl FnOnce(&mut Net, &[Pick], &mut Vec<u8>) -> io::Result<()>,
+) -> Vec<u8> {
+    let mut out = Vec::new();
+    let printed = match load(file) {
+        Ok((mut net, picks)) => print(&mut net, &picks, &mut out),
         Err(fault) => writeln!(out, "load {} at {}", fault.number, fault.place),
-    }
+    };
+    printed.expect("writing to memory");
+    out
 }
 
 fn print_answers(answers: &[Answer], out: &mut Vec<u8>) -> io::Result<()> {
@@ -34,14 +50,14 @@ fn print_answers(answers: &[Answer], out: &mut Vec<u8>) -> io::Result<()> {
     Ok(())
 }
 
-fn print_tables(net: &Net, out: &mut Vec<u8>) -> io::Result<()> {
-    net.tables.iter().try_for_each(|table| print_table(table, out))
+fn print_head(table: &Table, out: &mut Vec<u8>) -> io::Result<()> {
+    write!(out, "table {} ", table.site.0)?;
+    out.write_all(&table.name.0)?;
+    writeln!(out, " {}", table.relation.rows.len())
 }
 
 fn print_table(table: &Table, out: &mut Vec<u8>) -> io::Result<()> {
-    write!(out, "table {} ", table.site.0)?;
-    out.write_all(&table.name.0)?;
-    writeln!(out, " {}", table.relation.rows.len())?;
+    print_head(table, out)?;
     for row in table.relation.rows.iter() {
         out.write_all(b"row")?;
         row.iter().try_for_each(|value| print_value(*value, out))?;
@@ -59,4 +75,14 @@ fn print_value(value: Value, out: &mut Vec<u8>) -> io::Result<()> {
         }
         Value::Loc(locality) => write!(out, " @{}", locality.0),
     }
+}
+
+fn print_pages(net: &Net, out: &mut Vec<u8>) -> io::Result<()> {
+    let mut lent = [0; LONGEST];
+    for table in &net.tables {
+        print_head(table, out)?;
+        let length = page(net, table.site, table.name, &mut lent);
+        out.write_all(&lent[..length.expect("a table of a sound net, and room for any page")])?;
+    }
+    Ok(())
 }

@@ -1,4 +1,4 @@
-//! Twenty wrong engines, to show that the generated files tell them apart.
+//! Twenty-five wrong engines, to show that the generated files tell them apart.
 //! Without the feature `quirks` nothing of them is left in the program.
 
 /// One way of reading the rules wrongly.
@@ -44,6 +44,16 @@ pub enum Quirk {
     EagerNext,
     /// The seventeenth row is found before a row that doesn't fit.
     RowLimitFirst,
+    /// The sums of a page wrap at 32 bits.
+    PageSumWraps,
+    /// The page of a table without rows has no line at all.
+    PageNoLastLine,
+    /// The sums of a page are left-aligned.
+    PageSumLeft,
+    /// The pages are those of the net before the picks.
+    PageBeforePicks,
+    /// A minus sign stands first in its cell, before the blanks.
+    PageSignApart,
 }
 
 #[cfg(not(feature = "quirks"))]
@@ -66,7 +76,8 @@ mod switch {
     }
 
     impl Quirk {
-        pub const ALL: [Quirk; 20] = [
+        /// Those that netrun's text shows.
+        pub const OF_RUNS: [Quirk; 20] = [
             Quirk::ExactText,
             Quirk::LowerText,
             Quirk::UnlikeUnequal,
@@ -87,6 +98,15 @@ mod switch {
             Quirk::LooseGap,
             Quirk::EagerNext,
             Quirk::RowLimitFirst,
+        ];
+
+        /// Those that only netpage's text shows.
+        pub const OF_PAGES: [Quirk; 5] = [
+            Quirk::PageSumWraps,
+            Quirk::PageNoLastLine,
+            Quirk::PageSumLeft,
+            Quirk::PageBeforePicks,
+            Quirk::PageSignApart,
         ];
 
         /// Runs `work` with the engine of this thread gone wrong.

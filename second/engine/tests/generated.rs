@@ -1,7 +1,7 @@
 //! What holds on any generated file: soundness stays, refusals change nothing, accounts balance,
-//! and what is written loads again.
+//! what is written loads again, and pages read back as the tables.
 
-use engine::{accounts, load, sound, step, step_sound, write, Net, Pick};
+use engine::{accounts, load, page, sound, step, step_sound, write, Kind, Net, Pick, Table, Value};
 use generate::{file, Class};
 
 const FILES: u64 = 2_500;
@@ -51,4 +51,62 @@ fn written_tables_load_again() {
         assert_eq!(again.tables, net.tables);
         assert!(picks.is_empty() && again.threads.is_empty() && again.nodes.is_empty());
     }
+}
+
+#[test]
+fn pages_read_back_as_the_tables() {
+    let mut buffer = [0; 17 * 53];
+    for (_, mut net, picks) in accepted() {
+        engine::run(&mut net, &picks);
+        for table in &net.tables {
+            let length =
+                page(&net, table.site, table.name, &mut buffer).expect("room for any page");
+            reads_back(table, &buffer[..length]);
+        }
+    }
+}
+
+/// Reads a page cell by cell: the rows are the table's, and the last line has their sums.
+fn reads_back(table: &Table, page: &[u8]) {
+    let (lines, rest) = page.as_chunks::<53>();
+    assert!(rest.is_empty() && lines.iter().all(|line| line[52] == b'\n'));
+    let (last, lines) = lines.split_last().expect("a last line");
+    let relation = &table.relation;
+    assert_eq!(lines.len(), relation.rows.len());
+    for place in 0..4 {
+        let cell = |line: &[u8; 53]| line[13 * place..13 * place + 13].to_vec();
+        let mut sum = 0;
+        for (line, row) in lines.iter().zip(relation.rows.iter()) {
+            match row.get(place) {
+                Some(Value::Int(int)) => {
+                    assert_eq!(number(&cell(line)), i64::from(*int));
+                    sum += i64::from(*int);
+                }
+                Some(Value::Text(text)) => assert_eq!(cell(line), left(&text.0)),
+                Some(Value::Loc(locality)) => {
+                    assert_eq!(cell(line), left(&[b'@', b'0' + locality.0]))
+                }
+                None => assert_eq!(cell(line), left(b"")),
+            }
+        }
+        match relation.columns.get(place) {
+            Some(Kind::Int) => assert_eq!(number(&cell(last)), sum),
+            _ => assert_eq!(cell(last), left(b"")),
+        }
+    }
+}
+
+/// The cell of these bytes, left-aligned.
+fn left(bytes: &[u8]) -> Vec<u8> {
+    [bytes, &vec![b' '; 13 - bytes.len()]].concat()
+}
+
+/// The number of a cell: at least one blank, and then its decimal up to the end of the cell.
+fn number(cell: &[u8]) -> i64 {
+    let cell = String::from_utf8_lossy(cell);
+    assert!(cell.starts_with(' '), "{cell}");
+    let decimal = cell.trim_start_matches(' ');
+    let number: i64 = decimal.parse().expect("a decimal");
+    assert_eq!(number.to_string(), decimal);
+    number
 }

@@ -1,14 +1,18 @@
-//! The program second-netrun, which has a name of its own beside the proved netrun.
+//! The programs second-netrun and second-netpage, which have names of their own beside the proved
+//! ones.
 
 use generate::examples::all;
 use std::io::Write;
 use std::process::{Command, Stdio};
 
-#[test]
-fn prints_the_run_of_document_01() {
-    let example = all().into_iter().find(|example| example.name == "k-printed-run");
-    let example = example.expect("the run is among the examples");
-    let mut program = Command::new(env!("CARGO_BIN_EXE_second-netrun"))
+const NETRUN: &str = env!("CARGO_BIN_EXE_second-netrun");
+const NETPAGE: &str = env!("CARGO_BIN_EXE_second-netpage");
+
+/// What a program prints for the file of an example.
+fn printed(program: &str, name: &str) -> String {
+    let example = all().into_iter().find(|example| example.name == name);
+    let example = example.expect("it is among the examples");
+    let mut program = Command::new(program)
         .stdin(Stdio::piped())
         .stdout(Stdio::piped())
         .spawn()
@@ -18,14 +22,40 @@ fn prints_the_run_of_document_01() {
     drop(stdin);
     let output = program.wait_with_output().expect("it ends");
     assert!(output.status.success());
-    let text = "pick 0 done 1 1\npick 1 no 11\ntable 1 CARD 1\nrow RIG1 38\n";
-    assert_eq!(String::from_utf8_lossy(&output.stdout), text);
+    String::from_utf8_lossy(&output.stdout).into_owned()
 }
 
 #[test]
-fn says_by_its_own_name_how_to_call_it() {
-    let output = Command::new(env!("CARGO_BIN_EXE_second-netrun")).arg("a.net").output();
-    let output = output.expect("it starts");
-    assert_eq!(output.status.code(), Some(2));
-    assert!(String::from_utf8_lossy(&output.stderr).starts_with("usage: second-netrun < FILE\n"));
+fn netrun_prints_the_run_of_document_01() {
+    let text = "pick 0 done 1 1\npick 1 no 11\ntable 1 CARD 1\nrow RIG1 38\n";
+    assert_eq!(printed(NETRUN, "k-printed-run"), text);
+}
+
+#[test]
+fn netpage_prints_the_page_of_that_run() {
+    let text = [
+        "table 1 CARD 1\n",
+        "RIG1                    38                          \n",
+        "                        38                          \n",
+    ];
+    assert_eq!(printed(NETPAGE, "k-printed-run"), text.concat());
+}
+
+#[test]
+fn a_refused_file_prints_one_line() {
+    for program in [NETRUN, NETPAGE] {
+        assert_eq!(printed(program, "07-kind"), "load 7 at 1\n");
+    }
+}
+
+#[test]
+fn they_say_by_their_own_names_how_to_call_them() {
+    for (program, usage) in
+        [(NETRUN, "usage: second-netrun < FILE\n"), (NETPAGE, "usage: second-netpage < FILE\n")]
+    {
+        let output = Command::new(program).arg("a.net").output().expect("it starts");
+        assert_eq!(output.status.code(), Some(2));
+        assert!(output.stdout.is_empty());
+        assert!(String::from_utf8_lossy(&output.stderr).starts_with(usage));
+    }
 }

@@ -1,8 +1,8 @@
-//! Number 10: every way in which a net can be unsound refuses picks and writing.
+//! Number 10: every way in which a net can be unsound refuses picks, writing and pages.
 
 use engine::{
-    load, sound, step, write, Act, Columns, Entry, Function, Kind, List, Locality, Net, Operand,
-    Operands, Pick, Places, Relation, Row, Site, Text, Value,
+    load, page, sound, step, write, Act, Columns, Entry, Function, Kind, List, Locality, Net,
+    Operand, Operands, Pick, Places, Relation, Row, Site, Text, Value,
 };
 use generate::record::*;
 
@@ -44,6 +44,7 @@ fn refuses(what: &str, spoil: impl Fn(&mut Net)) {
     assert_eq!(engine::run(&mut net, &[Pick { thread: 0, row: 0 }; 2]), [Err(10); 2], "{what}");
     let mut buffer = [7; 3];
     assert_eq!(write(&net, &mut buffer), Err(10), "{what}");
+    assert_eq!(page(&net, Site(1), Text(*b"CARD"), &mut buffer), Err(10), "{what}");
     assert_eq!(buffer, [7; 3], "{what}");
     assert_eq!(net, spoilt, "{what}");
 }

@@ -7,6 +7,7 @@ mod program;
 mod random;
 pub mod record;
 mod scope;
+mod standing;
 mod statement;
 pub mod stats;
 pub mod sweep;

@@ -1,4 +1,5 @@
-//! Writes generated files, or says how often each number and each kind done occurs in them.
+//! Writes generated files, or says how often each number, each kind done and each sort of page
+//! occurs in them.
 
 use generate::examples::{self, Example};
 use generate::stats::Stats;
@@ -14,9 +15,10 @@ usage: generate [--class CLASS] --seed SEED
        generate --shown DIR
 
   --seed SEED      write the file of a seed on standard output
-  --stats          count the numbers and kinds done in the files of a row of seeds, and
-                   hold the engine to demand 3 on each accepted one
-  --examples DIR   write the examples computed by hand as NAME.net and NAME.out
+  --stats          count the numbers, the kinds done and the sorts of pages in the files of a
+                   row of seeds, and hold the engine to demand 3 on each accepted one
+  --examples DIR   write the examples computed by hand as NAME.net and NAME.out, and NAME.page
+                   where the text of netpage was computed too
   --shown DIR      write the few of them that the repository shows
   --class CLASS    valid, damaged, sweep or mixed (the default)
   --from SEED      the first seed (0)
@@ -100,8 +102,12 @@ fn run(options: &Options) -> io::Result<bool> {
 
 fn write_examples(examples: &[Example], directory: &Path) -> io::Result<()> {
     for example in examples {
-        fs::write(directory.join(example.name).with_extension("net"), &example.file)?;
-        fs::write(directory.join(example.name).with_extension("out"), &example.text)?;
+        let path = directory.join(example.name);
+        fs::write(path.with_extension("net"), &example.file)?;
+        fs::write(path.with_extension("out"), &example.text)?;
+        if let Some(page) = &example.page {
+            fs::write(path.with_extension("page"), page)?;
+        }
     }
     Ok(())
 }

@@ -1,5 +1,6 @@
-//! How often each number and each kind done occurs in generated files.
+//! How often each number, each kind done and each sort of page occurs in generated files.
 
+use crate::standing::Standing;
 use crate::{file, Class};
 use engine::{accounts, load, step_sound, Answer, Entry, Net, Pick};
 use std::fmt;
@@ -16,6 +17,8 @@ pub struct Stats {
     rounds: [usize; 4],
     /// Picks on nets at a limit: rows of a table, tables, threads, entries of the stack picked.
     limits: [usize; 4],
+    /// The tables that the picks left.
+    standing: Standing,
     /// The first files on which demand 3 is broken.
     broken: Vec<String>,
 }
@@ -86,6 +89,7 @@ impl Stats {
                 _ => {}
             }
         }
+        self.standing.count(&net);
     }
 
     fn count_limits(&mut self, net: &Net, depth: usize) {
@@ -123,6 +127,11 @@ impl Stats {
     pub fn done_share(&self, kind: usize) -> f64 {
         share(self.done[kind], self.picks)
     }
+
+    /// The share of each sort of page among the tables standing after the picks, in percent.
+    pub fn page_shares(&self) -> impl Iterator<Item = f64> + '_ {
+        self.standing.sorts().map(|(_, count)| share(count, self.standing.tables))
+    }
 }
 
 /// The threads of the net and the stack entries of the one picked.
@@ -157,6 +166,10 @@ impl fmt::Display for Stats {
         }
         for (name, count) in LIMITS.iter().zip(self.limits) {
             line(format!("pick at {name}"), count, self.picks)?;
+        }
+        line("tables standing".into(), self.standing.tables, self.standing.tables)?;
+        for (name, count) in self.standing.sorts() {
+            line(format!("page with {name}"), count, self.standing.tables)?;
         }
         self.broken.iter().take(10).try_for_each(|broken| writeln!(f, "broken: {broken}"))?;
         writeln!(f, "demand 3 broken {} times", self.broken.len())

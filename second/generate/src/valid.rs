@@ -43,14 +43,14 @@ pub fn net(random: &mut Random) -> Vec<Record> {
 }
 
 fn size(theme: Theme) -> Size {
-    let edges = 10;
+    let (edges, heavy) = (10, 0);
     match theme {
-        Theme::Mixed => Size { tables: (1, 5), rows: (0, 6), edges },
-        Theme::Deep | Theme::Forks => Size { tables: (1, 3), rows: (2, 6), edges },
-        Theme::Full => Size { tables: (1, 3), rows: (6, 22), edges },
-        Theme::Traps => Size { tables: (1, 4), rows: (0, 20), edges },
-        Theme::Crowded => Size { tables: (4, 8), rows: (0, 5), edges },
-        Theme::Sums => Size { tables: (2, 4), rows: (2, 7), edges: 55 },
+        Theme::Mixed => Size { tables: (1, 5), rows: (0, 6), edges, heavy },
+        Theme::Deep | Theme::Forks => Size { tables: (1, 3), rows: (2, 6), edges, heavy },
+        Theme::Full => Size { tables: (1, 3), rows: (6, 22), edges, heavy: 60 },
+        Theme::Traps => Size { tables: (1, 4), rows: (0, 20), edges, heavy },
+        Theme::Crowded => Size { tables: (4, 8), rows: (0, 5), edges, heavy },
+        Theme::Sums => Size { tables: (2, 4), rows: (2, 7), edges: 55, heavy },
     }
 }
 

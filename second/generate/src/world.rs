@@ -38,6 +38,9 @@ pub struct Size {
     pub rows: (usize, usize),
     /// The share of Ints at the edges of 32 bits, in percent.
     pub edges: usize,
+    /// The share of tables that hold one Int alone, the least or the largest, in percent. Their
+    /// sums need all the places of a page's cell.
+    pub heavy: usize,
 }
 
 pub fn name(random: &mut Random) -> Name {
@@ -67,6 +70,24 @@ pub fn value(random: &mut Random, kind: u8, edges: usize) -> Operand {
     }
 }
 
+fn rows(random: &mut Random, columns: &[u8], size: Size) -> Vec<Vec<Operand>> {
+    let count = random.between(size.rows.0, size.rows.1).min(16);
+    let extreme = random.chance(size.heavy).then(|| *random.choose(&[i32::MIN, i32::MAX]));
+    let mut rows: Vec<Vec<Operand>> = Vec::new();
+    while rows.len() < count {
+        if !rows.is_empty() && random.chance(15) {
+            rows.push(random.choose(&rows).clone());
+            continue;
+        }
+        let values = columns.iter().map(|kind| match (*kind, extreme) {
+            (INT, Some(extreme)) => int(extreme),
+            (kind, _) => value(random, kind, size.edges),
+        });
+        rows.push(values.collect());
+    }
+    rows
+}
+
 impl World {
     pub fn new(random: &mut Random, size: Size) -> World {
         let homes: Vec<u8> = (0..random.between(1, 3)).map(|_| random.below(8) as u8).collect();
@@ -90,15 +111,7 @@ impl World {
             Some(table) if random.chance(40) => table.columns.clone(),
             _ => columns(random),
         };
-        let count = random.between(size.rows.0, size.rows.1).min(16);
-        let mut rows: Vec<Vec<Operand>> = Vec::new();
-        while rows.len() < count {
-            let again = !rows.is_empty() && random.chance(15);
-            rows.push(match again {
-                true => random.choose(&rows).clone(),
-                false => columns.iter().map(|kind| value(random, *kind, size.edges)).collect(),
-            });
-        }
+        let rows = rows(random, &columns, size);
         self.tables.push(TablePlan { site, name, columns, rows });
     }
 

@@ -1,8 +1,9 @@
-//! What the engine answers to a pick, and to a file that it refuses.
+//! What the engine answers to a pick, and to a call that it refuses.
 
 /// Why a file is refused (1..9), and the place of the record at fault. Of the calls' other numbers
-/// 21 comes from `trace` and `picks_into` alone, since the others lend buffers that have room;
-/// picks go over in pairs of bytes (100).
+/// 14 comes from `page` and `page_into` alone: no such table, and the place is 0. 21 comes from
+/// `trace` and `picks_into`, and 22 from `page_into`, since the others lend buffers that have room:
+/// the place is the length that is needed. 100 comes from `Call::on` alone, which takes picks as bytes.
 #[derive(Clone, Copy, PartialEq, Eq, Debug)]
 pub struct Refused {
     pub number: u8,

@@ -1,7 +1,7 @@
 //! The calls of the library, each behind a safe function. The only unsafe code is here.
 #![allow(unsafe_code)]
 
-use crate::{Answer, Pick, Refused, Thread, PICKS_BYTES, TABLES_BYTES, THREADS_BYTES};
+use crate::{Answer, Pick, Refused, Thread, PAGE_BYTES, PICKS_BYTES, TABLES_BYTES, THREADS_BYTES};
 
 /// Declares calls of the library that have one signature.
 macro_rules! declared {
@@ -34,6 +34,18 @@ extern "C" {
         place: *mut usize,
     ) -> u8;
 
+    fn tivgeral_page(
+        file: *const u8,
+        file_length: usize,
+        picks: *const u8,
+        picks_length: usize,
+        site: u8,
+        name: u32,
+        out: *mut u8,
+        out_length: usize,
+        place: *mut usize,
+    ) -> u8;
+
     fn tivgeral_picks(
         file: *const u8,
         file_length: usize,
@@ -49,11 +61,14 @@ pub enum Call {
     Tables,
     Answers,
     Threads,
+    /// The table of this name, which has blanks at its end where it is shorter.
+    Page {
+        site: u8,
+        name: [u8; 4],
+    },
 }
 
 impl Call {
-    pub const ALL: [Call; 3] = [Call::Tables, Call::Answers, Call::Threads];
-
     /// Makes the call with any bytes and a buffer of any length: its number, and the place, which
     /// is how many bytes it put into the buffer where the number is 0.
     pub fn on(self, file: &[u8], picks: &[u8], out: &mut [u8]) -> (u8, usize) {
@@ -61,6 +76,7 @@ impl Call {
             Call::Tables => tivgeral_tables,
             Call::Answers => tivgeral_answers,
             Call::Threads => tivgeral_threads,
+            Call::Page { site, name } => return page_on(file, picks, site, name, out),
         };
         let (f, p, o) = (file.as_ptr(), picks.as_ptr(), out.as_mut_ptr());
         let mut place = 0;
@@ -78,6 +94,17 @@ impl Call {
         out.truncate(length(number, place)?);
         Ok(out)
     }
+}
+
+fn page_on(file: &[u8], picks: &[u8], site: u8, name: [u8; 4], out: &mut [u8]) -> (u8, usize) {
+    let (f, p, o) = (file.as_ptr(), picks.as_ptr(), out.as_mut_ptr());
+    let name = u32::from_be_bytes(name);
+    let mut place = 0;
+    // SAFETY: each pointer goes with the length of its own slice, and the call keeps none.
+    let number = unsafe {
+        tivgeral_page(f, file.len(), p, picks.len(), site, name, o, out.len(), &mut place)
+    };
+    (number, place)
 }
 
 fn pick_bytes(picks: &[Pick]) -> Vec<u8> {
@@ -99,6 +126,27 @@ pub fn answers(file: &[u8], picks: &[Pick]) -> Result<Vec<Answer>, Refused> {
 pub fn threads(file: &[u8], picks: &[Pick]) -> Result<Vec<Thread>, Refused> {
     let bytes = Call::Threads.lent(file, picks, THREADS_BYTES)?;
     Ok(Thread::read_all(&bytes))
+}
+
+/// The page of one table that stands after all picks: a line of `LINE_BYTES` for each row, and one
+/// with the sum of each Int column. The header says what a line has. A table that is not there is
+/// refused by 14; its name has blanks at its end where it is shorter than four characters.
+pub fn page(file: &[u8], picks: &[Pick], site: u8, name: [u8; 4]) -> Result<Vec<u8>, Refused> {
+    Call::Page { site, name }.lent(file, picks, PAGE_BYTES)
+}
+
+/// Puts that page into the buffer, and gives back how many bytes it put there. A buffer that is too
+/// short is refused by 22, and the place is the length that is needed. One of `PAGE_BYTES` has room
+/// for any page.
+pub fn page_into(
+    file: &[u8],
+    picks: &[Pick],
+    site: u8,
+    name: [u8; 4],
+    out: &mut [u8],
+) -> Result<usize, Refused> {
+    let (number, place) = Call::Page { site, name }.on(file, &pick_bytes(picks), out);
+    length(number, place)
 }
 
 /// Puts moments into the buffer, which `Moment::all` reads: the net after the first `from` picks

@@ -4,6 +4,10 @@
 use embed::{picks, picks_into, trace, Call, Moment, Pick, Refused, MOMENT_BYTES};
 use std::fs;
 
+/// The calls that take picks and a buffer alone, but for the table to lay out.
+const CALLS: [Call; 4] =
+    [Call::Tables, Call::Answers, Call::Threads, Call::Page { site: 1, name: *b"CARD" }];
+
 /// Number and place, for a buffer of so many bytes, which must stay as it was.
 fn refused(call: Call, file: &[u8], picks: &[u8], room: usize) -> (u8, usize) {
     let mut out = vec![7; room];
@@ -19,7 +23,7 @@ fn file() -> Vec<u8> {
 
 #[test]
 fn picks_of_an_odd_length_are_100_before_all_else() {
-    for call in Call::ALL {
+    for call in CALLS {
         assert_eq!(refused(call, &file(), &[0, 0, 0], 20_000), (100, 0));
         assert_eq!(refused(call, &[1], &[0], 0), (100, 0));
     }
@@ -27,7 +31,7 @@ fn picks_of_an_odd_length_are_100_before_all_else() {
 
 #[test]
 fn a_file_of_a_broken_length_is_1() {
-    for call in Call::ALL {
+    for call in CALLS {
         assert_eq!(refused(call, &file()[1..], &[], 20_000), (1, file().len() / 104 - 1));
     }
 }

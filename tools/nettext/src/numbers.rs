@@ -110,8 +110,9 @@ static NUMBERS: &[Number] = &[
     ),
     entry(
         14,
-        "no such table at the site that L means (not for create)",
-        "create it first, or correct name and locality; names are compared exactly",
+        "no such table at the site that L means (not for create); paging: no such table at \
+         the site given",
+        "create it first, or correct name, locality or site; names are compared exactly",
     ),
     entry(15, "create: the table is there", "drop it first, or leave the create out"),
     entry(
@@ -147,6 +148,11 @@ static NUMBERS: &[Number] = &[
         21,
         "writing: the buffer is too short",
         "lend a longer one: 104 bytes for each table and each row",
+    ),
+    entry(
+        22,
+        "paging: the buffer is shorter than the page",
+        "lend a longer one: 53 bytes for each row and 53 more",
     ),
 ];
 

@@ -1,6 +1,7 @@
 -- `call_moment::moment_size` meets its contract: its own record, those of its tables and rows, and those of its threads. Assumes nothing.
 use native.Mathlib.Omega.{arith}
-use Rattle.call_moment.proofs.NetShapes.{few-threads, few-tables, tables-ok, all-shaped}
+use Rattle.nets.proofs.ShapeLaws.{few-tables, tables-ok}
+use Rattle.call_moment.proofs.NetShapes.{few-threads, all-shaped}
 use Rattle.call_moment.proofs.MomentLaws.{moment-length}
 use borrow.Author.Needs.{needs}
 use Rattle.call_moment.proofs.moment_size.Statement.{statement}

@@ -1,5 +1,5 @@
 -- `call_moment::put_moment` meets its contract: three adjacent parts. Assumes nothing.
-use Prim.Native.Nat.{ℕ, _+_, _-_, _*_, _/_, _≤_}
+use Prim.Native.Nat.{ℕ, _+_, _-_, _*_, _/_}
 use mathlib.Core.Path.{_≡_, refl, sym, ap, _∙_}
 use mathlib.Core.Bool.{true}
 use mathlib.Core.List.{List, _++_, append-nil}
@@ -17,8 +17,9 @@ use Rattle.value_bytes.proofs.Stores.{part-size}
 use Rattle.files.specs.Writing.{written, bufferAfter}
 use Rattle.write.specs.WriteCall.{ifRoom}
 use Rattle.call_rules.specs.Moments.{allThreads, momentHead, momentPut}
-use Rattle.call_hold.proofs.RecordLaws.{three-fill, part-left, part-first}
-use Rattle.call_moment.proofs.NetShapes.{few-threads, few-tables, tables-ok, all-shaped}
+use Rattle.value_bytes.proofs.Parts.{three-fill, part-left, part-first}
+use Rattle.nets.proofs.ShapeLaws.{few-tables, tables-ok}
+use Rattle.call_moment.proofs.NetShapes.{few-threads, all-shaped}
 use Rattle.call_moment.proofs.MomentLaws.{head-length, moment-length, moment-parts}
 use borrow.Author.Needs.{needs}
 use Rattle.call_moment.proofs.put_moment.Statement.{statement}

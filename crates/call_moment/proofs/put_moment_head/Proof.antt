@@ -1,12 +1,12 @@
 -- `call_moment::put_moment_head` meets its contract: two adjacent parts fill the record. Assumes nothing.
-use Prim.Native.Nat.{ℕ, _+_, _/_, _%_, _^_, _≤_}
+use Prim.Native.Nat.{ℕ, _/_, _%_, _^_, _≤_}
 use mathlib.Core.Path.{_≡_, ap, refl, _∙_}
 use mathlib.Core.List.{List, [], _∷_, _++_}
 use native.Mathlib.Omega.{arith}
 use lib.ListN.{length, drop, replicate}
 use borrow.Rule.Slice.PartMut.{putMid}
 use Rattle.call_rules.specs.Moments.{momentHead}
-use Rattle.call_hold.proofs.RecordLaws.{two-fill}
+use Rattle.value_bytes.proofs.Parts.{two-fill}
 use borrow.Author.Needs.{needs}
 use Rattle.call_moment.proofs.put_moment_head.Statement.{statement}
 use Rattle.call_moment.proofs.put_moment_head.Tie as tie

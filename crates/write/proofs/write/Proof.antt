@@ -1,19 +1,16 @@
 -- `write::write` meets its contract: an unsound net is refused, a sound one has tables in their ranges.
 use Prim.Native.Nat.{ℕ, _≤_}
-use mathlib.Core.Path.{_≡_, refl, sym, ap, _∙_}
+use mathlib.Core.Path.{_≡_, sym, _∙_}
 use mathlib.Core.Bool.{Bool, true, false}
 use mathlib.Core.List.{List}
-use lib.Dec.{T, leb→le}
-use lib.ListN.{length}
-use native.Mathlib.Omega.{arith}
+use lib.Dec.{T}
 use Rattle.values.specs.Lists.{all}
 use Rattle.values.proofs.Bools.{T-of}
-use Rattle.values.proofs.Firsts.{length-firsts}
 use Rattle.nets.specs.declared.Net.{Net}
 use Rattle.nets.specs.Nets as M
 use Rattle.nets.specs.Sound.{tableOk, sound}
-use Rattle.nets.specs.View.{noTable, tableOf, tablesOf, view}
-use Rattle.nets.proofs.SoundLaws.{clauses}
+use Rattle.nets.specs.View.{tablesOf, view}
+use Rattle.nets.proofs.ShapeLaws.{tables-of, few-tables, tables-ok}
 use Rattle.files.specs.declared.Written.{Written}
 use Rattle.files.specs.Writing.{notWritten, refusing, write, written, writtenAnswer, bufferAfter}
 use Rattle.files.specs.Engine.{saidWritten}
@@ -21,10 +18,6 @@ use Rattle.write.specs.WriteCall.{ifRoom}
 use borrow.Author.Needs.{needs}
 use Rattle.write.proofs.write.Statement.{statement}
 use Rattle.write.proofs.write.Tie as tie
-
-tables-of : (net : Net) → view net .tables ≡ tablesOf (net .tablecount) (net .tables)
-unfolding view
-tables-of net = refl
 
 write-sound : (m : M.Net) (o : List ℕ) → sound m ≡ true → write m o ≡ ifRoom (written (m .tables)) o
 unfolding write ifRoom
@@ -36,12 +29,10 @@ write-unsound m o e = rw e
 
 module _ (net : Net) (b : Bool) (e : b ≡ sound (view net)) where
   few : b ≡ true → net .tablecount ≤ 8
-  few h =
-      let s = clauses (view net) (T-of (sound (view net)) (sym e ∙ h)) in
-      omega (arith, leb→le (length (view net .tables)) 8 (s .fewTables), ap length (tables-of net), length-firsts tableOf noTable (net .tablecount) (net .tables))
+  few h = few-tables net (T-of (sound (view net)) (sym e ∙ h))
 
   ranged : b ≡ true → T (all tableOk (tablesOf (net .tablecount) (net .tables)))
-  ranged h = rw (tables-of net) at (clauses (view net) (T-of (sound (view net)) (sym e ∙ h)) .tables)
+  ranged h = tables-ok net (T-of (sound (view net)) (sym e ∙ h))
 
   sound-answer : (o : List ℕ) (r : Written) → b ≡ true → saidWritten r ≡ writtenAnswer (ifRoom (written (tablesOf (net .tablecount) (net .tables))) o) → saidWritten r ≡ writtenAnswer (write (view net) o)
   sound-answer o r h k = rw (write-sound (view net) o (sym e ∙ h), tables-of net) k

@@ -8,7 +8,7 @@ const GOAL: &Name = b"GOAL";
 
 pub fn all() -> Vec<Example> {
     vec![
-        example_of_bytes("a-empty", Vec::new(), &[]),
+        example_of_bytes("a-empty", Vec::new(), &[]).with_page(&[]),
         example_of_bytes("b-length", vec![0; 103], &["load 1 at 0"]),
         update_past_32_bits(),
         insert_past_32_bits(),

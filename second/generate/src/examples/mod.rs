@@ -1,8 +1,9 @@
-//! Files with the text that netrun must print for them, computed by hand.
+//! Files with the text that netrun must print for them, and of some their pages, computed by hand.
 
 mod document;
 mod loading;
 mod loops;
+mod pages;
 mod steps;
 
 use crate::record::{file, pick, row, start, table, Name, Operand, Record};
@@ -10,11 +11,20 @@ use crate::record::{file, pick, row, start, table, Name, Operand, Record};
 pub struct Example {
     pub name: &'static str,
     pub file: Vec<u8>,
+    /// What netrun must print.
     pub text: String,
+    /// What netpage must print, where that was computed too.
+    pub page: Option<String>,
+}
+
+impl Example {
+    fn with_page(self, lines: &[&str]) -> Example {
+        Example { page: Some(joined_lines(lines)), ..self }
+    }
 }
 
 /// The few that stand in the repository's `examples`: the name there, and the example's own.
-const SHOWN: [(&str, &str); 14] = [
+const SHOWN: [(&str, &str); 15] = [
     ("printed-run", "k-printed-run"),
     ("insert", "16-insert"),
     ("insert-table", "17-insert-table"),
@@ -29,6 +39,7 @@ const SHOWN: [(&str, &str); 14] = [
     ("parallel-loop", "26-parallel"),
     ("refused-steps", "refused-steps"),
     ("refused-file", "07-kind"),
+    ("page", "page-year"),
 ];
 
 pub fn shown() -> Vec<Example> {
@@ -41,7 +52,10 @@ pub fn shown() -> Vec<Example> {
 }
 
 pub fn all() -> Vec<Example> {
-    [document::all(), loading::all(), steps::all(), loops::all()].into_iter().flatten().collect()
+    [document::all(), loading::all(), steps::all(), loops::all(), pages::all()]
+        .into_iter()
+        .flatten()
+        .collect()
 }
 
 fn example(name: &'static str, records: &[Record], lines: &[&str]) -> Example {
@@ -49,8 +63,12 @@ fn example(name: &'static str, records: &[Record], lines: &[&str]) -> Example {
 }
 
 fn example_of_bytes(name: &'static str, file: Vec<u8>, lines: &[&str]) -> Example {
-    let text = lines.iter().flat_map(|line| [line, "\n"]).collect();
-    Example { name, file, text }
+    Example { name, file, text: joined_lines(lines), page: None }
+}
+
+/// The lines as one text, each ended by a line feed.
+fn joined_lines(lines: &[&str]) -> String {
+    lines.iter().flat_map(|line| [line, "\n"]).collect()
 }
 
 /// A table at a site with its rows.

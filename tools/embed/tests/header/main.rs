@@ -1,8 +1,13 @@
-//! What `include/tivgeral.h` says is so: its version, its names and their numbers, its texts, and a
-//! trace that a C program reads by them.
+//! What `include/tivgeral.h` says is so: its version, its names and their numbers, its texts, the
+//! numbers of tables' names, and the pages and traces that C programs read by them.
 
 mod compiled;
 mod names;
+#[cfg(feature = "proved")]
+mod page;
+#[cfg(feature = "proved")]
+mod stored;
+mod table_names;
 mod texts;
 #[cfg(feature = "proved")]
 mod trace;

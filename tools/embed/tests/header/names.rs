@@ -3,16 +3,20 @@
 use crate::compiled::{compile, printed, Language};
 use crate::header;
 use embed::{Answer, Thread};
-use embed::{MOMENT_BYTES, PICKS_BYTES, RECORD_BYTES, TABLES_BYTES, THREADS_BYTES};
+use embed::{CELL_BYTES, LINE_BYTES, MOMENT_BYTES, PAGE_BYTES};
+use embed::{PICKS_BYTES, RECORD_BYTES, TABLES_BYTES, THREADS_BYTES};
 
 /// All names of the header's enums, in its order.
-const NAMES: [(&str, usize); 37] = [
+const NAMES: [(&str, usize); 41] = [
     ("RECORD_BYTES", RECORD_BYTES),
     ("ANSWER_BYTES", Answer::SIZE),
     ("THREAD_BYTES", Thread::SIZE),
+    ("CELL_BYTES", CELL_BYTES),
+    ("LINE_BYTES", LINE_BYTES),
     ("TABLES_BYTES", TABLES_BYTES),
     ("THREADS_BYTES", THREADS_BYTES),
     ("MOMENT_BYTES", MOMENT_BYTES),
+    ("PAGE_BYTES", PAGE_BYTES),
     ("PICKS_BYTES", PICKS_BYTES),
     ("DONE", 0),
     ("LENGTH", 1),
@@ -35,6 +39,7 @@ const NAMES: [(&str, usize); 37] = [
     ("ROW_PLACE", 19),
     ("LIMIT", 20),
     ("SHORT", 21),
+    ("SHORT_FOR_PAGE", 22),
     ("ODD_PICKS", 100),
     ("KIND_TABLE", 2),
     ("KIND_ROW", 3),

@@ -1,20 +1,8 @@
 //! A C program that goes by the header alone reads of a trace what this crate reads.
 
-use crate::compiled::{compile, printed, root, Language};
+use crate::compiled::{compile, printed, Language};
+use crate::stored::{nets, LIBRARY};
 use embed::{picks, trace, Moment, ThreadState};
-use std::ffi::OsStr;
-use std::fs;
-
-const LIBRARY: [&str; 1] = ["target/staticlib/libtivgeral.a"];
-
-/// The stored nets.
-fn nets() -> Vec<Vec<u8>> {
-    let entries = ["examples", "examples/tour"].map(|name| fs::read_dir(root().join(name)));
-    let entries = entries.into_iter().flat_map(|entries| entries.expect("the examples"));
-    let paths = entries.map(|entry| entry.expect("an example").path());
-    let paths = paths.filter(|path| path.extension() == Some(OsStr::new("net")));
-    paths.map(|path| fs::read(path).expect("a net")).collect()
-}
 
 /// What the C program has to print. One of the nets is refused, by 7.
 fn counts(net: &[u8]) -> String {
@@ -40,7 +28,6 @@ fn counted(moment: &Moment) -> String {
 #[test]
 fn a_program_in_c_reads_a_trace() {
     let nets = nets();
-    assert!(nets.len() >= 18);
     let expected: Vec<String> = nets.iter().map(|net| counts(net)).collect();
     // Three threads that hold something, and one within its loop.
     for moment in ["\n3 4 3 3\n", "\n1 2 1 2\n"] {

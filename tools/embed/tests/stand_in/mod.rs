@@ -3,8 +3,8 @@
 
 mod moment;
 
-use embed::{Answer, Pick, Refused, Thread, Top};
-use engine::{Entry, Net};
+use embed::{Answer, Pick, Refused, Thread, Top, PAGE_BYTES};
+use engine::{Entry, Net, Site, Text};
 
 pub fn picks(file: &[u8]) -> Result<Vec<Pick>, Refused> {
     let (_, picks) = loaded(file)?;
@@ -40,6 +40,22 @@ pub fn trace(file: &[u8], picks: &[Pick], from: usize, out: &mut [u8]) -> Result
         }
     }
     Ok(put)
+}
+
+pub fn page_into(
+    file: &[u8],
+    picks: &[Pick],
+    site: u8,
+    name: [u8; 4],
+    out: &mut [u8],
+) -> Result<usize, Refused> {
+    let (net, _) = run(file, picks)?;
+    let page = |out: &mut [u8]| engine::page(&net, Site(site), Text(name), out);
+    let needed = |number| match number {
+        22 => page(&mut [0; PAGE_BYTES]).expect("room for any page"),
+        _ => 0,
+    };
+    page(out).map_err(|number| Refused { number, place: needed(number) })
 }
 
 fn run(file: &[u8], picks: &[Pick]) -> Result<(Net, Vec<engine::Answer>), Refused> {

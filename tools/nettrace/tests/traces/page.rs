@@ -26,13 +26,17 @@ pub struct Command<'a> {
 
 /// The calls of nettrace in the blocks of a page.
 pub fn commands(page: &str) -> Vec<Command<'_>> {
-    blocks(page, "console").into_iter().map(command).collect()
+    let calls = calls(page, "build/release/nettrace ");
+    let command = |(arguments, output)| Command { arguments: words(arguments), output };
+    calls.into_iter().map(command).collect()
 }
 
-fn command(block: &str) -> Command<'_> {
-    let (line, output) = block.split_once('\n').expect("a command and its output");
-    let arguments = line.strip_prefix("$ build/release/nettrace ").expect("a call of nettrace");
-    Command { arguments: words(arguments), output }
+/// What follows this program in the blocks of a page that call it, and what it prints.
+pub fn calls<'a>(page: &'a str, program: &str) -> Vec<(&'a str, &'a str)> {
+    let blocks = blocks(page, "console").into_iter();
+    let lines = blocks.map(|block| block.split_once('\n').expect("a command and its output"));
+    let prompt = format!("$ {program}");
+    lines.filter_map(|(line, output)| Some((line.strip_prefix(&prompt)?, output))).collect()
 }
 
 /// The words of a command line; quotes keep words together.

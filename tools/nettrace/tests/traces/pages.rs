@@ -2,7 +2,7 @@
 //! of the examples.
 
 use crate::double::{by_stand_in, told, traced};
-use crate::page::{blocks, commands, read, root};
+use crate::page::{blocks, calls, commands, read, root};
 use nettrace::{parse_picks, Source};
 use std::fs;
 
@@ -64,6 +64,19 @@ fn the_tour_has_all_its_nets() {
     }
 }
 
+/// Every other command of the tour has netpage print a stored net, and shows what it prints.
+#[test]
+fn the_tour_shows_what_netpage_prints() {
+    let page = read(TOUR);
+    let pages = calls(&page, "target/bin/netpage < ");
+    assert!(!pages.is_empty());
+    assert_eq!(pages.len() + commands(&page).len(), blocks(&page, "console").len());
+    for (net, output) in pages {
+        let file = fs::read(root().join(net)).expect("a stored net");
+        assert_eq!(String::from_utf8_lossy(&engine::netpage(&file)), output);
+    }
+}
+
 /// A newcomer who writes the README's net gets what the README shows.
 #[test]
 fn the_readme_shows_what_its_net_comes_to() {
@@ -73,6 +86,7 @@ fn the_readme_shows_what_its_net_comes_to() {
     assert_eq!(blocks(&readme, "trace"), [traced(net).expect("a net that loads")]);
     let file = nettext::assemble(net).expect("a text that is well formed").file;
     assert_eq!(blocks(&readme, "netrun"), [String::from_utf8_lossy(&engine::netrun(&file))]);
+    assert_eq!(blocks(&readme, "netpage"), [String::from_utf8_lossy(&engine::netpage(&file))]);
 }
 
 /// The tables after the last pick of a text, by these picks, and how many picks were refused.

@@ -20,7 +20,7 @@ use Rattle.call_rules.specs.Layouts.{tablesPut}
 use Rattle.call_rules.specs.Replies.{ifRoom}
 use Rattle.call_rules.specs.Calls.{Gives}
 use Rattle.call_rules.proofs.CallLaws.{needed-is, gives-short, gives-all}
-use Rattle.call_moment.proofs.NetShapes.{tables-of, few-tables, tables-ok}
+use Rattle.nets.proofs.ShapeLaws.{tables-of, few-tables, tables-ok}
 use borrow.Author.Needs.{needs}
 use Rattle.call_each.proofs.tables.tables_left.Statement.{statement}
 use Rattle.call_each.proofs.tables.tables_left.Tie as tie

@@ -13,7 +13,7 @@ use Rattle.value_bytes.specs.Bytes.{endToEnd}
 use Rattle.value_bytes.proofs.Stores.{part-size, ends-append}
 use Rattle.call_rules.specs.Moments.{variableRecords, relationRecords, bindingsRecords}
 use Rattle.call_hold.specs.Holdings.{RelationsShaped, rowsGiven, recordsGiven}
-use Rattle.call_hold.proofs.RecordLaws.{three-fill, part-left}
+use Rattle.value_bytes.proofs.Parts.{three-fill, part-left}
 use Rattle.call_hold.proofs.HoldLaws.{bindings-are, bindings-long, variables-long, relation-long}
 use borrow.Author.Needs.{needs}
 use Rattle.call_hold.proofs.bindings.put_bindings.Statement.{statement}

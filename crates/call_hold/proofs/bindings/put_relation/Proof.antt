@@ -13,7 +13,7 @@ use Rattle.value_bytes.specs.Bytes.{endToEnd}
 use Rattle.value_bytes.proofs.Stores.{part-size}
 use Rattle.call_rules.specs.Moments.{valuesRecord, relationHead, relationRecords}
 use Rattle.call_hold.specs.Holdings.{rowsGiven}
-use Rattle.call_hold.proofs.RecordLaws.{two-fill}
+use Rattle.value_bytes.proofs.Parts.{two-fill}
 use Rattle.call_hold.proofs.HoldLaws.{none-held, some-held, head-length}
 use borrow.Author.Needs.{needs}
 use Rattle.call_hold.proofs.bindings.put_relation.Statement.{statement}

@@ -12,7 +12,7 @@ use Rattle.rows.specs.View.{noSlot}
 use Rattle.value_bytes.specs.Bytes.{endToEnd}
 use Rattle.value_bytes.proofs.Stores.{kept-length}
 use Rattle.call_rules.specs.Moments.{valuesRecord, variableRecord, variableRecords}
-use Rattle.call_hold.proofs.RecordLaws.{along, along-more, along-all}
+use Rattle.value_bytes.proofs.Parts.{along, along-more, along-all}
 use Rattle.call_hold.proofs.HoldLaws.{variable-length}
 use borrow.Author.Needs.{needs}
 use Rattle.call_hold.proofs.bindings.put_variables.Statement.{statement}
@@ -25,11 +25,11 @@ one-more : (vs : List Slot) (i : ℕ) (o out ys : List ℕ) → out ≡ passed v
     putMid (i * 104) (i * 104 + 104 - i * 104) out ys ≡ passed vs (i + 1) ++ drop ((i + 1) * 104) o
 one-more vs i o out ys e q =
     let h = ap (λ (g : Got). valuesRecord 66 i (valuesIn (g ∷ []))) (sym (List·getD-map (λ (s : Slot). s .held) vs i noSlot)) in
-    along-more (variableRecord (varsOf vs)) (variable-length (varsOf vs)) i o out ys e (q ∙ h)
+    along-more (variableRecord (varsOf vs)) 104 (variable-length (varsOf vs)) i o out ys e (q ∙ h)
 
 ended : (vs : List Slot) (i : ℕ) (o out : List ℕ) → i ≤ 16 → 16 ≤ i → length o ≡ 1664 → out ≡ passed vs i ++ drop (i * 104) o → out ≡ endToEnd (variableRecords (varsOf vs))
 unfolding variableRecords
-ended vs i o out a b l e = along-all (variableRecord (varsOf vs)) 16 i o out a b l e
+ended vs i o out a b l e = along-all (variableRecord (varsOf vs)) 104 16 i o out a b l e
 
 abbrev Inv-loop : tie.InvT-loop
 Inv-loop out₀ vars i₀ out i = (i ≤ 16) × (length out ≡ 1664) × (out ≡ passed vars i ++ drop (i * 104) out₀)

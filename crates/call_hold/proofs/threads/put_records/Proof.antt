@@ -11,7 +11,7 @@ use Rattle.value_bytes.specs.Bytes.{endToEnd}
 use Rattle.value_bytes.proofs.Stores.{part-size}
 use Rattle.call_rules.specs.Moments.{bindingsRecords, entryRecord, threadHead, threadRecords}
 use Rattle.call_hold.specs.Holdings.{RelationsShaped, recordsGiven}
-use Rattle.call_hold.proofs.RecordLaws.{three-fill, part-left}
+use Rattle.value_bytes.proofs.Parts.{three-fill, part-left}
 use Rattle.call_hold.proofs.HoldLaws.{thread-are, thread-count, thread-long, bindings-long, thread-head}
 use borrow.Author.Needs.{needs}
 use Rattle.call_hold.proofs.threads.put_records.Statement.{statement}

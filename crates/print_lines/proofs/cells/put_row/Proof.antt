@@ -5,10 +5,10 @@ use Rattle.print_lines.proofs.cells.put_row.Statement.{statement}
 use Rattle.print_lines.proofs.cells.put_row.Tie as tie
 
 abbrev Inv-loop : tie.InvT-loop
-Inv-loop page₀ at columns row n place₀ i₀ page place i = n ≤ 4
+Inv-loop buffer₀ at columns row n place₀ i₀ buffer place i = n ≤ 4
 
 abbrev μ-loop : tie.MeasureT-loop
-μ-loop page₀ at columns row n place₀ i₀ page place i = n - i
+μ-loop buffer₀ at columns row n place₀ i₀ buffer place i = n - i
 
 pub put-row-spec : {M : Type 1} → statement M
 put-row-spec =

@@ -5,10 +5,10 @@ use Rattle.print_lines.proofs.cells.put_rows.Statement.{statement}
 use Rattle.print_lines.proofs.cells.put_rows.Tie as tie
 
 abbrev Inv-loop : tie.InvT-loop
-Inv-loop page₀ at r n columns place₀ i₀ page place i = n ≤ 16
+Inv-loop buffer₀ at r n columns place₀ i₀ buffer place i = n ≤ 16
 
 abbrev μ-loop : tie.MeasureT-loop
-μ-loop page₀ at r n columns place₀ i₀ page place i = n - i
+μ-loop buffer₀ at r n columns place₀ i₀ buffer place i = n - i
 
 pub put-rows-spec : {M : Type 1} → statement M
 put-rows-spec =

@@ -7,10 +7,10 @@ use Rattle.print_lines.proofs.lines.put_picks.Statement.{statement}
 use Rattle.print_lines.proofs.lines.put_picks.Tie as tie
 
 abbrev Inv-loop : tie.InvT-loop
-Inv-loop page₀ at answers count place₀ i₀ page place i = count * 24 ≤ length answers
+Inv-loop buffer₀ at answers count place₀ i₀ buffer place i = count * 24 ≤ length answers
 
 abbrev μ-loop : tie.MeasureT-loop
-μ-loop page₀ at answers count place₀ i₀ page place i = count - i
+μ-loop buffer₀ at answers count place₀ i₀ buffer place i = count - i
 
 pub put-picks-spec : {M : Type 1} → statement M
 put-picks-spec =

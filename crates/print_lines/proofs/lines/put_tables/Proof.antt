@@ -5,10 +5,10 @@ use Rattle.print_lines.proofs.lines.put_tables.Statement.{statement}
 use Rattle.print_lines.proofs.lines.put_tables.Tie as tie
 
 abbrev Inv-loop : tie.InvT-loop
-Inv-loop page₀ at count tables n place₀ i₀ page place i = n ≤ 8
+Inv-loop buffer₀ at count tables n place₀ i₀ buffer place i = n ≤ 8
 
 abbrev μ-loop : tie.MeasureT-loop
-μ-loop page₀ at count tables n place₀ i₀ page place i = n - i
+μ-loop buffer₀ at count tables n place₀ i₀ buffer place i = n - i
 
 pub put-tables-spec : {M : Type 1} → statement M
 put-tables-spec =

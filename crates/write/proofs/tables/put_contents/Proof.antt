@@ -9,8 +9,9 @@ use borrow.Rule.Slice.PartMut.{putMid}
 use Rattle.rows.specs.View.{Shaped}
 use Rattle.nets.specs.declared.Table.{Table}
 use Rattle.nets.specs.View.{noTable}
+use Rattle.nets.proofs.ShapeLaws.{shaped-at}
 use Rattle.value_bytes.proofs.Stores.{part-size, part-written, kept-length}
-use Rattle.write.proofs.WholeLaws.{shaped-at, bodies, body, bodies-next, length-next, bodies-room}
+use Rattle.write.proofs.WholeLaws.{bodies, body, bodies-next, length-next, bodies-room}
 use Rattle.write.proofs.tables.put_contents.Statement.{statement}
 use Rattle.write.proofs.tables.put_contents.Tie as tie
 

@@ -8,7 +8,8 @@ use borrow.Author.Needs.{needs}
 use Rattle.rows.specs.View.{Shaped}
 use Rattle.nets.specs.declared.Table.{Table}
 use Rattle.nets.specs.View.{noTable}
-use Rattle.write.proofs.WholeLaws.{shaped-at, bodies, length-next}
+use Rattle.nets.proofs.ShapeLaws.{shaped-at}
+use Rattle.write.proofs.WholeLaws.{bodies, length-next}
 use Rattle.write.proofs.tables.total_rows.Statement.{statement}
 use Rattle.write.proofs.tables.total_rows.Tie as tie
 

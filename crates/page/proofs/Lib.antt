@@ -1,0 +1,2 @@
+-- The theorem of the page.
+pub mod PageLaws
