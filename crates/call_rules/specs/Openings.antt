@@ -18,7 +18,7 @@ use Rattle.call_rules.specs.declared.NotOpened.the-variants.{Fault, OddP
 use Rattle.call_rules.specs.declared.Opening.{Opening}
 use Rattle.call_rules.specs.declared.Opening.the-variants.{Accepted, Refused}
 use Rattle.call_rules.specs.declared.Opened.{Opened}
-use Rattle.page_rules.specs.Pages.{PageAnswer, refused, pageLength}
+use Rattle.page_rules.specs.Pages.{PageAnswer, pageRefused, pageLength}
 use Rattle.step_bytes.specs.PickBytes.{picksIn}
 use Rattle.call_rules.specs.Replies.{Called, refusing}
 use Rattle.call_rules.specs.Calls.{oddPicksNumber, called}
@@ -49,7 +49,7 @@ pub record OpenIs (file picks : List ℕ) (r : Opened) : Type 0 where
 
 -- number and place of each answer
 abbrev pub answerReply : PageAnswer → Reply
-answerReply (refused n vs) = record { number = n; place = getD vs 0 0 }
+answerReply (pageRefused n vs) = record { number = n; place = getD vs 0 0 }
 answerReply (pageLength n) = record { number = 0; place = n }
 
 -- ── threads ──

@@ -61,7 +61,7 @@ struct Outcome {
     written: Written,
     kept: bool,
     paged: Paged,
-    unlaid: bool,
+    page_kept: bool,
 }
 
 // What a step answers, and whether it left the net as it was.
@@ -84,17 +84,17 @@ fn take(net: Net, thread: u8, row: u8) -> Taken {
 }
 
 // The page of the net's first table, whatever stands there, and whether the buffer stayed as it was.
-struct Laid {
+struct PageTried {
     paged: Paged,
-    unlaid: bool,
+    page_kept: bool,
 }
 
-fn lay(net: Net) -> Laid {
+fn try_page(net: Net) -> PageTried {
     let mut buffer = [7u8; 901];
     let table = net.tables[0];
     let paged = page(net, table.site, table.name, &mut buffer);
-    let unlaid = untouched(&buffer);
-    Laid { paged, unlaid }
+    let page_kept = untouched(&buffer);
+    PageTried { paged, page_kept }
 }
 
 fn run(net: Net, thread: u8, row: u8) -> Outcome {
@@ -103,15 +103,15 @@ fn run(net: Net, thread: u8, row: u8) -> Outcome {
     let answer = taken.answer;
     let written = write(net, &mut buffer);
     let kept = untouched(&buffer);
-    let laid = lay(net);
-    let paged = laid.paged;
+    let tried = try_page(net);
+    let paged = tried.paged;
     Outcome {
         answer,
         same: taken.same,
         written,
         kept,
         paged,
-        unlaid: laid.unlaid,
+        page_kept: tried.page_kept,
     }
 }
 
@@ -126,7 +126,7 @@ fn put_outcome(buffer: &mut [u8; 4096], at: usize, outcome: Outcome) -> usize {
     end = put_bytes(buffer, end, b", page ");
     let paged = outcome.paged;
     end = put_paged(buffer, end, paged);
-    put_same(buffer, end, outcome.unlaid)
+    put_same(buffer, end, outcome.page_kept)
 }
 
 fn print(name: &[u8], outcome: Outcome) {

@@ -14,7 +14,7 @@ use print_lines::buffer::put_bytes;
 use print_lines::buffer::write_buffer;
 use print_lines::faults::print_refused;
 use print_lines::input::read_input;
-use print_lines::lines::put_head;
+use print_lines::lines::put_table_line;
 use rows::Relation;
 use step_bytes::picks::pick_bytes;
 ghost use mathlib.Core.Path.{_≡_};
@@ -31,7 +31,7 @@ ghost use Rattle.nets.specs.View.{tablesOf, view};
 const LONGEST: usize = 901;
 
 // A table's page, by way of a space that has room for any.
-fn put_laid(buffer: &mut [u8; 4096], at: usize, content: Relation, space: &mut [u8]) -> usize
+fn put_table_page(buffer: &mut [u8; 4096], at: usize, content: Relation, space: &mut [u8]) -> usize
     requires { ⌜ (length (now space) ≡ 901) × Shaped content × T (rowsOk (relationOf content .rows)) ⌝ }
 {
     let size = page_size(content);
@@ -44,9 +44,9 @@ fn put_table(buffer: &mut [u8; 4096], at: usize, t: Table) -> usize
     requires { ⌜ Shaped (t .content) × T (rowsOk (relationOf (t .content) .rows)) ⌝ }
 {
     let content = t.content;
-    let place = put_head(buffer, at, t.site, t.name, content.count);
+    let place = put_table_line(buffer, at, t.site, t.name, content.count);
     let mut space = [0u8; LONGEST];
-    put_laid(buffer, place, content, &mut space)
+    put_table_page(buffer, place, content, &mut space)
 }
 
 fn put_tables(buffer: &mut [u8; 4096], at: usize, tables: [Table; 8], count: usize) -> usize

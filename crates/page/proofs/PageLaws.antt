@@ -8,7 +8,7 @@ use lib.ListN.{length}
 use Rattle.values.specs.declared.Site.{Site}
 use Rattle.nets.specs.declared.Net.{Net}
 use Rattle.nets.specs.View.{view}
-use Rattle.page_rules.specs.Pages.{PageOutcome, noPage, aPage, page, PageAnswer, refused, pageLength, pageAnswer, bufferAfter}
+use Rattle.page_rules.specs.Pages.{PageOutcome, noPage, aPage, page, PageAnswer, pageRefused, pageLength, pageAnswer, bufferAfter}
 use Rattle.page_rules.specs.Readable.{ReadsAs}
 use Rattle.page_lines.proofs.OutcomeLaws.{asked, buffer-reads, asked-long, table-long, table-page}
 use Rattle.page.specs.declared.Paged.{Paged}
@@ -16,11 +16,11 @@ use Rattle.page.specs.declared.Paged.the-variants.{Length, Unsound, NoTa
 use Rattle.page.specs.PageCall.{answerOf, Reads, PageReads, PageGiven}
 
 abbrev isLength : PageAnswer → Bool
-isLength (refused n vs) = false
+isLength (pageRefused n vs) = false
 isLength (pageLength n) = true
 
 abbrev lengthIn : PageAnswer → ℕ
-lengthIn (refused n vs) = 0
+lengthIn (pageRefused n vs) = 0
 lengthIn (pageLength n) = n
 
 -- ── what was put reads as the table ──

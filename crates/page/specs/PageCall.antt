@@ -11,7 +11,7 @@ use Rattle.nets.specs.Nets.{Table}
 use Rattle.nets.specs.Tables.{tableAt}
 use Rattle.nets.specs.Sound.{sound}
 use Rattle.nets.specs.View.{view}
-use Rattle.page_rules.specs.Pages.{page, PageAnswer, refused, pageLength, pageAnswer, bufferAfter}
+use Rattle.page_rules.specs.Pages.{page, PageAnswer, pageRefused, pageLength, pageAnswer, bufferAfter}
 use Rattle.page_rules.specs.Readable.{ReadsAs}
 use Rattle.page.specs.declared.Paged.{Paged}
 use Rattle.page.specs.declared.Paged.the-variants.{Length, Unsound, NoTable, Short}
@@ -19,9 +19,9 @@ use Rattle.page.specs.declared.Paged.the-variants.{Length, Unsound, NoTa
 -- the paper's number of each refusal and its values, or the length
 abbrev pub answerOf : Paged → PageAnswer
 answerOf (Length n) = pageLength n
-answerOf Unsound = refused 10 []
-answerOf NoTable = refused 14 []
-answerOf (Short n) = refused 22 (n ∷ [])
+answerOf Unsound = pageRefused 10 []
+answerOf NoTable = pageRefused 14 []
+answerOf (Short n) = pageRefused 22 (n ∷ [])
 
 pub record PageIs (net : Net) (site : Site) (name : ℕ) (before after : List ℕ) (r : Paged) : Type 0 where
   pub answer : answerOf r ≡ pageAnswer (page (view net) site name before)

@@ -11,20 +11,17 @@ use Rattle.values.specs.declared.Value.the-variants.{Int, Text, Loc}
 use Rattle.values.specs.Lists.{all, firsts}
 use Rattle.values.specs.Values.{in32, inRange}
 use Rattle.values.proofs.Bools.{and-l, and-r}
-use Rattle.values.proofs.Ints.{in32-mag, size}
+use Rattle.values.proofs.Ints.{in32-mag}
 use Rattle.value_decimal.specs.Decimals.{signed, blanks}
-use Rattle.value_decimal.proofs.DecimalLaws.{few-places}
+use Rattle.value_decimal.proofs.DecimalLaws.{few-int}
 use Rattle.rows.specs.declared.Cell.{Cell}
 use Rattle.rows.specs.Relations.{Row}
-use Rattle.page_rules.specs.Pages.{rightAligned, leftAligned, cell, rowCell}
+use Rattle.page_rules.specs.Pages.{rightAligned, cell, rowCell}
 
 -- ── alignment ──
 
 pub right-length : (bs : List ℕ) → length bs ≤ 13 → length (rightAligned bs) ≡ 13
 right-length bs h = rw (length-append, length-replicate) (omega arith)
-
-pub left-length : (bs : List ℕ) → length bs ≤ 13 → length (leftAligned bs) ≡ 13
-left-length bs h = rw (length-append, length-replicate) (omega arith)
 
 -- blanks and a number that fill 13 bytes
 pub right-filled : (out bs o : List ℕ) (r : ℕ) → length o ≡ 13 → out ≡ blanks r ++ bs → r + length bs ≡ length o → out ≡ rightAligned bs
@@ -36,7 +33,7 @@ right-filled out bs o r l e h =
 
 -- a number of 32 bits takes eleven places at most
 pub few-in32 : (z : ℤ) → T (in32 z) → length (signed z) ≤ 11
-few-in32 z h = few-places 9 z (omega (arith, size z, in32-mag z h))
+few-in32 z h = few-int z (record { sfits = omega (arith, in32-mag z h) })
 
 pub cell-length : (v : Value) → T (inRange v) → length (cell v) ≡ 13
 unfolding cell

@@ -19,7 +19,7 @@ use Rattle.page_lines.proofs.CellLaws.{row-cell-length}
 use Rattle.page_lines.proofs.SumLaws.{sum-cell-length}
 
 module _ (g : ℕ → List ℕ) (sized : (i : ℕ) → length (g i) ≡ 13) where
-  pub cells-length : length (along g 4) ≡ 52
+  cells-length : length (along g 4) ≡ 52
   cells-length = along-length g 13 sized 4
 
   pub line-length : length (lineOf g) ≡ 53
@@ -46,7 +46,7 @@ rows-sized (r ∷ rs) h =
     (line-length (rowCell r) (row-cell-length r (and-l (all inRange r) (all (λ r. all inRange r) rs) h)), rows-sized rs (and-r (all inRange r) (all (λ r. all inRange r) rs) h))
 
 module _ (r : Relation) (ok : T (rowsOk (r .rows))) where
-  pub sums-length : length (lineOf (sumCell r)) ≡ 53
+  sums-length : length (lineOf (sumCell r)) ≡ 53
   sums-length = line-length (sumCell r) (sum-cell-length r ok)
 
   pub lines-sized : Sized 53 (map rowLine (r .rows) ++ (lineOf (sumCell r) ∷ []))

@@ -33,15 +33,15 @@ pub record Asked (net : Net) (site : Site) (name : ℕ) (bs : List ℕ) : Type 0
   pub found : tableAt site name (net .tables) ≡ some table
   pub bytes : bs ≡ pageOf (table .content)
 
-abbrev bytesOf : PageOutcome → List ℕ
-bytesOf (noPage n vs) = []
-bytesOf (aPage bs) = bs
+abbrev bytesPut : PageOutcome → List ℕ
+bytesPut (noPage n vs) = []
+bytesPut (aPage bs) = bs
 
 by-room : (t : Table) (o bs : List ℕ) → pageFor (some t) o ≡ aPage bs → bs ≡ pageOf (t .content)
 by-room t o bs e = go (leb (length (pageOf (t .content))) (length o)) e
   where
     go : (b : Bool) → cond b (aPage (pageOf (t .content))) (noPage 22 (length (pageOf (t .content)) ∷ [])) ≡ aPage bs → bs ≡ pageOf (t .content)
-    go true e = sym (ap bytesOf e)
+    go true e = sym (ap bytesPut e)
     go false e = absurd (subst T (sym (ap isPage e)) tt)
 
 by-table : (net : Net) (site : Site) (name : ℕ) (o bs : List ℕ) → T (sound net) → (t : Option Table) → tableAt site name (net .tables) ≡ t → pageFor t o ≡ aPage bs → Asked net site name bs
@@ -56,6 +56,12 @@ asked net site name o bs e = go (sound net) refl e
     go true s e = by-table net site name o bs (subst T (sym s) tt) (tableAt site name (net .tables)) refl e
     go false s e = absurd (subst T (sym (ap isPage e)) tt)
 
+-- ── by soundness ──
+
+pub by-sound : (net : Net) (site : Site) (name : ℕ) (o : List ℕ) (t : Bool) → t ≡ sound net → page net site name o ≡ cond t (pageFor (tableAt site name (net .tables)) o) (noPage 10 [])
+unfolding page
+by-sound net site name o t e = ap (λ (u : Bool). cond u (pageFor (tableAt site name (net .tables)) o) (noPage 10 [])) (sym e)
+
 -- ── a table of a sound net ──
 
 module _ (net : Net) (site : Site) (name : ℕ) (t : Table) (ok : T (sound net)) (found : tableAt site name (net .tables) ≡ some t) where
@@ -65,7 +71,7 @@ module _ (net : Net) (site : Site) (name : ℕ) (t : Table) (ok : T (sound net))
   rows-fit : T (relationFits (t .content))
   rows-fit = find-all (isAt site name) rowsFit (net .tables) t found (clauses net ok .fit)
 
-  pub table-reads : (xs : List ℕ) → ReadsAs (pageOf (t .content) ++ xs) (t .content)
+  table-reads : (xs : List ℕ) → ReadsAs (pageOf (t .content) ++ xs) (t .content)
   table-reads xs = reads (t .content) xs (rows-ok t table-ok) rows-fit (leb→le (length (t .content .columns)) 4 (few-columns (t .content .columns) (columns-ok t table-ok)))
 
   pub table-long : length (pageOf (t .content)) ≡ (length (t .content .rows) + 1) * 53

@@ -34,9 +34,9 @@ module _ (g : ℕ → List ℕ) (sized : (i : ℕ) → length (g i) ≡ 13) wher
   in-line xs i h =
       let f = sized-from 13 (map g (places 0 4)) ((0x0a ∷ []) ++ xs) i [] (sized-map 13 g sized (places 0 4)) h in
       ap (λ (l : List ℕ). take 13 (drop (i * 13) l)) (append-assoc (endToEnd (map g (places 0 4))) (0x0a ∷ []) xs)
-      ∙ ap (take 13) (f .1)
-      ∙ ap (λ (l : List ℕ). take 13 (l ++ f .0)) (fourth i h)
-      ∙ take-at (g i) (f .0) 13 (sized i)
+      ∙ ap (take 13) (f .whole)
+      ∙ ap (λ (l : List ℕ). take 13 (l ++ f .rest)) (fourth i h)
+      ∙ take-at (g i) (f .rest) 13 (sized i)
 
 -- ── in a page, whatever follows it ──
 
@@ -57,8 +57,8 @@ module _ (r : Relation) (ok : T (rowsOk (r .rows))) (xs : List ℕ) where
   by-line j i g sized h e q =
       let f = sized-from 53 lines xs j [] (lines-sized r ok) h in
       ap (take 13) (sym (drop-drop (i * 13) (j * 53) (endToEnd lines ++ xs)))
-      ∙ ap (λ (l : List ℕ). take 13 (drop (i * 13) l)) (f .1 ∙ ap (λ (l : List ℕ). l ++ f .0) e)
-      ∙ in-line g sized (f .0) i q
+      ∙ ap (λ (l : List ℕ). take 13 (drop (i * 13) l)) (f .whole ∙ ap (λ (l : List ℕ). l ++ f .rest) e)
+      ∙ in-line g sized (f .rest) i q
 
   pub row-in-range : (j : ℕ) → j < length (r .rows) → T (all inRange (getD (r .rows) j []))
   row-in-range j h = all-at (λ x. all inRange x) (r .rows) j [] (and-r (leb (length (r .rows)) 16) (all (λ x. all inRange x) (r .rows)) ok) h

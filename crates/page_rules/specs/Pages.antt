@@ -73,17 +73,17 @@ abbrev pub pageFor : Option Table → List ℕ → PageOutcome
 pageFor none buffer = noPage 14 []
 pageFor (some t) buffer = ifLongEnough (pageOf (t .content)) buffer
 
--- what loading accepts and picks leave is sound, so a call for other programs never gets 10
+-- 10 for an unsound net, then 14, then 22
 unfoldable pub page : Net → Site → ℕ → List ℕ → PageOutcome
 page net site name buffer = cond (sound net) (pageFor (tableAt site name (net .tables)) buffer) (noPage 10 [])
 
 -- the answer: refused with a number and its values, or the page's length
 pub data PageAnswer : Type 0 where
-  refused : ℕ → List ℕ → PageAnswer
+  pageRefused : ℕ → List ℕ → PageAnswer
   pageLength : ℕ → PageAnswer
 
 abbrev pub pageAnswer : PageOutcome → PageAnswer
-pageAnswer (noPage n vs) = refused n vs
+pageAnswer (noPage n vs) = pageRefused n vs
 pageAnswer (aPage bs) = pageLength (length bs)
 
 -- every byte of the buffer afterwards: those after the page are unchanged, and after a refusal all are

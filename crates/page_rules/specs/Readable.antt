@@ -17,7 +17,7 @@ abbrev pub cellAt : List ℕ → ℕ → ℕ → List ℕ
 cellAt buffer j i = take 13 (drop (j * 53 + i * 13) buffer)
 
 pub record ReadsAs (buffer : List ℕ) (r : Relation) : Type 0 where
-  -- the cell of each Int is that number (where a value is missing a Text is read, so nothing is claimed of it)
+  -- the cell of each Int is that number (`Text 0` stands for a value that is missing, which is no Int)
   pub values : (j i : ℕ) (z : ℤ) → j < length (r .rows) → getD (getD (r .rows) j []) i (Text 0) ≡ Int z → readNumber (cellAt buffer j i) ≡ some z
   -- the last line has the sum of each Int column over all rows
   pub sums : (i : ℕ) → getD (r .columns) i 0 ≡ 1 → readNumber (cellAt buffer (length (r .rows)) i) ≡ some (total (column i (r .rows)))

@@ -80,7 +80,13 @@ pub fn put_picks(buffer: &mut [u8; 4096], at: usize, answers: &[u8], count: usiz
 }
 
 // The line of a table.
-pub fn put_head(buffer: &mut [u8; 4096], at: usize, site: Site, name: u32, rows: usize) -> usize {
+pub fn put_table_line(
+    buffer: &mut [u8; 4096],
+    at: usize,
+    site: Site,
+    name: u32,
+    rows: usize,
+) -> usize {
     let mut place = put_bytes(buffer, at, b"table ");
     place = put_decimal(buffer, place, site.0 as u64);
     place = put_byte(buffer, place, b' ');
@@ -93,7 +99,7 @@ pub fn put_head(buffer: &mut [u8; 4096], at: usize, site: Site, name: u32, rows:
 // The line of a table, and those of its rows.
 fn put_table(buffer: &mut [u8; 4096], at: usize, t: Table) -> usize {
     let content = t.content;
-    let place = put_head(buffer, at, t.site, t.name, content.count);
+    let place = put_table_line(buffer, at, t.site, t.name, content.count);
     put_rows(buffer, place, content)
 }
 

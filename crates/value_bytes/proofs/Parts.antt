@@ -58,6 +58,11 @@ abbrev pub Sized : ℕ → List (List ℕ) → Type 0
 Sized k [] = Unit
 Sized k (r ∷ rs) = (length r ≡ k) × Sized k rs
 
+-- a list that starts with another
+pub record Starts (l start : List ℕ) : Type 0 where
+  pub rest : List ℕ
+  pub whole : l ≡ start ++ rest
+
 module _ (k : ℕ) where
   pub sized-length : (rs : List (List ℕ)) → Sized k rs → length (endToEnd rs) ≡ length rs * k
   sized-length [] s = sym (zero-mul k)
@@ -77,19 +82,21 @@ module _ (k : ℕ) where
   sized-firsts g f z h (suc n) (a ∷ l) = (h a, sized-firsts g f z h n l)
 
   -- from a part's place on stands the part, whatever follows
-  pub sized-from : (rs : List (List ℕ)) (xs : List ℕ) (j : ℕ) (d : List ℕ) → Sized k rs → j < length rs → (l : List ℕ) × (drop (j * k) (endToEnd rs ++ xs) ≡ getD rs j d ++ l)
+  pub sized-from : (rs : List (List ℕ)) (xs : List ℕ) (j : ℕ) (d : List ℕ) → Sized k rs → j < length rs → Starts (drop (j * k) (endToEnd rs ++ xs)) (getD rs j d)
   sized-from [] xs j d s h = absurd (omega arith)
-  sized-from (r ∷ rs) xs zero d s h = (endToEnd rs ++ xs, ap (λ (n : ℕ). drop n ((r ++ endToEnd rs) ++ xs)) (zero-mul k) ∙ append-assoc r (endToEnd rs) xs)
+  sized-from (r ∷ rs) xs zero d s h = record { rest = endToEnd rs ++ xs; whole = ap (λ (n : ℕ). drop n ((r ++ endToEnd rs) ++ xs)) (zero-mul k) ∙ append-assoc r (endToEnd rs) xs }
   sized-from (r ∷ rs) xs (suc j) d s h =
       let e : suc j * k ≡ k + j * k = omega arith in
-      let i = sized-from rs xs j d (s .1) (omega arith) in (
-        i .0,
-        ap (λ (n : ℕ). drop n ((r ++ endToEnd rs) ++ xs)) e
+      let i = sized-from rs xs j d (s .1) (omega arith) in
+      record {
+        rest = i .rest;
+        whole =
+            ap (λ (n : ℕ). drop n ((r ++ endToEnd rs) ++ xs)) e
             ∙ sym (drop-drop (j * k) k ((r ++ endToEnd rs) ++ xs))
             ∙ ap (λ (l : List ℕ). drop (j * k) (drop k l)) (append-assoc r (endToEnd rs) xs)
             ∙ ap (drop (j * k)) (drop-at r (endToEnd rs ++ xs) k (s .0))
-            ∙ i .1,
-      )
+            ∙ i .whole;
+      }
 
 -- ── adjacent parts that fill a buffer ──
 

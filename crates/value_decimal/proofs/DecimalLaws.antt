@@ -58,7 +58,7 @@ pub some-digit : (n : ℕ) → 1 ≤ length (decimal n)
 some-digit = by-tenths (λ n. 1 ≤ length (decimal n)) (λ n h. rw (decimal-one n h) (omega arith)) (λ n h i. rw (decimal-more n h, length-append) (omega arith))
 
 -- no more than places that are enough for the number
-pub few-digits : (k n : ℕ) → n < 10 ^ suc k → length (decimal n) ≤ suc k
+few-digits : (k n : ℕ) → n < 10 ^ suc k → length (decimal n) ≤ suc k
 few-digits zero n h = rw (decimal-one n (rw (pow-suc 10 0) at h)) (omega arith)
 few-digits (suc k) n h = go (λ l. few-digits k (n / 10) l) (ltb n 10) refl
   where

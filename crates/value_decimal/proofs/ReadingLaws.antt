@@ -36,7 +36,7 @@ read-more n h i l =
     let e : 10 * (n / 10) + n % 10 ≡ n = omega arith in
     rw (decimal-more n h, append-assoc) (i (digit (n % 10) ∷ l) ∙ read-digit (n / 10) (n % 10) l (omega arith) ∙ ap (λ (m : ℕ). readOn m l) e)
 
-pub digits-read : (n : ℕ) → readOn 0 (decimal n) ≡ some n
+digits-read : (n : ℕ) → readOn 0 (decimal n) ≡ some n
 digits-read n = ap (readOn 0) (sym (append-nil (decimal n))) ∙ by-tenths Reads read-one read-more n []
 
 -- ── the first digit: no blank, and no minus ──
@@ -47,8 +47,8 @@ pub record Begins (l : List ℕ) : Type 0 where
   pub small : first < 10
   pub whole : l ≡ digit first ∷ rest
 
-pub begins : (n : ℕ) → Begins (decimal n)
-begins =
+pub first-digit : (n : ℕ) → Begins (decimal n)
+first-digit =
     by-tenths
     (λ n. Begins (decimal n))
     (λ n h. record { first = n; rest = []; small = h; whole = decimal-one n h })
@@ -56,7 +56,7 @@ begins =
 
 read-digits : (n : ℕ) → readDigits (decimal n) ≡ some n
 read-digits n =
-    let b = begins n in
+    let b = first-digit n in
     ap readDigits (b .whole) ∙ ap (readOn 0) (sym (b .whole)) ∙ digits-read n
 
 -- a digit is neither a minus nor a blank
@@ -68,7 +68,7 @@ not-blank d = ne-eqb (digit d) 0x20 (λ e. omega arith)
 
 read-positive : (n : ℕ) → readSigned (decimal n) ≡ some (pos n)
 read-positive n =
-    let b = begins n in
+    let b = first-digit n in
     ap readSigned (b .whole)
     ∙ ap (λ (t : Bool). cond t (negative (readDigits (b .rest))) (positive (readDigits (digit (b .first) ∷ b .rest)))) (not-minus (b .first))
     ∙ ap (λ (l : List ℕ). positive (readDigits l)) (sym (b .whole))
@@ -82,7 +82,7 @@ signed-read (negsuc n) = ap negative (read-digits (suc n))
 
 first-seen : (z : ℤ) → readNumber (signed z) ≡ readSigned (signed z)
 first-seen (pos n) =
-    let b = begins n in
+    let b = first-digit n in
     ap readNumber (b .whole)
     ∙ ap (λ (t : Bool). cond t (readNumber (b .rest)) (readSigned (digit (b .first) ∷ b .rest))) (not-blank (b .first))
     ∙ ap readSigned (sym (b .whole))

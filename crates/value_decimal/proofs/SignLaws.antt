@@ -16,7 +16,7 @@ use Rattle.value_decimal.specs.Decimals.{decimal, number, signed, blanks
 
 -- ── blanks, then digits ──
 
-pub first-blanks : (r m : ℕ) → r ≤ m → take r (blanks m) ≡ blanks r
+first-blanks : (r m : ℕ) → r ≤ m → take r (blanks m) ≡ blanks r
 first-blanks zero m h = refl
 first-blanks (suc r) zero h = absurd (omega arith)
 first-blanks (suc r) (suc m) h = ap (0x20 ∷_) (first-blanks r m (omega arith))
@@ -62,7 +62,7 @@ module _ (o a b : List ℕ) (n r : ℕ) (blank : a ≡ blanks (length o)) (put :
     with-long = rw e (omega (arith, place-left, long))
 
 -- a signed number, by its sign and its distance from zero
-pub signed-is : (z : ℤ) → number (ltZ z (pos 0)) (natAbs z) ≡ signed z
+signed-is : (z : ℤ) → number (ltZ z (pos 0)) (natAbs z) ≡ signed z
 signed-is (pos n) = ap (λ (t : Bool). number t n) (le-ltb n 0 (omega arith))
 signed-is (negsuc n) = refl
 
@@ -90,46 +90,51 @@ far : (z : ℤ) → ltZ z (pos 0) ≡ true → mag z + 1 ≡ natAbs z
 far (pos n) e = absurd (omega (arith, ltb-true n 0 e))
 far (negsuc n) e = omega arith
 
-not-below : (z : ℤ) → ltZ z (pos 0) ≡ false → (T (nonNeg z) × (natAbs z ≡ mag z))
-not-below (pos n) e = (tt, refl)
+not-below : (z : ℤ) → ltZ z (pos 0) ≡ false → T (nonNeg z)
+not-below (pos n) e = tt
 not-below (negsuc n) e = absurd (subst T e tt)
+
+-- there, its distance is itself
+near : (z : ℤ) → ltZ z (pos 0) ≡ false → natAbs z ≡ mag z
+near (pos n) e = refl
+near (negsuc n) e = absurd (subst T e tt)
 
 -- z read back from its bits
 module _ (z : ℤ) (p : SFits w64 z) where
-  abbrev held : ℤ
-  held = toZ w64 (ofZ w64 z)
+  abbrev fromBits : ℤ
+  fromBits = toZ w64 (ofZ w64 z)
 
-  below-zero : {t : Bool} → ltZ held (pos 0) ≡ t → ltZ z (pos 0) ≡ t
+  below-zero : {t : Bool} → ltZ fromBits (pos 0) ≡ t → ltZ z (pos 0) ≡ t
   below-zero e = sym (ap (λ (y : ℤ). ltZ y (pos 0)) (back w64 z p)) ∙ e
 
-  module _ (e : ltZ held (pos 0) ≡ true) where
-    pub up-held : SFits w64 (held +ℤ pos 1)
-    up-held = rw (back w64 z p) (record { sfits = omega (arith, up-fits z (below-zero e), p .sfits) })
+  module _ (e : ltZ fromBits (pos 0) ≡ true) where
+    pub up-fits-bits : SFits w64 (fromBits +ℤ pos 1)
+    up-fits-bits = rw (back w64 z p) (record { sfits = omega (arith, up-fits z (below-zero e), p .sfits) })
 
-    pub short-held : SFits w64 (pos 0 -ℤ toZ w64 (ofZ w64 (held +ℤ pos 1)))
-    short-held = rw (back w64 (held +ℤ pos 1) up-held, back w64 z p, short-is z (below-zero e)) (record { sfits = p .sfits })
+    pub short-fits-bits : SFits w64 (pos 0 -ℤ toZ w64 (ofZ w64 (fromBits +ℤ pos 1)))
+    short-fits-bits = rw (back w64 (fromBits +ℤ pos 1) up-fits-bits, back w64 z p, short-is z (below-zero e)) (record { sfits = p .sfits })
 
-    number-held : toZ w64 (ofZ w64 (pos 0 -ℤ toZ w64 (ofZ w64 (held +ℤ pos 1)))) ≡ pos (mag z)
-    number-held = back w64 _ short-held ∙ rw (back w64 (held +ℤ pos 1) up-held, back w64 z p, short-is z (below-zero e)) refl
+    one-less-is : toZ w64 (ofZ w64 (pos 0 -ℤ toZ w64 (ofZ w64 (fromBits +ℤ pos 1)))) ≡ pos (mag z)
+    one-less-is = back w64 _ short-fits-bits ∙ rw (back w64 (fromBits +ℤ pos 1) up-fits-bits, back w64 z p, short-is z (below-zero e)) refl
 
-    abbrev told : ℤ
-    told = toZ w64 (ofZ w64 (pos 0 -ℤ toZ w64 (ofZ w64 (held +ℤ pos 1))))
+    abbrev oneLess : ℤ
+    oneLess = toZ w64 (ofZ w64 (pos 0 -ℤ toZ w64 (ofZ w64 (fromBits +ℤ pos 1))))
 
-    pub told-cast : T (nonNeg told) × Fits w64 (natAbs told)
-    told-cast = rw number-held (tt, record { fits = omega (arith, p .sfits) })
+    pub one-less-cast : T (nonNeg oneLess) × Fits w64 (natAbs oneLess)
+    one-less-cast = rw one-less-is (tt, record { fits = omega (arith, p .sfits) })
 
-    pub told-next : Fits w64 (natAbs told + 1)
-    told-next = rw number-held (record { fits = omega (arith, p .sfits) })
+    pub one-less-next : Fits w64 (natAbs oneLess + 1)
+    one-less-next = rw one-less-is (record { fits = omega (arith, p .sfits) })
 
-    pub told-is : natAbs told + 1 ≡ natAbs z
-    told-is = rw number-held (far z (below-zero e))
+    pub one-less-far : natAbs oneLess + 1 ≡ natAbs z
+    one-less-far = rw one-less-is (far z (below-zero e))
 
-  pub above-cast : ltZ held (pos 0) ≡ false → T (nonNeg held) × Fits w64 (natAbs held)
-  above-cast e = rw (back w64 z p) (not-below z (below-zero e) .0, record { fits = omega (arith, p .sfits, not-below z (below-zero e) .1) })
+  pub above-cast : ltZ fromBits (pos 0) ≡ false → T (nonNeg fromBits) × Fits w64 (natAbs fromBits)
+  above-cast e = rw (back w64 z p) (not-below z (below-zero e), record { fits = omega (arith, p .sfits, near z (below-zero e)) })
 
-  pub above-is : natAbs held ≡ natAbs z
+  pub above-is : natAbs fromBits ≡ natAbs z
   above-is = ap natAbs (back w64 z p)
 
   -- sign and distance as the machine has them
-  pub sign-held : (n : ℕ) → n ≡ natAbs held → number (ltZ held (pos 0)) n ≡ signed z
-  sign-held n e = ap₂ number (ap (λ (y : ℤ). ltZ y (pos 0)) (back w64 z p)) (e ∙ above-is) ∙ signed-is z
+  pub sign-bits : (n : ℕ) → n ≡ natAbs fromBits → number (ltZ fromBits (pos 0)) n ≡ signed z
+  sign-bits n e = ap₂ number (ap (λ (y : ℤ). ltZ y (pos 0)) (back w64 z p)) (e ∙ above-is) ∙ signed-is z

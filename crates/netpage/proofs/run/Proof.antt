@@ -1,12 +1,16 @@
 -- `netpage::run` meets its contract: all picks of the list carried out. Assumes nothing.
+use Prim.Native.Nat.{ℕ, _*_, _≤_}
 use mathlib.Core.Path.{_≡_, sym, ap, _∙_}
+use mathlib.Core.List.{List}
 use native.Mathlib.Omega.{arith}
 use lib.ListN.{length, take}
 use lib.Seq.{length-take-le}
 use borrow.Author.Needs.{needs}
 use Rattle.values.proofs.Arrays.{long}
+use Rattle.nets.specs.declared.Pick.{Pick}
+use Rattle.nets.specs.Nets.{Net}
 use Rattle.nets.specs.Accounts.{after}
-use Rattle.nets.specs.View.{view}
+use Rattle.step_bytes.specs.PickBytes.{picksIn}
 use Rattle.step_bytes.proofs.PickLaws.{picks-take}
 use Rattle.netpage.proofs.run.Statement.{statement}
 use Rattle.netpage.proofs.run.Tie as tie
@@ -14,17 +18,13 @@ use Rattle.netpage.proofs.run.Tie as tie
 bytes-long : (c : tie.After-pick-bytes) → length (c .pick-bytes .result) ≡ 512
 bytes-long c = search (long, c .pick-bytes .ok)
 
-slice-aggregate-run-picks : tie.Need-slice-aggregate-run-picks
-slice-aggregate-run-picks c =
-    let b = c .before in
-    sym (length-take-le _ (b .pick-bytes .result) (omega (arith, bytes-long b, b .before .pre .1)))
+-- the picks lent are as many bytes as their count says
+lent : (bytes : List ℕ) (n : ℕ) → length bytes ≡ 512 → n ≤ 256 → n * 2 ≡ length (take (n * 2) bytes)
+lent bytes n l h = sym (length-take-le (n * 2) bytes (omega arith))
 
-returns : tie.Need-returns
-returns c =
-    let b = c .before .before in
-    let a = b .before .args in
-    let g = c .run-picks .ensures in
-    (g .0 ∙ ap (after (view (a .start))) (picks-take (b .pick-bytes .result) (a .count) ∙ ap (take (a .count)) (b .pick-bytes .ensures)), g .1)
+-- the bytes are those of the picks
+left-by : (m r : Net) (bytes : List ℕ) (n : ℕ) (ps : List Pick) → r ≡ after m (picksIn (take (n * 2) bytes)) → picksIn bytes ≡ ps → r ≡ after m (take n ps)
+left-by m r bytes n ps e q = e ∙ ap (after m) (picks-take bytes n ∙ ap (take n) q)
 
 pub run-spec : {M : Type 1} → statement M
 run-spec =
@@ -33,6 +33,6 @@ run-spec =
     (λ c κs. search needs)
     (λ c. search needs)
     (λ c. search needs)
-    slice-aggregate-run-picks
+    (λ c. let l = bytes-long (c .before) in search lent)
     (λ c κs. search needs)
-    returns)
+    (λ c. (search left-by, search needs)))

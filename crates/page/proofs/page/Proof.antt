@@ -1,7 +1,7 @@
 -- `page::page` meets its contract: an unsound net is refused, a sound one has tables in their ranges.
 use Prim.Native.Nat.{ℕ, _≤_}
 use mathlib.Core.Path.{_≡_, sym, ap, _∙_}
-use mathlib.Core.Bool.{Bool, true, false, cond}
+use mathlib.Core.Bool.{Bool, true, false}
 use mathlib.Core.List.{List, []}
 use lib.Dec.{T}
 use borrow.Author.Needs.{needs}
@@ -14,15 +14,12 @@ use Rattle.nets.specs.Tables.{tableAt}
 use Rattle.nets.specs.Sound.{tableOk, sound}
 use Rattle.nets.specs.View.{tablesOf, view}
 use Rattle.nets.proofs.ShapeLaws.{tables-of, few-tables, tables-ok}
-use Rattle.page_rules.specs.Pages.{PageOutcome, noPage, refused, pageFor, page, pageAnswer, bufferAfter}
+use Rattle.page_rules.specs.Pages.{PageOutcome, pageRefused, pageFor, page, pageAnswer, bufferAfter}
+use Rattle.page_lines.proofs.OutcomeLaws.{by-sound}
 use Rattle.page.specs.declared.Paged.{Paged}
 use Rattle.page.specs.PageCall.{answerOf}
 use Rattle.page.proofs.page.Statement.{statement}
 use Rattle.page.proofs.page.Tie as tie
-
-by-sound : (net : M.Net) (s : Site) (n : ℕ) (o : List ℕ) (t : Bool) → t ≡ sound net → page net s n o ≡ cond t (pageFor (tableAt s n (net .tables)) o) (noPage 10 [])
-unfolding page
-by-sound net s n o t e = ap (λ (u : Bool). cond u (pageFor (tableAt s n (net .tables)) o) (noPage 10 [])) (sym e)
 
 module _ (net : Net) (b : Bool) (e : b ≡ sound (view net)) where
   few : b ≡ true → net .tablecount ≤ 8
@@ -32,19 +29,19 @@ module _ (net : Net) (b : Bool) (e : b ≡ sound (view net)) where
   ranged h = tables-ok net (T-of (sound (view net)) (sym e ∙ h))
 
   module _ (s : Site) (n : ℕ) (o : List ℕ) where
-    abbrev asked : PageOutcome
-    asked = pageFor (tableAt s n (tablesOf (net .tablecount) (net .tables))) o
+    abbrev outcome : PageOutcome
+    outcome = pageFor (tableAt s n (tablesOf (net .tablecount) (net .tables))) o
 
-    is-asked : b ≡ true → page (view net) s n o ≡ asked
-    is-asked h = by-sound (view net) s n o true (sym h ∙ e) ∙ ap (λ (ts : List M.Table). pageFor (tableAt s n ts) o) (tables-of net)
+    is-outcome : b ≡ true → page (view net) s n o ≡ outcome
+    is-outcome h = by-sound (view net) s n o true (sym h ∙ e) ∙ ap (λ (ts : List M.Table). pageFor (tableAt s n ts) o) (tables-of net)
 
-    sound-answer : (r : Paged) → b ≡ true → answerOf r ≡ pageAnswer asked → answerOf r ≡ pageAnswer (page (view net) s n o)
-    sound-answer r h k = k ∙ sym (ap pageAnswer (is-asked h))
+    sound-answer : (r : Paged) → b ≡ true → answerOf r ≡ pageAnswer outcome → answerOf r ≡ pageAnswer (page (view net) s n o)
+    sound-answer r h k = k ∙ sym (ap pageAnswer (is-outcome h))
 
-    sound-buffer : (out : List ℕ) → b ≡ true → out ≡ bufferAfter o asked → out ≡ bufferAfter o (page (view net) s n o)
-    sound-buffer out h k = k ∙ sym (ap (bufferAfter o) (is-asked h))
+    sound-buffer : (out : List ℕ) → b ≡ true → out ≡ bufferAfter o outcome → out ≡ bufferAfter o (page (view net) s n o)
+    sound-buffer out h k = k ∙ sym (ap (bufferAfter o) (is-outcome h))
 
-    unsound-answer : b ≡ false → refused 10 [] ≡ pageAnswer (page (view net) s n o)
+    unsound-answer : b ≡ false → pageRefused 10 [] ≡ pageAnswer (page (view net) s n o)
     unsound-answer h = sym (ap pageAnswer (by-sound (view net) s n o false (sym h ∙ e)))
 
     unsound-buffer : b ≡ false → o ≡ bufferAfter o (page (view net) s n o)

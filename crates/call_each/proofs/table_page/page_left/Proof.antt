@@ -1,6 +1,7 @@
 -- `call_each::table_page::page_left` meets its contract: the run leaves a sound net, and its tables are those of the rule. Assumes nothing.
 use Prim.Native.Nat.{ℕ}
 use mathlib.Core.Path.{_≡_, refl, sym, ap, _∙_}
+use mathlib.Core.Bool.{true}
 use mathlib.Core.List.{List}
 use lib.Dec.{T}
 use borrow.Author.Needs.{needs}
@@ -15,6 +16,7 @@ use Rattle.nets.specs.Accounts.{after}
 use Rattle.nets.specs.View.{tablesOf, view}
 use Rattle.nets.proofs.ShapeLaws.{tables-of, few-tables, tables-ok}
 use Rattle.page_rules.specs.Pages.{PageOutcome, noPage, aPage, pageFor, page, pageAnswer, bufferAfter}
+use Rattle.page_lines.proofs.OutcomeLaws.{by-sound}
 use Rattle.page.specs.declared.Paged.{Paged}
 use Rattle.page.specs.PageCall.{answerOf}
 use Rattle.call_rules.specs.declared.Reply.{Reply}
@@ -29,23 +31,16 @@ gives-outcome : (p : PageOutcome) (o : List ℕ) → Gives (pageReply p) o (buff
 gives-outcome (noPage n vs) o = record { number = refl; place = refl; buffer = refl }
 gives-outcome (aPage bs) o = record { number = refl; place = refl; buffer = refl }
 
-by-sound : (net : Net) (site : Site) (name : ℕ) (o : List ℕ) → T (sound net) → page net site name o ≡ pageFor (tableAt site name (net .tables)) o
-unfolding page
-by-sound net site name o ok = rw (is-true (sound net) ok) refl
+module _ (m : Net) (ps : List Pick) (net : Code.Net) (left : view net ≡ after m ps) (ok : T (sound (view net))) (site : Site) (name : ℕ) (o : List ℕ) where
+  abbrev outcome : PageOutcome
+  outcome = pageFor (tableAt site name (tablesOf (net .tablecount) (net .tables))) o
 
-module _ (m : Net) (ps : List Pick) (net : Code.Net) (e : (view net ≡ after m ps) × T (sound (view net))) (site : Site) (name : ℕ) (o : List ℕ) where
-  abbrev asked : PageOutcome
-  asked = pageFor (tableAt site name (tablesOf (net .tablecount) (net .tables))) o
+  outcome-is : page (after m ps) site name o ≡ outcome
+  outcome-is = ap (λ (n : Net). page n site name o) (sym left) ∙ by-sound (view net) site name o true (sym (is-true (sound (view net)) ok)) ∙ ap (λ (ts : List Table). pageFor (tableAt site name ts) o) (tables-of net)
 
-  outcome-is : page (after m ps) site name o ≡ asked
-  outcome-is = ap (λ (n : Net). page n site name o) (sym (e .0)) ∙ by-sound (view net) site name o (e .1) ∙ ap (λ (ts : List Table). pageFor (tableAt site name ts) o) (tables-of net)
-
-  given : (r : Paged) (out : List ℕ) (reply : Reply) → answerOf r ≡ pageAnswer asked → out ≡ bufferAfter o asked → reply ≡ answerReply (answerOf r) → Gives (paged site name m ps o) o out (reply .number) (reply .place)
+  given : (r : Paged) (out : List ℕ) (reply : Reply) → answerOf r ≡ pageAnswer outcome → out ≡ bufferAfter o outcome → reply ≡ answerReply (answerOf r) → Gives (paged site name m ps o) o out (reply .number) (reply .place)
   unfolding paged
-  given r out reply a b q = rw (q, a, b, outcome-is) (gives-outcome asked o)
-
-page-tables-requires : tie.Need-page-tables-requires
-page-tables-requires c κs = let r = c .before .before .run-picks in (few-tables (r .result) (r .ensures .1), tables-ok (r .result) (r .ensures .1))
+  given r out reply a b q = rw (q, a, b, outcome-is) (gives-outcome outcome o)
 
 pub page-left-spec : {M : Type 1} → statement M
-page-left-spec = tie.close (tie.spec (λ c κs. search needs) page-tables-requires (λ c κs. search needs) (λ c. search needs) (λ c. search given))
+page-left-spec = tie.close (tie.spec (λ c κs. search needs) (λ c κs. (search few-tables, search tables-ok)) (λ c κs. search needs) (λ c. search needs) (λ c. search given))

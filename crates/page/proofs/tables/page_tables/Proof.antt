@@ -22,28 +22,28 @@ use Rattle.nets.specs.View.{noTable, tableOf, tablesOf}
 use Rattle.nets.proofs.ShapeLaws.{shaped-at, rows-ok-at}
 use Rattle.nets.proofs.TableLaws.{none-of}
 use Rattle.nets.proofs.TablePlaces.{table-there, table-at}
-use Rattle.page_rules.specs.Pages.{pageOf, noPage, aPage, refused, pageLength, pageFor, pageAnswer, bufferAfter}
+use Rattle.page_rules.specs.Pages.{pageOf, noPage, aPage, pageRefused, pageLength, pageFor, pageAnswer, bufferAfter}
 use Rattle.page.proofs.tables.page_tables.Statement.{statement}
 use Rattle.page.proofs.tables.page_tables.Tie as tie
 
 module _ (ts : List Table) (count place : ℕ) (s : Site) (n : ℕ) (o : List ℕ) (e : place ≡ placeOf (isAt s n) (tablesOf count ts)) where
-  abbrev asked : Option M.Table
-  asked = tableAt s n (tablesOf count ts)
+  abbrev table : Option M.Table
+  table = tableAt s n (tablesOf count ts)
 
   many : length (tablesOf count ts) ≡ count
   many = length-firsts tableOf noTable count ts
 
   -- ── no such table ──
 
-  absent : count ≤ place → asked ≡ none
+  absent : count ≤ place → table ≡ none
   absent h =
       let l : length (tablesOf count ts) ≤ placeOf (isAt s n) (tablesOf count ts) = omega (arith, many, e) in
-      none-of asked (T-not-of (isSome asked) (table-there s n (tablesOf count ts) ∙ le-ltb (placeOf (isAt s n) (tablesOf count ts)) (length (tablesOf count ts)) l))
+      none-of table (T-not-of (isSome table) (table-there s n (tablesOf count ts) ∙ le-ltb (placeOf (isAt s n) (tablesOf count ts)) (length (tablesOf count ts)) l))
 
-  absent-answer : count ≤ place → refused 14 [] ≡ pageAnswer (pageFor asked o)
+  absent-answer : count ≤ place → pageRefused 14 [] ≡ pageAnswer (pageFor table o)
   absent-answer h = sym (ap (λ (t : Option M.Table). pageAnswer (pageFor t o)) (absent h))
 
-  absent-buffer : count ≤ place → o ≡ bufferAfter o (pageFor asked o)
+  absent-buffer : count ≤ place → o ≡ bufferAfter o (pageFor table o)
   absent-buffer h = sym (ap (λ (t : Option M.Table). bufferAfter o (pageFor t o)) (absent h))
 
   -- ── a table ──
@@ -52,7 +52,7 @@ module _ (ts : List Table) (count place : ℕ) (s : Site) (n : ℕ) (o : List �
     abbrev bytes : List ℕ
     bytes = pageOf (relationOf (getD ts place noTable .content))
 
-    found : asked ≡ some (tableOf (getD ts place noTable))
+    found : table ≡ some (tableOf (getD ts place noTable))
     found =
         let l : placeOf (isAt s n) (tablesOf count ts) < length (tablesOf count ts) = omega (arith, many, e) in
         table-at s n (tablesOf count ts) (tableOf noTable) l
@@ -60,19 +60,19 @@ module _ (ts : List Table) (count place : ℕ) (s : Site) (n : ℕ) (o : List �
         ∙ ap some (firsts-at tableOf noTable count ts place (tableOf noTable) below)
 
     module _ (size : ℕ) (long : size ≡ length bytes) where
-      by-room : (t : Bool) → leb size (length o) ≡ t → pageFor asked o ≡ cond t (aPage bytes) (noPage 22 (size ∷ []))
+      by-room : (t : Bool) → leb size (length o) ≡ t → pageFor table o ≡ cond t (aPage bytes) (noPage 22 (size ∷ []))
       by-room t h = ap (λ (u : Option M.Table). pageFor u o) found ∙ ap (λ (k : ℕ). cond (leb k (length o)) (aPage bytes) (noPage 22 (k ∷ []))) (sym long) ∙ ap (λ (u : Bool). cond u (aPage bytes) (noPage 22 (size ∷ []))) h
 
-      short-answer : length o < size → refused 22 (size ∷ []) ≡ pageAnswer (pageFor asked o)
+      short-answer : length o < size → pageRefused 22 (size ∷ []) ≡ pageAnswer (pageFor table o)
       short-answer h = sym (ap pageAnswer (by-room false (lt-leb size (length o) h)))
 
-      short-buffer : length o < size → o ≡ bufferAfter o (pageFor asked o)
+      short-buffer : length o < size → o ≡ bufferAfter o (pageFor table o)
       short-buffer h = sym (ap (bufferAfter o) (by-room false (lt-leb size (length o) h)))
 
-      put-answer : size ≤ length o → pageLength size ≡ pageAnswer (pageFor asked o)
+      put-answer : size ≤ length o → pageLength size ≡ pageAnswer (pageFor table o)
       put-answer h = ap pageLength long ∙ sym (ap pageAnswer (by-room true (le-leb size (length o) h)))
 
-      put-buffer : (out : List ℕ) → size ≤ length o → out ≡ bytes → out ++ drop (size - 0) o ≡ bufferAfter o (pageFor asked o)
+      put-buffer : (out : List ℕ) → size ≤ length o → out ≡ bytes → out ++ drop (size - 0) o ≡ bufferAfter o (pageFor table o)
       put-buffer out h q = rw (q, sub-zero) (ap (λ (k : ℕ). bytes ++ drop k o) long ∙ sym (ap (bufferAfter o) (by-room true (le-leb size (length o) h))))
 
 pub page-tables-spec : {M : Type 1} → statement M
