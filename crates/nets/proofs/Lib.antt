@@ -11,10 +11,12 @@ pub mod MoveLaws
 pub mod RefusalLaws
 pub mod RoundLaws
 pub mod RunLaws
+pub mod SavedLaws
 pub mod ShapeLaws
 pub mod SoundLaws
 pub mod SourceLaws
 pub mod StackLaws
+pub mod StackView
 pub mod StepLaws
 pub mod SureLaws
 pub mod TableLaws

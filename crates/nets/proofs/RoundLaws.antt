@@ -8,19 +8,20 @@ use native.Mathlib.Omega.{arith}
 use lib.Dec.{T, eqb, ltb, ltb→lt, lt→ltb, le→leb}
 use lib.ListN.{getD, length, length-append}
 use Rattle.values.specs.declared.Got.the-variants.{One}
-use Rattle.values.specs.Lists.{all, among, places, isSome, orElse}
+use Rattle.values.specs.Lists.{all, among, filter, places, isSome, orElse}
 use Rattle.values.specs.Values.{inRange}
 use Rattle.values.proofs.Bools.{and-l, and-r, and-in, T-of}
 use Rattle.values.proofs.ListLaws.{all-filter, all-getD, all-append, all-map-of}
 use Rattle.rows.specs.Relations.{Relation, noRelation}
-use Rattle.nets.specs.Nets.{Kind, code, readsRelation, isLoop, isParallel, Node, Entry, toRun, visiting, Thread}
+use Rattle.nets.specs.Nets.{Kind, code, readsRelation, isLoop, isSequential, isParallel, Node, Entry, toRun, visiting, Thread}
 use Rattle.nets.specs.Tables.{contentOf}
-use Rattle.nets.specs.Sound.{noNode, entryNode, variableOk, bindingsOk, linksOkAs, hasPlaces, entryOk, threadOk}
+use Rattle.nets.specs.Sound.{noNode, entryNode, variableOk, bindingsOk, linksOkAs, hasPlaces, entryOk, agreeOn, savedAgrees, allSavedAgree, entriesOk, threadOk}
 use Rattle.nets.specs.Scenes.{Scene, below, template, table, relation, source, stillToVisit, visit, rowAt, anyReady, opens}
-use Rattle.nets.specs.Steps.{roomForRound, bindingsBy, withStack, withBindings, keepThread, goOn, settle, plain, roundBindings, loopEntry, sequentialRound, parallelRound, threadsAfter}
+use Rattle.nets.specs.Steps.{roomForRound, bindingsBy, withStack, withBindings, keepThread, restored, goOn, settle, plain, roundBindings, firstMet, loopEntry, sequentialRound, parallelRound, threadsAfter}
 use Rattle.nets.proofs.StepLaws.{given}
 use Rattle.nets.proofs.SureLaws.{Sure, entry-node}
 use Rattle.nets.proofs.BindingLaws.{bind-vars}
+use Rattle.nets.proofs.SavedLaws.{agree-same, push-run}
 use Rattle.nets.proofs.StackLaws.{goes-on}
 
 -- ── the places to visit ──
@@ -31,7 +32,7 @@ places-below j (suc n) m h = and-in (ltb j m) (all (λ i. ltb i m) (places (suc 
 
 pub visits-ok : (ds : List Node) (rs : List (Option Relation)) (x : Entry) (d : Node) (r : Relation) → getD ds (entryNode x) noNode ≡ d → getD rs (d .read) none ≡ some r → T (entryOk ds rs x) → T (all (λ i. ltb i (length (r .rows))) (stillToVisit x (length (r .rows))))
 visits-ok ds rs (toRun i) d r e q h = places-below 0 (length (r .rows)) (length (r .rows)) (omega arith)
-visits-ok ds rs (visiting i v) d r e q h =
+visits-ok ds rs (visiting i v b) d r e q h =
     subst (λ (o : Option Relation). T (hasPlaces v o)) (ap (λ (n : Node). getD rs (n .read) none) e ∙ q) (search (and-l, and-r))
 
 -- ── what a loop reads ──
@@ -46,6 +47,22 @@ loop-reads k h = or-r (eqb (code k) 17) (among (code k) (20 ∷ 25 ∷ 26 ∷ []
 pub is-some : {A : Type 0} (o : Option A) → T (isSome o) → (a : A) × (o ≡ some a)
 is-some none h = absurd h
 is-some (some a) h = (a, refl)
+
+-- ── what a loop's entry holds ──
+
+module _ (ds : List Node) (t : Thread) where
+  -- it is sound
+  held-ok : (x : Entry) → T (bindingsOk (t .bindings)) → T (entryOk ds (t .bindings .relations) x) → T (not (isSequential (getD ds (entryNode x) noNode .kind)) || bindingsOk (firstMet t x))
+  held-ok (toRun i) h k = or-r (not (isSequential (getD ds i noNode .kind))) (bindingsOk (t .bindings)) h
+  held-ok (visiting i v b) h k = search (and-l, and-r)
+
+  -- and agrees on what the loop's entry and those below it hold
+  held-agrees : (x : Entry) (v : List ℕ) (l : List Entry) → T (savedAgrees ds (t .bindings .relations) (x ∷ l) x) →
+      T (savedAgrees ds (t .bindings .relations) (visiting (entryNode x) v (firstMet t x) ∷ l) (visiting (entryNode x) v (firstMet t x)))
+  held-agrees (toRun i) v l h =
+      or-r (not (isSequential (getD ds i noNode .kind))) (all (agreeOn ds (t .bindings .relations) (t .bindings .relations)) (visiting i v (t .bindings) ∷ l))
+      (agree-same ds (t .bindings .relations) (visiting i v (t .bindings) ∷ l))
+  held-agrees (visiting i w b) v l h = h
 
 -- ── a round ──
 
@@ -70,7 +87,17 @@ module _ {c : Scene} (s : Sure (c .node .kind) c) (loop : T (isLoop (c .node .ki
       subst (λ (q : Relation). T (all (λ i. ltb i (length (r .rows))) (stillToVisit (c .entry) (length (q .rows))))) (sym the-source)
       (visits-ok (c .net .nodes) (c .thread .bindings .relations) (c .entry) (c .node) r (s .nodeIs) (the-relation .1) (s .topOk)) in
       let fewer = all-filter (λ i. ltb i (length (r .rows))) (λ i. not (eqb i (c .row))) (visit c) visits in
-      rw (s .nodeIs, the-relation .1) (search (and-in, here, loop, fewer))
+      let holds : T (not (isSequential (c .node .kind)) || bindingsOk (firstMet (c .thread) (c .entry))) =
+      subst (λ (d : Node). T (not (isSequential (d .kind)) || bindingsOk (firstMet (c .thread) (c .entry)))) (s .nodeIs) (held-ok (c .net .nodes) (c .thread) (c .entry) (s .bindings) (s .topOk)) in
+      rw (s .nodeIs, the-relation .1) (search (and-in, here, loop, fewer, holds))
+
+  -- the loop's entry on those below it
+  loop-entries-ok : T (entriesOk (c .net .nodes) (c .thread .bindings .relations) (loopEntry c ∷ below (c .thread .stack)))
+  loop-entries-ok =
+      let a = and-l (all (entryOk (c .net .nodes) (c .thread .bindings .relations)) (below (c .thread .stack))) (allSavedAgree (c .net .nodes) (c .thread .bindings .relations) (below (c .thread .stack))) (s .entries) in
+      let b = and-r (all (entryOk (c .net .nodes) (c .thread .bindings .relations)) (below (c .thread .stack))) (allSavedAgree (c .net .nodes) (c .thread .bindings .relations) (below (c .thread .stack))) (s .entries) in
+      let agrees = held-agrees (c .net .nodes) (c .thread) (c .entry) (filter (λ i. not (eqb i (c .row))) (visit c)) (below (c .thread .stack)) (s .topAgrees) in
+      search (and-in, loop-entry-ok, agrees)
 
   body-ok : T (ltb (c .node .body) (length (c .net .nodes)))
   unfolding linksOkAs
@@ -89,13 +116,14 @@ module _ {c : Scene} (s : Sure (c .node .kind) c) (loop : T (isLoop (c .node .ki
   sequential-ok few =
       let deep = le→leb (suc (suc (length (below (c .thread .stack))))) 8 (omega (arith, s .stackLength)) in
       let one = le→leb 1 (suc (suc (length (below (c .thread .stack))))) (omega arith) in
-      search (and-in, s .siteFine, body-ok, loop-entry-ok, round-ok, s .entries) depth 8
+      let entries = push-run (c .net .nodes) (c .thread .bindings .relations) (c .node .body) (loopEntry c ∷ below (c .thread .stack)) body-ok loop-entries-ok in
+      search (and-in, s .siteFine, round-ok, entries) depth 8
 
   waiting-ok : T (threadOk (c .net .nodes) (withStack (c .thread) (loopEntry c ∷ below (c .thread .stack))))
   waiting-ok =
       let deep = le→leb (suc (length (below (c .thread .stack)))) 8 (s .depth) in
       let one = le→leb 1 (suc (length (below (c .thread .stack)))) (omega arith) in
-      search (and-in, s .siteFine, loop-entry-ok, s .bindings, s .entries) depth 8
+      search (and-in, s .siteFine, s .bindings, loop-entries-ok) depth 8
 
   forked-ok : T (threadOk (c .net .nodes) (withStack (withBindings (c .thread) (roundBindings c)) (toRun (c .node .body) ∷ [])))
   forked-ok = search (and-in, s .siteFine, body-ok, round-ok) depth 8
@@ -116,11 +144,11 @@ length-keep : (t : Thread) (l : List Entry) → length (keepThread t l) ≤ 1
 length-keep t [] = omega arith
 length-keep t (x ∷ l) = omega arith
 
-length-go : (n : ℕ) (t : Thread) (l : List Entry) → length (goOn n t l) ≤ 1
-length-go n t l = go (eqb n 255)
+length-go : (ds : List Node) (n : ℕ) (t : Thread) (l : List Entry) → length (goOn ds n t l) ≤ 1
+length-go ds n t l = go (eqb n 255)
   where
-    go : (b : Bool) → length (cond b (keepThread t l) (keepThread t (toRun n ∷ l))) ≤ 1
-    go true = length-keep t l
+    go : (b : Bool) → length (cond b (keepThread (restored ds t l) l) (keepThread t (toRun n ∷ l))) ≤ 1
+    go true = length-keep (restored ds t l) l
     go false = length-keep t (toRun n ∷ l)
 
 -- sound and at most eight
@@ -139,7 +167,7 @@ module _ {c : Scene} (s : Sure (c .node .kind) c) (before : Threads (c .net .nod
   plain-ok : Threads (c .net .nodes) (plain c)
   plain-ok =
       let t = withBindings (c .thread) (bindingsBy (c .node .kind) c) in
-      settled (goOn (c .node .next) t (below (c .thread .stack))) (goes-on s) (length-go (c .node .next) t (below (c .thread .stack)))
+      settled (goOn (c .net .nodes) (c .node .next) t (below (c .thread .stack))) (goes-on s) (length-go (c .net .nodes) (c .node .next) t (below (c .thread .stack)))
 
   parallel-ok : T (isLoop (c .node .kind)) → length (c .net .threads) < 8 → Threads (c .net .nodes) (parallelRound c)
   parallel-ok loop few =

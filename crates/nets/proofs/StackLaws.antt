@@ -12,38 +12,37 @@ use lib.Seq.{getD-set-other}
 use Rattle.values.specs.Lists.{all, any}
 use Rattle.values.specs.Values.{siteOk}
 use Rattle.values.proofs.Bools.{and-l, and-r, and-in}
-use Rattle.values.proofs.ListLaws.{all-weaken, all-and, not-any}
+use Rattle.values.proofs.ListLaws.{all-weaken, not-any}
 use Rattle.rows.specs.Relations.{Relation}
 use Rattle.nets.specs.Nets.{Kind, acting, other, insert, insertTable, delete, update, create, drop, select, selectRelation, aggregate, sequential, parallel, badKind, Node, Entry, toRun, visiting, Bindings, Thread}
-use Rattle.nets.specs.Sound.{noNode, relationOk, bindingsOk, fieldsOkAs, linksOkAs, entryOk, threadOk}
+use Rattle.nets.specs.Sound.{noNode, relationOk, bindingsOk, fieldsOkAs, linksOkAs, agreeOn, entriesOk, threadOk}
 use Rattle.nets.specs.Scenes.{Scene, below, parts}
-use Rattle.nets.specs.Steps.{holds, boundBy, varsBy, bindingsBy, withBindings, keepThread, goOn}
+use Rattle.nets.specs.Steps.{holds, boundBy, varsBy, bindingsBy, withBindings, keepThread, restored, goOn}
+use Rattle.nets.proofs.SavedLaws.{relation-refl, entries-swap, push-run, Back, restored-ok, restored-site}
 use Rattle.nets.proofs.SureLaws.{Sure}
 use Rattle.nets.proofs.BindingLaws.{bindRelation, bind-relation, deleted-ok, stored-ok, result-ok}
 
 -- ── a table variable bound anew ──
 
--- an entry that does not hold it is as good as before
+-- an entry that does not hold it sees the same as before
 module _ (ds : List Node) (rs : List (Option Relation)) (b : ℕ) (r : Relation) where
-  entry-set : (x : Entry) → T (entryOk ds rs x) → T (not (holds ds b x)) → T (entryOk ds (set rs b (some r)) x)
-  entry-set (toRun i) h k = h
-  entry-set (visiting i v) h k = rw (getD-set-other rs b (getD ds i noNode .read) (some r) none other) h
+  entry-set : (x : Entry) → T (not (holds ds b x)) → T (agreeOn ds rs (set rs b (some r)) x)
+  entry-set (toRun i) k = tt
+  entry-set (visiting i v q) k = rw (getD-set-other rs b (getD ds i noNode .read) (some r) none other) (relation-refl (getD rs (getD ds i noNode .read) none))
     where
       other : getD ds i noNode .read ≢ b
       other e = T-not (eqb b (getD ds i noNode .read)) k (subst (λ (x : ℕ). T (eqb b x)) (sym e) (eqb-refl b))
 
-  entries-set : (l : List Entry) → T (all (entryOk ds rs) l) → T (not (any (holds ds b) l)) → T (all (entryOk ds (set rs b (some r))) l)
+  entries-set : (l : List Entry) → T (entriesOk ds rs l) → T (not (any (holds ds b) l)) → T (entriesOk ds (set rs b (some r)) l)
   entries-set l h k =
-      all-weaken (λ x. entryOk ds rs x && not (holds ds b x)) (entryOk ds (set rs b (some r))) l
-      (λ x q. entry-set x (and-l (entryOk ds rs x) (not (holds ds b x)) q) (and-r (entryOk ds rs x) (not (holds ds b x)) q))
-      (all-and (entryOk ds rs) (λ x. not (holds ds b x)) l h (not-any (holds ds b) l k))
+      entries-swap ds rs (set rs b (some r)) l (all-weaken (λ x. not (holds ds b x)) (agreeOn ds rs (set rs b (some r))) l entry-set (not-any (holds ds b) l k)) h
 
 -- ── the bindings that a step leaves ──
 
 -- sound, and the entries below the top are sound with them
 record Rebound (c : Scene) (b : Bindings) : Type 0 where
   bindings : T (bindingsOk b)
-  entries : T (all (entryOk (c .net .nodes) (b .relations)) (below (c .thread .stack)))
+  entries : T (entriesOk (c .net .nodes) (b .relations) (below (c .thread .stack)))
 
 module _ {k : Kind} {c : Scene} (s : Sure k c) where
   same : Rebound c (c .thread .bindings)
@@ -83,7 +82,7 @@ next-ok {k} {c} s = go (eqb (c .node .next) 255) (search (and-l, and-r, s .node)
     go true h = tt
     go false h = search and-r
 
-keep-ok : (ds : List Node) (t : Thread) (l : List Entry) → T (siteOk (t .site)) → T (bindingsOk (t .bindings)) → length l ≤ 8 → T (all (entryOk ds (t .bindings .relations)) l) → T (all (threadOk ds) (keepThread t l))
+keep-ok : (ds : List Node) (t : Thread) (l : List Entry) → T (siteOk (t .site)) → T (bindingsOk (t .bindings)) → length l ≤ 8 → T (entriesOk ds (t .bindings .relations) l) → T (all (threadOk ds) (keepThread t l))
 keep-ok ds t [] p h q k = tt
 keep-ok ds t (x ∷ l) p h q k =
     let few = le→leb (length (x ∷ l)) 8 q in
@@ -91,17 +90,24 @@ keep-ok ds t (x ∷ l) p h q k =
     search and-in
 
 -- the thread after a step that opens no round
-pub goes-on : {k : Kind} {c : Scene} → Sure k c → T (all (threadOk (c .net .nodes)) (goOn (c .node .next) (withBindings (c .thread) (bindingsBy k c)) (below (c .thread .stack))))
+pub goes-on : {k : Kind} {c : Scene} → Sure k c → T (all (threadOk (c .net .nodes)) (goOn (c .net .nodes) (c .node .next) (withBindings (c .thread) (bindingsBy k c)) (below (c .thread .stack))))
 goes-on {k} {c} s = go (eqb (c .node .next) 255) (next-ok s)
   where
+    ds : List Node
+    ds = c .net .nodes
+
+    l : List Entry
+    l = below (c .thread .stack)
+
     t : Thread
     t = withBindings (c .thread) (bindingsBy k c)
 
     b : Rebound c (bindingsBy k c)
     b = rebound k c s
 
-    go : (b : Bool) → T (b || ltb (c .node .next) (length (c .net .nodes))) → T (all (threadOk (c .net .nodes)) (cond b (keepThread t (below (c .thread .stack))) (keepThread t (toRun (c .node .next) ∷ below (c .thread .stack)))))
-    go true h = keep-ok (c .net .nodes) t (below (c .thread .stack)) (s .siteFine) (b .bindings) (omega (arith, s .depth)) (b .entries)
-    go false h =
-        keep-ok (c .net .nodes) t (toRun (c .node .next) ∷ below (c .thread .stack)) (s .siteFine) (b .bindings) (s .depth)
-        (and-in (ltb (c .node .next) (length (c .net .nodes))) (all (entryOk (c .net .nodes) (bindingsBy k c .relations)) (below (c .thread .stack))) h (b .entries))
+    back : Back ds (restored ds t l) l
+    back = restored-ok ds t l (record { bindings = b .bindings; entries = b .entries })
+
+    go : (b : Bool) → T (b || ltb (c .node .next) (length ds)) → T (all (threadOk ds) (cond b (keepThread (restored ds t l) l) (keepThread t (toRun (c .node .next) ∷ l))))
+    go true h = keep-ok ds (restored ds t l) l (rw (restored-site ds t l) (s .siteFine)) (back .bindings) (omega (arith, s .depth)) (back .entries)
+    go false h = keep-ok ds t (toRun (c .node .next) ∷ l) (s .siteFine) (b .bindings) (s .depth) (push-run ds (t .bindings .relations) (c .node .next) l h (b .entries))

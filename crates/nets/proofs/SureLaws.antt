@@ -10,7 +10,7 @@ use lib.ListN.{getD, length}
 use Rattle.values.specs.Lists.{all, any, among, isSome, orElse}
 use Rattle.values.specs.Values.{siteOk, inRange}
 use Rattle.values.specs.Operands.{formals}
-use Rattle.values.proofs.Bools.{and-l, and-r}
+use Rattle.values.proofs.Bools.{and-l, and-r, and-in}
 use Rattle.values.proofs.ListLaws.{all-at, all-getD, find-all, filter-length}
 use Rattle.rows.specs.Relations.{Relation, noRelation}
 use Rattle.rows.specs.Matching.{hits}
@@ -18,7 +18,7 @@ use Rattle.rows.specs.Fit.{relationFits}
 use Rattle.nets.specs.declared.Pick.{Pick}
 use Rattle.nets.specs.Nets.{Table, Kind, needsTable, hasTemplate, readsRelation, bindsRelation, Node, Entry, toRun, visiting, Thread, Net}
 use Rattle.nets.specs.Tables.{isAt, contentOf}
-use Rattle.nets.specs.Sound.{noNode, noThread, entryNode, columnsOk, rowsOk, tableOk, relationOk, bindingsOk, nodeOkAs, nodesOk, entryOk, stackOk, threadOk}
+use Rattle.nets.specs.Sound.{noNode, noThread, entryNode, columnsOk, rowsOk, tableOk, relationOk, bindingsOk, nodeOkAs, nodesOk, entryOk, savedAgrees, allSavedAgree, entriesOk, stackOk, threadOk}
 use Rattle.nets.specs.Scenes.{Scene, sceneOf, top, below, vars, template, site, table, relation, source, parts, hitRows, opens}
 use Rattle.nets.specs.Steps.{isBound, known, readsOk, check12, check14, check16, holds, check17, roomBy, roomForRound, check20}
 use Rattle.nets.proofs.SourceLaws.{source-fits}
@@ -31,8 +31,9 @@ pub record Sure (k : Kind) (c : Scene) : Type 0 where
   pub bindings : T (bindingsOk (c .thread .bindings))
   pub depth : suc (length (below (c .thread .stack))) ≤ 8
   pub stackLength : length (c .thread .stack) ≡ suc (length (below (c .thread .stack)))
-  pub entries : T (all (entryOk (c .net .nodes) (c .thread .bindings .relations)) (below (c .thread .stack)))
+  pub entries : T (entriesOk (c .net .nodes) (c .thread .bindings .relations) (below (c .thread .stack)))
   pub topOk : T (entryOk (c .net .nodes) (c .thread .bindings .relations) (c .entry))
+  pub topAgrees : T (savedAgrees (c .net .nodes) (c .thread .bindings .relations) (c .entry ∷ below (c .thread .stack)) (c .entry))
   -- the node
   pub nodeIs : getD (c .net .nodes) (entryNode (c .entry)) noNode ≡ c .node
   pub number : ℕ
@@ -54,12 +55,13 @@ pub record Sure (k : Kind) (c : Scene) : Type 0 where
 
 pub entry-node : (ds : List Node) (rs : List (Option Relation)) (x : Entry) → T (entryOk ds rs x) → entryNode x < length ds
 entry-node ds rs (toRun i) h = ltb→lt i (length ds) h
-entry-node ds rs (visiting i v) h = ltb→lt i (length ds) (search (and-l, and-r))
+entry-node ds rs (visiting i v b) h = ltb→lt i (length ds) (search (and-l, and-r))
 
 pub record StackFacts (ds : List Node) (rs : List (Option Relation)) (s : List Entry) : Type 0 where
   pub sDepth : suc (length (below s)) ≤ 8
   pub sLength : length s ≡ suc (length (below s))
-  pub sEntries : T (all (entryOk ds rs) (below s))
+  pub sEntries : T (entriesOk ds rs (below s))
+  pub sAgrees : T (savedAgrees ds rs (top s ∷ below s) (top s))
   pub sTop : T (entryOk ds rs (top s))
 
 pub stack-facts : (ds : List Node) (rs : List (Option Relation)) (s : List Entry) → T (stackOk ds rs s) → StackFacts ds rs s
@@ -68,7 +70,8 @@ stack-facts ds rs (x ∷ s) h =
     record {
       sDepth = leb→le (suc (length s)) 8 (search (and-l, and-r));
       sLength = refl;
-      sEntries = search (and-l, and-r);
+      sEntries = and-in (all (entryOk ds rs) s) (allSavedAgree ds rs s) (search (and-l, and-r)) (search (and-l, and-r));
+      sAgrees = search (and-l, and-r);
       sTop = search (and-l, and-r);
     }
 
@@ -126,6 +129,7 @@ sure net p h =
       stackLength = s .sLength;
       entries = s .sEntries;
       topOk = s .sTop;
+      topAgrees = s .sAgrees;
       nodeIs = refl;
       number = d .0;
       node = d .1;

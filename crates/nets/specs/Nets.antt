@@ -90,6 +90,9 @@ isAggregate k = eqb (code k) 22
 abbrev pub isLoop : Kind → Bool
 isLoop k = among (code k) (25 ∷ 26 ∷ [])
 
+abbrev pub isSequential : Kind → Bool
+isSequential k = eqb (code k) 25
+
 abbrev pub isParallel : Kind → Bool
 isParallel k = eqb (code k) 26
 
@@ -116,15 +119,15 @@ pub record Node : Type 0 where
 
 -- ── threads ──
 
--- a node to run, or a loop node with the rows still to visit
-pub data Entry : Type 0 where
-  toRun : ℕ → Entry
-  visiting : ℕ → List ℕ → Entry
-
 -- variables 0..15 and table variables 0..1, each bound or not
 pub record Bindings : Type 0 where
   pub vars : Vars
   pub relations : List (Option Relation)
+
+-- a node to run, or a loop node with the rows still to visit and the bindings of the moment when it was first met. Those of a sequential loop come back after each round; those of a parallel loop are never looked at
+pub data Entry : Type 0 where
+  toRun : ℕ → Entry
+  visiting : ℕ → List ℕ → Bindings → Entry
 
 -- the stack's top comes first
 pub record Thread : Type 0 where

@@ -128,7 +128,7 @@ result p = aggregated (p .node .function) (p .node .column) (hitRows p)
 
 abbrev pub stillToVisit : Entry → ℕ → List ℕ
 stillToVisit (toRun i) n = places 0 n
-stillToVisit (visiting i v) n = v
+stillToVisit (visiting i v b) n = v
 
 -- the places still to visit: all rows where the loop is first met
 unfoldable pub visit : Scene → List ℕ

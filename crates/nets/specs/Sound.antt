@@ -9,17 +9,17 @@ use Rattle.values.specs.declared.Operand.{Operand}
 use Rattle.values.specs.declared.Operand.the-variants.{Absent, ConstInt, ConstText, ConstLoc, Var, Plus, Formal}
 use Rattle.values.specs.declared.Got.{Got}
 use Rattle.values.specs.declared.Got.the-variants.{Nothing, One}
-use Rattle.values.specs.Lists.{all, any, among}
-use Rattle.values.specs.Values.{sameSite, siteOk, sameLocality, localityOk, inRange, in32, isText}
+use Rattle.values.specs.Lists.{all, any, among, agree}
+use Rattle.values.specs.Values.{sameSite, siteOk, sameLocality, localityOk, inRange, in32, isText, sameRow}
 use Rattle.values.specs.Operands.{formals}
 use Rattle.rows.specs.declared.Test.{Test}
 use Rattle.rows.specs.declared.Test.the-variants.{Always, Equal, Unequal, Less, AtMost}
 use Rattle.rows.specs.declared.Function.{Function}
 use Rattle.rows.specs.declared.Function.the-variants.{Unused, Count, Sum, Least, Largest}
 use Rattle.rows.specs.Relations.{Row, Columns, Relation}
-use Rattle.rows.specs.Fit.{relationFits}
+use Rattle.rows.specs.Fit.{relationFits, sameColumns}
 use Rattle.nets.specs.declared.Alias.{Alias}
-use Rattle.nets.specs.Nets.{Table, Kind, other, badKind, code, hasLocality, isCreate, hasTemplate, hasTest, hasTuple, isSelect, readsRelation, bindsRelation, isAggregate, isLoop, Node, Entry, toRun, visiting, Bindings, Thread, Net}
+use Rattle.nets.specs.Nets.{Table, Kind, other, badKind, code, hasLocality, isCreate, hasTemplate, hasTest, hasTuple, isSelect, readsRelation, bindsRelation, isAggregate, isLoop, isSequential, Node, Entry, toRun, visiting, Bindings, Thread, Net}
 use Rattle.nets.specs.Tables.{rowsFit, distinct}
 
 -- ── what stands where nothing is ──
@@ -48,7 +48,7 @@ noThread = record { site = record { 0 = 0 }; bindings = record { vars = []; rela
 -- an entry's node
 abbrev pub entryNode : Entry → ℕ
 entryNode (toRun i) = i
-entryNode (visiting i v) = i
+entryNode (visiting i v b) = i
 
 -- ── tables, rows, variables ──
 
@@ -191,14 +191,42 @@ abbrev pub hasPlaces : List ℕ → Option Relation → Bool
 hasPlaces v none = false
 hasPlaces v (some r) = all (λ i. ltb i (length (r .rows))) v
 
--- an entry to run names a node; a loop entry a loop node whose table variable is bound and has the places
+-- an entry to run names a node; a loop entry a loop node whose table variable is bound and has the places. What a sequential loop's entry holds is under the limits and ranges of a thread's own bindings
 abbrev pub entryOk : List Node → List (Option Relation) → Entry → Bool
 entryOk ds rs (toRun i) = ltb i (length ds)
-entryOk ds rs (visiting i v) =
-    ltb i (length ds) && isLoop (getD ds i noNode .kind) && hasPlaces v (getD rs (getD ds i noNode .read) none)
+entryOk ds rs (visiting i v b) =
+    ltb i (length ds)
+    && isLoop (getD ds i noNode .kind)
+    && hasPlaces v (getD rs (getD ds i noNode .read) none)
+    && (not (isSequential (getD ds i noNode .kind)) || bindingsOk b)
+
+-- both unbound; or both bound, with equal columns and equal rows in order
+abbrev pub sameRelation : Option Relation → Option Relation → Bool
+sameRelation none none = true
+sameRelation none (some r) = false
+sameRelation (some q) none = false
+sameRelation (some q) (some r) = sameColumns (q .columns) (r .columns) && agree sameRow (q .rows) (r .rows)
+
+-- table variables `rs` and `qs` agree on the one that an entry holds; an entry to run holds none
+abbrev pub agreeOn : List Node → List (Option Relation) → List (Option Relation) → Entry → Bool
+agreeOn ds rs qs (toRun i) = true
+agreeOn ds rs qs (visiting i v b) = sameRelation (getD rs (getD ds i noNode .read) none) (getD qs (getD ds i noNode .read) none)
+
+-- what a sequential loop's entry `x` holds agrees with the thread's own table variables `rs` on each that one of the entries `s` holds
+abbrev pub savedAgrees : List Node → List (Option Relation) → List Entry → Entry → Bool
+savedAgrees ds rs s (toRun i) = true
+savedAgrees ds rs s (visiting i v b) = not (isSequential (getD ds i noNode .kind)) || all (agreeOn ds rs (b .relations)) s
+
+-- of each entry, on what that entry or a loop entry below it holds
+abbrev pub allSavedAgree : List Node → List (Option Relation) → List Entry → Bool
+allSavedAgree ds rs [] = true
+allSavedAgree ds rs (x ∷ s) = savedAgrees ds rs (x ∷ s) x && allSavedAgree ds rs s
+
+abbrev pub entriesOk : List Node → List (Option Relation) → List Entry → Bool
+entriesOk ds rs s = all (entryOk ds rs) s && allSavedAgree ds rs s
 
 abbrev pub stackOk : List Node → List (Option Relation) → List Entry → Bool
-stackOk ds rs s = leb 1 (length s) && leb (length s) 8 && all (entryOk ds rs) s
+stackOk ds rs s = leb 1 (length s) && leb (length s) 8 && entriesOk ds rs s
 
 abbrev pub threadOk : List Node → Thread → Bool
 threadOk ds t = siteOk (t .site) && bindingsOk (t .bindings) && stackOk ds (t .bindings .relations) (t .stack)

@@ -15,7 +15,7 @@ use Rattle.rows.specs.Fit.{fits, sameColumns}
 use Rattle.row_change.specs.Changes.{changes, updated, selection}
 use Rattle.row_change.specs.Aggregates.{columnFits}
 use Rattle.nets.specs.declared.Pick.{Pick}
-use Rattle.nets.specs.Nets.{Table, Kind, acting, other, insert, insertTable, delete, update, create, drop, hasLocality, needsTable, isCreate, hasTemplate, readsRelation, bindsRelation, isAggregate, isParallel, Node, Entry, toRun, visiting, Bindings, Thread, Net, Outcome, refused, done}
+use Rattle.nets.specs.Nets.{Table, Kind, acting, other, insert, insertTable, delete, update, create, drop, hasLocality, needsTable, isCreate, hasTemplate, readsRelation, bindsRelation, isAggregate, isSequential, isParallel, Node, Entry, toRun, visiting, Bindings, Thread, Net, Outcome, refused, done}
 use Rattle.nets.specs.Tables.{change, remove}
 use Rattle.nets.specs.Sound.{sound, noNode, entryNode}
 use Rattle.nets.specs.Scenes.{Scene, below, sceneOf, vars, template, siteOfL, site, table, Parts, parts, hitRows, ownDraft, result, visit, rowAt, pickReady, opens}
@@ -77,7 +77,7 @@ check16 p = templateFits (p .node .kind) p && insertFits (p .node .kind) p && fu
 -- a loop entry holds the table variable
 abbrev pub holds : List Node → ℕ → Entry → Bool
 holds ds v (toRun i) = false
-holds ds v (visiting i l) = eqb v (getD ds i noNode .read)
+holds ds v (visiting i l b) = eqb v (getD ds i noNode .read)
 
 -- one holds the table variable that the step binds
 abbrev pub held : Scene → Bool
@@ -173,7 +173,7 @@ varsBy k p = cond (isAggregate k) (bind (p .node .result ∷ []) (result p ∷ [
 abbrev pub withVars : Bindings → Vars → Bindings
 withVars b e = record { vars = e; relations = b .relations }
 
--- variables keep their last binding
+-- variables keep their last binding, until a round of a sequential loop ends (`restored`)
 unfoldable pub bindingsBy : Kind → Scene → Bindings
 bindingsBy k c =
     record {
@@ -194,9 +194,15 @@ abbrev pub keepThread : Thread → List Entry → List Thread
 keepThread t [] = []
 keepThread t (x ∷ xs) = withStack t (x ∷ xs) ∷ []
 
+-- what a round binds ends with the round: where the entry above a sequential loop's entry is removed, the bindings that this one holds come back, all of them
+abbrev pub restored : List Node → Thread → List Entry → Thread
+restored ds t [] = t
+restored ds t (toRun i ∷ s) = t
+restored ds t (visiting i v b ∷ s) = cond (isSequential (getD ds i noNode .kind)) (withBindings t b) t
+
 -- going on, with `s` the stack below the top: to next, or with 255 the entry is removed
-abbrev pub goOn : ℕ → Thread → List Entry → List Thread
-goOn next t s = cond (eqb next 255) (keepThread t s) (keepThread t (toRun next ∷ s))
+abbrev pub goOn : List Node → ℕ → Thread → List Entry → List Thread
+goOn ds next t s = cond (eqb next 255) (keepThread (restored ds t s) s) (keepThread t (toRun next ∷ s))
 
 -- the thread at a place gives way to what became of it; where nothing did, the list closes up
 abbrev pub settle : ℕ → List Thread → List Thread → List Thread
@@ -208,15 +214,20 @@ settle (suc i) us (t ∷ ts) = t ∷ settle i us ts
 abbrev pub plain : Scene → List Thread
 plain c =
     settle (c .at)
-    (goOn (c .node .next) (withBindings (c .thread) (bindingsBy (c .node .kind) c)) (below (c .thread .stack)))
+    (goOn (c .net .nodes) (c .node .next) (withBindings (c .thread) (bindingsBy (c .node .kind) c)) (below (c .thread .stack)))
     (c .net .threads)
 
 -- a round: T's formals bound to the row picked, and the loop entry without its place
 abbrev pub roundBindings : Scene → Bindings
 roundBindings c = withVars (c .thread .bindings) (rowVars (vars c) (template c) (rowAt c (c .row)))
 
+-- the bindings of the moment when the loop was first met: the thread's own before its first round, and from then on those that its entry holds
+abbrev pub firstMet : Thread → Entry → Bindings
+firstMet t (toRun i) = t .bindings
+firstMet t (visiting i v b) = b
+
 abbrev pub loopEntry : Scene → Entry
-loopEntry c = visiting (entryNode (c .entry)) (filter (λ i. not (eqb i (c .row))) (visit c))
+loopEntry c = visiting (entryNode (c .entry)) (filter (λ i. not (eqb i (c .row))) (visit c)) (firstMet (c .thread) (c .entry))
 
 -- sequential: the formals bind in the thread, and the body goes on the stack
 abbrev pub sequentialRound : Scene → List Thread

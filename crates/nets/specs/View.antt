@@ -1,6 +1,6 @@
 -- The net of the model that a net of the code stands for. Lists are as long as the counts say, even past an array's end, so that a count out of
 -- its range is seen by the model's limits.
-use Prim.Native.Nat.{ℕ, zero, suc}
+use Prim.Native.Nat.{ℕ, zero, suc, _+_, _*_}
 use mathlib.Core.Bool.{Bool, false, cond}
 use mathlib.Core.List.{List, [], _∷_, map}
 use mathlib.Core.Option.{Option, none, some}
@@ -9,7 +9,7 @@ use lib.ListN.{getD}
 use Rattle.values.specs.declared.Site.{Site}
 use Rattle.values.specs.declared.Operand.the-variants.{Absent}
 use Rattle.values.specs.declared.Slot.{Slot}
-use Rattle.values.specs.Lists.{find, firsts, keep, orElse}
+use Rattle.values.specs.Lists.{find, firsts, keep, orElse, places}
 use Rattle.values.specs.Operands.{varsOf}
 use Rattle.rows.specs.declared.Test.the-variants.{Always}
 use Rattle.rows.specs.declared.Function.the-variants.{Unused}
@@ -24,10 +24,12 @@ use Rattle.nets.specs.declared.Entry.{Entry}
 use Rattle.nets.specs.declared.Entry.the-variants.{Run, Loop}
 use Rattle.nets.specs.declared.Frame.{Frame}
 use Rattle.nets.specs.declared.TableVariable.{TableVariable}
+use Rattle.nets.specs.declared.Saved.{Saved}
 use Rattle.nets.specs.declared.Thread.{Thread}
 use Rattle.nets.specs.declared.Net.{Net}
 use Rattle.nets.specs.declared.Pick.{Pick}
 use Rattle.nets.specs.Nets as M
+use Rattle.nets.specs.Sound as S
 use Rattle.nets.specs.Nets.{Kind, acting, other, insert, insertTable, delete, update, create, drop, select, selectRelation, aggregate, sequential, parallel, badKind, code, toRun, visiting}
 
 -- ── what the logic reads past an array's end ──
@@ -69,6 +71,9 @@ noNode =
 
 abbrev pub noVariable : TableVariable
 noVariable = record { bound = false; content = noContent }
+
+abbrev pub noSaved : Saved
+noSaved = record { vars = []; other = noVariable }
 
 abbrev pub noFrame : Frame
 noFrame = record { entry = Run 0; visit = [] }
@@ -134,18 +139,18 @@ abbrev pub marked : ℕ → List Bool → List ℕ
 marked i [] = []
 marked i (b ∷ l) = keep b i (marked (suc i) l)
 
--- all flags count, also those past the rows
-abbrev pub entryWith : List Bool → Entry → M.Entry
-entryWith v (Run i) = toRun i
-entryWith v (Loop i) = visiting i (marked 0 v)
+-- with the bindings `b` that a loop's entry holds. All flags count, also those past the rows
+abbrev pub entryWith : M.Bindings → List Bool → Entry → M.Entry
+entryWith b v (Run i) = toRun i
+entryWith b v (Loop i) = visiting i (marked 0 v) b
 
-abbrev pub entryOf : Frame → M.Entry
-entryOf f = entryWith (f .visit) (f .entry)
+abbrev pub entryOf : M.Bindings → Frame → M.Entry
+entryOf b f = entryWith b (f .visit) (f .entry)
 
--- the first `n` frames, the last of them first: it is the top
-abbrev pub stackOf : ℕ → List Frame → List M.Entry
-stackOf zero l = []
-stackOf (suc n) l = entryOf (getD l n noFrame) ∷ stackOf n l
+-- the first `n` frames, the last of them first: it is the top. `bs` gives what the entry at each place holds
+abbrev pub stackOf : (ℕ → M.Bindings) → ℕ → List Frame → List M.Entry
+stackOf bs zero l = []
+stackOf bs (suc n) l = entryOf (bs n) (getD l n noFrame) ∷ stackOf bs n l
 
 abbrev pub variableOf : TableVariable → Option Relation
 variableOf v = cond (v .bound) (some (relationOf (v .content))) none
@@ -153,8 +158,27 @@ variableOf v = cond (v .bound) (some (relationOf (v .content))) none
 abbrev pub bindingsOf : List Slot → List TableVariable → M.Bindings
 bindingsOf vs rs = record { vars = varsOf vs; relations = map variableOf rs }
 
-abbrev pub threadOf : Thread → M.Thread
-threadOf t = record { site = t .site; bindings = bindingsOf (t .vars) (t .relations); stack = stackOf (t .depth) (t .stack) }
+abbrev pub threadOf : (ℕ → M.Bindings) → Thread → M.Thread
+threadOf bs t = record { site = t .site; bindings = bindingsOf (t .vars) (t .relations); stack = stackOf bs (t .depth) (t .stack) }
+
+-- ── what the entries of loops hold ──
+
+-- the bindings that are saved for a loop that reads table variable 0, or 1. That one is the thread's own, since it can't be bound anew while the loop's entry stands; only the other is stored
+abbrev pub savedOf : ℕ → List TableVariable → Saved → M.Bindings
+savedOf zero rs b = record { vars = varsOf (b .vars); relations = variableOf (getD rs 0 noVariable) ∷ variableOf (b .other) ∷ [] }
+savedOf (suc i) rs b = record { vars = varsOf (b .vars); relations = variableOf (b .other) ∷ variableOf (getD rs 1 noVariable) ∷ [] }
+
+abbrev pub nodeIn : Entry → ℕ
+nodeIn (Run i) = i
+nodeIn (Loop i) = i
+
+-- the table variable that a frame's node reads
+abbrev pub readAt : List M.Node → Frame → ℕ
+readAt ds f = getD ds (nodeIn (f .entry)) S.noNode .read
+
+-- what the entry at each place `j` of the stack of the thread at place `i` holds
+abbrev pub savedAt : List M.Node → List Saved → ℕ → Thread → ℕ → M.Bindings
+savedAt ds l i t j = savedOf (readAt ds (getD (t .stack) j noFrame)) (t .relations) (getD l (i * 8 + j) noSaved)
 
 -- ── the net ──
 
@@ -167,8 +191,12 @@ tablesOf n l = firsts tableOf noTable n l
 abbrev pub nodesOf : ℕ → List Node → List M.Node
 nodesOf n l = firsts nodeOf noNode n l
 
-abbrev pub threadsOf : ℕ → List Thread → List M.Thread
-threadsOf n l = firsts threadOf noThread n l
+-- the thread at a place, with what the entries of its loops hold
+abbrev pub threadAt : List M.Node → List Saved → List Thread → ℕ → M.Thread
+threadAt ds saved l i = threadOf (savedAt ds saved i (getD l i noThread)) (getD l i noThread)
+
+abbrev pub threadsOf : List M.Node → List Saved → ℕ → List Thread → List M.Thread
+threadsOf ds saved n l = map (threadAt ds saved l) (places 0 n)
 
 unfoldable pub view : Net → M.Net
 view net =
@@ -176,5 +204,5 @@ view net =
       aliases = aliasesOf (net .aliascount) (net .aliases);
       tables = tablesOf (net .tablecount) (net .tables);
       nodes = nodesOf (net .nodecount) (net .nodes);
-      threads = threadsOf (net .threadcount) (net .threads);
+      threads = threadsOf (nodesOf (net .nodecount) (net .nodes)) (net .saved) (net .threadcount) (net .threads);
     }

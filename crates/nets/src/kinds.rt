@@ -1,6 +1,6 @@
 // Classes of node kinds, by the kind byte.
 ghost use mathlib.Core.Path.{_≡_};
-ghost use Rattle.nets.specs.Nets.{hasLocality, needsTable, hasTest, hasTuple, isSelect, readsRelation, bindsRelation, isLoop, isUpdate, isAggregate, isCreate, isParallel};
+ghost use Rattle.nets.specs.Nets.{hasLocality, needsTable, hasTest, hasTuple, isSelect, readsRelation, bindsRelation, isLoop, isUpdate, isAggregate, isCreate, isParallel, isSequential};
 ghost use Rattle.nets.specs.View.{kindAt};
 
 // The step has an L and a name.
@@ -104,6 +104,15 @@ pub fn is_aggregate(kind: u8) -> bool
 {
     match kind {
         22 => true,
+        _ => false,
+    }
+}
+
+pub fn is_sequential(kind: u8) -> bool
+    ensures { λ r. ⌜ r ≡ isSequential (kindAt kind) ⌝ }
+{
+    match kind {
+        25 => true,
         _ => false,
     }
 }

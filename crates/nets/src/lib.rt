@@ -59,6 +59,13 @@ pub struct TableVariable {
     pub content: Relation,
 }
 
+// What a loop's entry holds: the variables of the moment when the loop was first met, and the table variable that the loop does not read. The one that it
+// reads is the thread's own, since it can't be bound anew while the entry stands.
+pub struct Saved {
+    pub vars: [Slot; 16],
+    pub other: TableVariable,
+}
+
 // The stack's top is its last frame in use.
 pub struct Thread {
     pub site: Site,
@@ -77,6 +84,8 @@ pub struct Net {
     pub nodecount: usize,
     pub threads: [Thread; 8],
     pub threadcount: usize,
+    // For the entry at place j of the stack of thread i at i * 8 + j. It stands here and not in the frame, so that nothing that hands on a thread copies it.
+    pub saved: [Saved; 64],
 }
 
 // A pick names a thread place and a row place. Lists of picks come from outside, so the layout is C's.

@@ -3,6 +3,7 @@ pub mod AgreeLaws
 pub mod Arrays
 pub mod BindLaws
 pub mod Bools
+pub mod ByPlace
 pub mod Firsts
 pub mod FlagLaws
 pub mod Ints
