@@ -1,9 +1,7 @@
 //! The steps that are no loop rounds. Each makes all its checks before it changes anything.
 
 use crate::aggregate::fold;
-use crate::net::{
-    Act, Address, Aliases, Entry, Filter, Function, Loop, Node, Table, Thread, TABLES,
-};
+use crate::net::{Act, Address, Aliases, Entry, Filter, Function, Node, Table, Thread, TABLES};
 use crate::number;
 use crate::operand::{Operand, Operands};
 use crate::quirk::{wrong, Quirk};
@@ -43,7 +41,7 @@ impl Stage<'_> {
 
     fn insert(&mut self, into: &Address, tuple: &Operands) -> Answer {
         let locality = self.read(into.locality)?;
-        let terms = Terms::new(tuple, &[], &self.thread.variables)?;
+        let terms = Terms::new(tuple, &[], &self.thread.bindings.variables)?;
         let place = self.find(locality, into.name)?;
         let relation = &mut self.tables[place].relation;
         let row = terms.row(&[]).filter(|row| fits(&relation.columns, row));
@@ -57,7 +55,7 @@ impl Stage<'_> {
 
     fn insert_table(&mut self, into: &Address, read: u8) -> Answer {
         let locality = self.read(into.locality)?;
-        let source = self.thread.table_variable(read)?;
+        let source = self.thread.bindings.table(read)?;
         let place = self.find(locality, into.name)?;
         let relation = &mut self.tables[place].relation;
         if source.columns != relation.columns {
@@ -72,12 +70,12 @@ impl Stage<'_> {
 
     fn delete(&mut self, from: &Address, filter: &Filter, bound: u8) -> Answer {
         let locality = self.read(from.locality)?;
-        let selection = Selection::new(filter, &self.thread.variables)?;
+        let selection = Selection::new(filter, &self.thread.bindings.variables)?;
         let place = self.find(locality, from.name)?;
         let relation = &mut self.tables[place].relation;
         selection.pattern.suits(&relation.columns)?;
         free(self.nodes, self.thread, bound)?;
-        let taken = self.thread.bind_table(bound, relation.columns);
+        let taken = self.thread.bindings.bind_table(bound, relation.columns);
         relation.rows.retain(|row| {
             let takes = selection.takes(row);
             if takes {
@@ -90,8 +88,8 @@ impl Stage<'_> {
 
     fn select(&mut self, from: &Address, filter: &Filter, tuple: &Operands, bound: u8) -> Answer {
         let locality = self.read(from.locality)?;
-        let selection = Selection::new(filter, &self.thread.variables)?;
-        let terms = Terms::new(tuple, &filter.template, &self.thread.variables)?;
+        let selection = Selection::new(filter, &self.thread.bindings.variables)?;
+        let terms = Terms::new(tuple, &filter.template, &self.thread.bindings.variables)?;
         let place = self.find(locality, from.name)?;
         let source = &self.tables[place].relation;
         selection.pattern.suits(&source.columns)?;
@@ -107,10 +105,10 @@ impl Stage<'_> {
         tuple: &Operands,
         bound: u8,
     ) -> Answer {
-        let selection = Selection::new(filter, &self.thread.variables)?;
-        let terms = Terms::new(tuple, &filter.template, &self.thread.variables)?;
+        let selection = Selection::new(filter, &self.thread.bindings.variables)?;
+        let terms = Terms::new(tuple, &filter.template, &self.thread.bindings.variables)?;
         // A copy, since the variable read may be the one bound.
-        let source = *self.thread.table_variable(read)?;
+        let source = *self.thread.bindings.table(read)?;
         selection.pattern.suits(&source.columns)?;
         free(self.nodes, self.thread, bound)?;
         store(self.thread, bound, &source, &selection, terms);
@@ -119,8 +117,8 @@ impl Stage<'_> {
 
     fn update(&mut self, at: &Address, filter: &Filter, tuple: &Operands) -> Answer {
         let locality = self.read(at.locality)?;
-        let selection = Selection::new(filter, &self.thread.variables)?;
-        let terms = Terms::new(tuple, &filter.template, &self.thread.variables)?;
+        let selection = Selection::new(filter, &self.thread.bindings.variables)?;
+        let terms = Terms::new(tuple, &filter.template, &self.thread.bindings.variables)?;
         let place = self.find(locality, at.name)?;
         let relation = &mut self.tables[place].relation;
         selection.pattern.suits(&relation.columns)?;
@@ -148,14 +146,14 @@ impl Stage<'_> {
         result: Operand,
     ) -> Answer {
         let locality = self.read(over.locality)?;
-        let selection = Selection::new(filter, &self.thread.variables)?;
+        let selection = Selection::new(filter, &self.thread.bindings.variables)?;
         let wanted = self.read(result)?;
         let place = self.find(locality, over.name)?;
         let relation = &self.tables[place].relation;
         selection.pattern.suits(&relation.columns)?;
         let value = fold(function, relation, &selection)?;
         match result {
-            Operand::Formal(v) => self.thread.variables[usize::from(v)] = Some(value),
+            Operand::Formal(v) => self.thread.bindings.variables[usize::from(v)] = Some(value),
             _ if wanted.is_some_and(|wanted| wanted.matches(value)) => {}
             _ => return Err(number::NO_RESULT),
         }
@@ -183,7 +181,7 @@ impl Stage<'_> {
     }
 
     fn read(&self, operand: Operand) -> Result<Option<Value>, u8> {
-        read(operand, &self.thread.variables)
+        read(operand, &self.thread.bindings.variables)
     }
 
     fn site(&self, locality: Option<Value>) -> Result<Site, u8> {
@@ -212,10 +210,7 @@ fn same_name(a: Text, b: Text) -> bool {
 fn free(nodes: &[Node], thread: &Thread, variable: u8) -> Result<(), u8> {
     let held = thread.stack.iter().any(|entry| match *entry {
         Entry::Loop { left, .. } if left.is_empty() && wrong(Quirk::HeldWhileRows) => false,
-        Entry::Loop { node, .. } => {
-            matches!(nodes[usize::from(node)].act, Act::Loop(Loop { read, .. }) if read == variable)
-        }
-        Entry::Run(_) => false,
+        entry => entry.looping(nodes).is_some_and(|looping| looping.read == variable),
     });
     if held {
         return Err(number::HELD);
@@ -234,7 +229,7 @@ fn store(
     if wrong(Quirk::SelectDropsConstants) {
         terms.drop_fixed();
     }
-    let target = thread.bind_table(bound, terms.columns(&source.columns));
+    let target = thread.bindings.bind_table(bound, terms.columns(&source.columns));
     let taken = source.rows.iter().filter(|row| selection.takes(row));
     for row in taken.filter_map(|row| terms.row(row)) {
         if wrong(Quirk::SelectSet) && target.rows.contains(&row) {

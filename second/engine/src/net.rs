@@ -33,12 +33,22 @@ pub struct Table {
 
 pub type Variables = [Option<Value>; VARIABLES as usize];
 
+/// Variables and table variables, each bound or not.
+#[derive(Clone, PartialEq, Eq, Debug, Default)]
+pub struct Bindings {
+    pub variables: Variables,
+    pub tables: [Option<Relation>; TABLE_VARIABLES as usize],
+}
+
 #[derive(Clone, PartialEq, Eq, Debug)]
 pub struct Thread {
     pub site: Site,
-    pub variables: Variables,
-    pub tables: [Option<Relation>; TABLE_VARIABLES as usize],
+    pub bindings: Bindings,
     pub stack: List<Entry, 8>,
+    /// What each sequential loop's entry holds: the bindings of the moment the loop was first met.
+    /// One for each of these entries, from the bottom of the stack to its top. They stand apart
+    /// from the stack because they are large and few.
+    pub kept: Vec<Bindings>,
 }
 
 #[derive(Clone, Copy, PartialEq, Eq, Debug)]
@@ -140,13 +150,15 @@ impl Thread {
     pub fn new(site: Site, node: u8) -> Thread {
         Thread {
             site,
-            variables: Variables::default(),
-            tables: [None; TABLE_VARIABLES as usize],
+            bindings: Bindings::default(),
             stack: List::from_iter([Entry::Run(node)]),
+            kept: Vec::new(),
         }
     }
+}
 
-    pub fn table_variable(&self, variable: u8) -> Result<&Relation, u8> {
+impl Bindings {
+    pub fn table(&self, variable: u8) -> Result<&Relation, u8> {
         self.tables[usize::from(variable)].as_ref().ok_or(number::UNBOUND)
     }
 
@@ -168,6 +180,14 @@ impl Entry {
     pub fn node(self) -> u8 {
         match self {
             Entry::Run(node) | Entry::Loop { node, .. } => node,
+        }
+    }
+
+    /// The loop that this is a loop entry of; none for an entry to run.
+    pub fn looping(self, nodes: &[Node]) -> Option<&Loop> {
+        match (self, &nodes.get(usize::from(self.node()))?.act) {
+            (Entry::Loop { .. }, Act::Loop(looping)) => Some(looping),
+            _ => None,
         }
     }
 }

@@ -44,6 +44,26 @@ pub enum Quirk {
     EagerNext,
     /// The seventeenth row is found before a row that doesn't fit.
     RowLimitFirst,
+    /// A sequential loop keeps the formals of its first round too.
+    KeptWithFormals,
+    /// A sequential loop keeps what is bound after the formals of each round.
+    KeptEachRound,
+    /// Only variables come back after a round.
+    BackVariables,
+    /// Only the loop's own formals come back after a round.
+    BackFormals,
+    /// Bindings come back at every step of the body.
+    BackEachStep,
+    /// Bindings come back at the loop's next pick, after T was judged.
+    BackAtNextPick,
+    /// Bindings don't come back where the entry removed is a loop that is over.
+    BackAfterActions,
+    /// Bindings come back at the loop's next pick, before T is judged.
+    BackBeforeNextPick,
+    /// A sequential loop keeps what is bound before the formals of each round.
+    KeptAgain,
+    /// Bindings come back under a parallel loop's entry too.
+    BackUnderForks,
     /// The sums of a page wrap at 32 bits.
     PageSumWraps,
     /// The page of a table without rows has no line at all.

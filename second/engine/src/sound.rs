@@ -1,9 +1,10 @@
 //! Soundness of a net, and the part of check 4 that a loaded node must obey too.
 
+use crate::kept::keeps;
 use crate::list::List;
 use crate::net::{
-    Act, Address, Entry, Filter, Function, Loop, Net, Node, Places, Predicate, Table, Thread,
-    NODES, TABLES, TABLE_VARIABLES, THREADS,
+    Act, Address, Bindings, Entry, Filter, Function, Loop, Net, Node, Places, Predicate, Table,
+    Thread, NODES, TABLES, TABLE_VARIABLES, THREADS,
 };
 use crate::operand::{Operand, Operands};
 use crate::relation::{fits, Relation};
@@ -46,23 +47,50 @@ fn relation_sound(relation: &Relation) -> bool {
 
 fn thread_sound(thread: &Thread, nodes: &[Node]) -> bool {
     thread.site.in_range()
-        && thread.variables.iter().flatten().all(|value| value.in_range())
-        && thread.tables.iter().flatten().all(relation_sound)
+        && bindings_sound(&thread.bindings)
         && !thread.stack.is_empty()
         && thread.stack.iter().all(|entry| entry_sound(*entry, thread, nodes))
+        && kept_sound(thread, nodes)
+}
+
+fn bindings_sound(bindings: &Bindings) -> bool {
+    bindings.variables.iter().flatten().all(|value| value.in_range())
+        && bindings.tables.iter().flatten().all(relation_sound)
 }
 
 fn entry_sound(entry: Entry, thread: &Thread, nodes: &[Node]) -> bool {
     match (nodes.get(usize::from(entry.node())), entry) {
         (Some(_), Entry::Run(_)) => true,
         (Some(Node { act: Act::Loop(looping), .. }), Entry::Loop { left, .. }) => {
-            let source = thread.tables.get(usize::from(looping.read));
+            let source = thread.bindings.tables.get(usize::from(looping.read));
             source
                 .and_then(Option::as_ref)
                 .is_some_and(|source| left.0 & !Places::below(source.rows.len()).0 == 0)
         }
         _ => false,
     }
+}
+
+/// Whether each entry that keeps bindings has its own, and no more are kept. They are bindings like
+/// the thread's, and agree with these on the table variables that the entry or a loop entry of
+/// either kind below it holds, so that the places left to visit stay places when they come back.
+fn kept_sound(thread: &Thread, nodes: &[Node]) -> bool {
+    let mut kept = thread.kept.iter();
+    let mut held = [false; TABLE_VARIABLES as usize];
+    for looping in thread.stack.iter().filter_map(|entry| entry.looping(nodes)) {
+        held[usize::from(looping.read)] = true;
+        let sound = |kept| bindings_sound(kept) && agree(kept, &thread.bindings, held);
+        if keeps(looping) && !kept.next().is_some_and(sound) {
+            return false;
+        }
+    }
+    kept.next().is_none()
+}
+
+/// Whether the table variables that are held are bound alike: columns, and rows in order.
+fn agree(kept: &Bindings, own: &Bindings, held: [bool; TABLE_VARIABLES as usize]) -> bool {
+    let pairs = kept.tables.iter().zip(&own.tables);
+    pairs.zip(held).all(|((kept, own), held)| !held || kept.is_some() && kept == own)
 }
 
 /// Check 9 on a node: what it names is a node above its own number.

@@ -34,6 +34,7 @@ fn with_nums(lines: &[&'static str]) -> Vec<&'static str> {
     [&WORLD_LINES[..3], lines].concat()
 }
 
+/// What a round binds ends with it, so that nothing is bound after the loop.
 fn sequential() -> Example {
     let nodes = [
         select_card(1),
@@ -49,10 +50,10 @@ fn sequential() -> Example {
         (0, DONE),
         (0, INSERTED),
         (77, DONE),
-        (0, INSERTED),
-        (0, "no 11"),
+        (0, "no 12"),
+        (0, "no 12"),
     ];
-    let lines = with_nums(&["table 0 NUMS 3", "row 40", "row 36", "row 37"]);
+    let lines = with_nums(&["table 0 NUMS 2", "row 40", "row 36"]);
     case("25-sequential", &nodes, &picks, &lines)
 }
 
@@ -118,7 +119,7 @@ fn nested_forks() -> Example {
     scheduled("26-nested-forks", &nodes, &picks, &lines)
 }
 
-/// T of a loop is evaluated anew at each pick: the body makes another row match.
+/// T of a loop means the same in every round: that the body binds its variable anew is no matter.
 fn anew() -> Example {
     let bind = |next, function| {
         let node = node(AGGREGATE, next).name(b"CARD").at(loc(1)).function(function, 1);
@@ -130,8 +131,8 @@ fn anew() -> Example {
         node(SEQUENTIAL, END).body(3).template(&[formal(0), var(1)]),
         bind(END, LARGEST),
     ];
-    let picks = [(0, DONE), (0, DONE), (1, "no 19"), (0, DONE), (0, DONE), (0, "no 19"), (1, DONE)];
-    case("25-template-read-anew", &nodes, &picks, &WORLD_LINES)
+    let picks = [(0, DONE), (0, DONE), (1, "no 19"), (0, DONE), (0, DONE), (1, DONE), (1, "no 11")];
+    case("25-template-bound-anew", &nodes, &picks, &WORLD_LINES)
 }
 
 /// A Loc from a row serves as L, read at the thread's own site.
