@@ -1,4 +1,4 @@
-//! Each of the twenty-five wrong engines is told apart by the generated files.
+//! Each of the wrong engines that a text shows is told apart by the generated files.
 
 use compare::cases::stored_pages;
 use engine::quirk::Quirk;
@@ -37,6 +37,15 @@ fn generated_files_tell_wrong_pages_apart() {
     let (runs, pages) = (cases(engine::netrun), cases(engine::netpage));
     for quirk in Quirk::OF_PAGES {
         assert!(differs(quirk, &pages, engine::netpage), "{quirk:?} looks right on {FILES} files");
+        assert!(!differs(quirk, &runs, engine::netrun), "{quirk:?} shows in netrun's text");
+    }
+}
+
+/// Those are held to the right engine net by net, in `wrong_rounds.rs`.
+#[test]
+fn no_text_shows_what_only_a_net_shows() {
+    let runs = cases(engine::netrun);
+    for quirk in Quirk::OF_NETS.into_iter().chain(Quirk::OF_NETS_BY_HAND) {
         assert!(!differs(quirk, &runs, engine::netrun), "{quirk:?} shows in netrun's text");
     }
 }

@@ -1,4 +1,4 @@
-//! Twenty-five wrong engines, to show that the generated files tell them apart.
+//! Thirty-five wrong engines, to show that the generated files tell them apart.
 //! Without the feature `quirks` nothing of them is left in the program.
 
 /// One way of reading the rules wrongly.
@@ -97,7 +97,7 @@ mod switch {
 
     impl Quirk {
         /// Those that netrun's text shows.
-        pub const OF_RUNS: [Quirk; 20] = [
+        pub const OF_RUNS: [Quirk; 27] = [
             Quirk::ExactText,
             Quirk::LowerText,
             Quirk::UnlikeUnequal,
@@ -118,7 +118,20 @@ mod switch {
             Quirk::LooseGap,
             Quirk::EagerNext,
             Quirk::RowLimitFirst,
+            Quirk::KeptWithFormals,
+            Quirk::KeptEachRound,
+            Quirk::BackVariables,
+            Quirk::BackFormals,
+            Quirk::BackEachStep,
+            Quirk::BackAtNextPick,
+            Quirk::BackAfterActions,
         ];
+
+        /// Those that no text shows, but the net after a pick.
+        pub const OF_NETS: [Quirk; 1] = [Quirk::BackBeforeNextPick];
+
+        /// Those that show on sound nets alone that no file and picks lead to.
+        pub const OF_NETS_BY_HAND: [Quirk; 2] = [Quirk::KeptAgain, Quirk::BackUnderForks];
 
         /// Those that only netpage's text shows.
         pub const OF_PAGES: [Quirk; 5] = [

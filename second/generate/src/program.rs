@@ -219,7 +219,7 @@ impl Writer<'_> {
             self.append(chain, record);
         }
         self.forks(chain);
-        if let Some(record) = self.insert() {
+        for record in [self.insert(), self.insert()].into_iter().flatten() {
             self.append(chain, record);
         }
     }

@@ -28,7 +28,7 @@ pub fn net(random: &mut Random) -> Vec<Record> {
     let theme = random.weighted(&[
         (10, Theme::Mixed),
         (3, Theme::Deep),
-        (3, Theme::Forks),
+        (4, Theme::Forks),
         (4, Theme::Full),
         (3, Theme::Crowded),
         (3, Theme::Sums),
