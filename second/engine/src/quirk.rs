@@ -97,7 +97,7 @@ mod switch {
 
     impl Quirk {
         /// Those that netrun's text shows.
-        pub const OF_RUNS: [Quirk; 27] = [
+        pub const OF_RUNS: [Quirk; 20] = [
             Quirk::ExactText,
             Quirk::LowerText,
             Quirk::UnlikeUnequal,
@@ -118,6 +118,10 @@ mod switch {
             Quirk::LooseGap,
             Quirk::EagerNext,
             Quirk::RowLimitFirst,
+        ];
+
+        /// Those about what a round binds that netrun's text shows too.
+        pub const OF_ROUNDS: [Quirk; 7] = [
             Quirk::KeptWithFormals,
             Quirk::KeptEachRound,
             Quirk::BackVariables,
@@ -130,7 +134,7 @@ mod switch {
         /// Those that no text shows, but the net after a pick.
         pub const OF_NETS: [Quirk; 1] = [Quirk::BackBeforeNextPick];
 
-        /// Those that show on sound nets alone that no file and picks lead to.
+        /// Those that show only on sound nets that no file and picks lead to.
         pub const OF_NETS_BY_HAND: [Quirk; 2] = [Quirk::KeptAgain, Quirk::BackUnderForks];
 
         /// Those that only netpage's text shows.

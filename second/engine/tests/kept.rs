@@ -97,8 +97,11 @@ fn kept_bindings_have_the_ranges_of_a_threads_own() {
     });
 }
 
+/// A change of a table variable, and what it comes to.
+type Change = (&'static str, fn(&mut Option<Relation>));
+
 /// Ways for a table variable not to be bound alike, all within limits and ranges.
-fn disagreements() -> Vec<(&'static str, fn(&mut Option<Relation>))> {
+fn disagreements() -> Vec<Change> {
     vec![
         ("unbound", |kept| *kept = None),
         ("a row less", |kept| kept.as_mut().expect("bound").rows.pop()),
@@ -165,7 +168,7 @@ fn kept_bindings_need_not_agree_on_anything_else() {
 #[test]
 fn each_sequential_loops_entry_keeps_bindings_and_no_other() {
     unsound("none kept", &ROUND, |thread| thread.kept.clear());
-    unsound("one kept for two", &[OVER_0, OVER_1, STEP], |thread| drop(thread.kept.pop()));
+    unsound("one kept for two", &[OVER_0, OVER_1, STEP], |thread| thread.kept.truncate(1));
     let more = |thread: &mut Thread| thread.kept.push(thread.bindings.clone());
     unsound("two kept for one", &ROUND, more);
     unsound("kept for a parallel loop", &[FORKS_OVER_0], more);

@@ -2,6 +2,7 @@
 
 use engine::{load, sound, step, Act, Bindings, Entry, Net, Pick, Places, Value};
 use generate::record::*;
+use std::slice;
 
 const CARD: &Name = b"CARD";
 const NUMS: &Name = b"NUMS";
@@ -83,7 +84,7 @@ fn all_comes_back_in_the_very_step_that_removes_the_bodys_entry() {
         assert!(int_of(&net, 1).is_some() && bindings(&net).tables[1].is_some());
         done(&mut net, &[0]);
         assert_eq!(bindings(&net), met);
-        assert_eq!(net.threads[0].kept, [met.clone()]);
+        assert_eq!(net.threads[0].kept, slice::from_ref(&met));
     }
     // What the body did to tables stays.
     assert_eq!(net.tables[1].relation.rows.len(), 3);

@@ -94,7 +94,9 @@ impl Ended {
             return;
         }
         match net.threads.len() {
-            threads if threads < self.threads.len() => drop(self.threads.remove(place)),
+            threads if threads < self.threads.len() => {
+                self.threads.remove(place);
+            }
             threads if threads > self.threads.len() => self.count_fork(place, &before),
             _ => self.count_stay(place, &before, net),
         }
