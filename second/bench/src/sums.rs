@@ -22,11 +22,11 @@ pub fn with_net(sum: u64, net: &Net) -> u64 {
 }
 
 fn with_thread(sum: u64, thread: &Thread) -> u64 {
-    let variables = thread.bindings.variables.iter().fold(sum, |sum, held| match held {
+    let variables = thread.variables.iter().fold(sum, |sum, held| match held {
         Some(value) => with_value(sum, *value),
         None => with(sum, 0),
     });
-    let relations = thread.bindings.tables.iter().flatten().fold(variables, with_relation);
+    let relations = thread.tables.iter().flatten().fold(variables, with_relation);
     with(relations, thread.stack.len() as u64)
 }
 

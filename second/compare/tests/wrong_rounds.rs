@@ -24,9 +24,8 @@ impl Pair {
 
     /// What a thread kept is no matter until it comes back.
     fn differs(&self) -> bool {
-        let bound = |net: &Net| -> Vec<_> {
-            net.threads.iter().map(|thread| thread.bindings.clone()).collect()
-        };
+        let bound =
+            |net: &Net| -> Vec<_> { net.threads.iter().map(|thread| thread.bindings()).collect() };
         self.right.tables != self.wrong.tables || bound(&self.right) != bound(&self.wrong)
     }
 
@@ -71,7 +70,7 @@ fn nets_tell_when_bindings_come_back() {
 /// Binds a variable under a sequential loop's entry; puts the body above a parallel loop's.
 fn unreached(thread: &mut Thread, looping: &Loop) {
     if !looping.parallel {
-        thread.bindings.variables[15] = Some(Value::Int(77));
+        thread.variables[15] = Some(Value::Int(77));
     } else if !thread.stack.is_full() {
         thread.stack.push(Entry::Run(looping.body));
     }

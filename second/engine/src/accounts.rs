@@ -158,10 +158,10 @@ fn movement(net: &Net, pick: Pick) -> Option<Option<Movement>> {
     };
     match &node.act {
         Act::Insert { into, tuple } => {
-            on(into, vec![row_of(tuple, &thread.bindings.variables)?], Vec::new())
+            on(into, vec![row_of(tuple, &thread.variables)?], Vec::new())
         }
         Act::InsertTable { into, read } => {
-            let source = thread.bindings.tables[usize::from(*read)].as_ref()?;
+            let source = thread.tables[usize::from(*read)].as_ref()?;
             on(into, source.rows.to_vec(), Vec::new())
         }
         Act::Delete { from, filter, .. } => {
@@ -186,7 +186,7 @@ fn movement(net: &Net, pick: Pick) -> Option<Option<Movement>> {
 }
 
 fn site_meant(net: &Net, thread: &Thread, address: &Address) -> Option<Site> {
-    match value_of(address.locality, &thread.bindings.variables)? {
+    match value_of(address.locality, &thread.variables)? {
         Value::Loc(locality) => net.aliases.meant(thread.site, locality),
         _ => None,
     }
@@ -204,11 +204,11 @@ fn selected<'a>(
 ) -> impl Iterator<Item = (Row, Variables)> + 'a {
     let rows = table.relation.rows.iter().copied();
     rows.filter_map(|row| {
-        let mut bindings = thread.bindings.variables;
+        let mut bindings = thread.variables;
         for (operand, value) in filter.template.iter().zip(row.iter()) {
             match operand {
                 Operand::Formal(v) => bindings[usize::from(*v)] = Some(*value),
-                operand if value_of(*operand, &thread.bindings.variables)?.matches(*value) => {}
+                operand if value_of(*operand, &thread.variables)?.matches(*value) => {}
                 _ => return None,
             }
         }

@@ -41,7 +41,7 @@ impl Stage<'_> {
 
     fn insert(&mut self, into: &Address, tuple: &Operands) -> Answer {
         let locality = self.read(into.locality)?;
-        let terms = Terms::new(tuple, &[], &self.thread.bindings.variables)?;
+        let terms = Terms::new(tuple, &[], &self.thread.variables)?;
         let place = self.find(locality, into.name)?;
         let relation = &mut self.tables[place].relation;
         let row = terms.row(&[]).filter(|row| fits(&relation.columns, row));
@@ -55,7 +55,7 @@ impl Stage<'_> {
 
     fn insert_table(&mut self, into: &Address, read: u8) -> Answer {
         let locality = self.read(into.locality)?;
-        let source = self.thread.bindings.table(read)?;
+        let source = self.thread.table_variable(read)?;
         let place = self.find(locality, into.name)?;
         let relation = &mut self.tables[place].relation;
         if source.columns != relation.columns {
@@ -70,12 +70,12 @@ impl Stage<'_> {
 
     fn delete(&mut self, from: &Address, filter: &Filter, bound: u8) -> Answer {
         let locality = self.read(from.locality)?;
-        let selection = Selection::new(filter, &self.thread.bindings.variables)?;
+        let selection = Selection::new(filter, &self.thread.variables)?;
         let place = self.find(locality, from.name)?;
         let relation = &mut self.tables[place].relation;
         selection.pattern.suits(&relation.columns)?;
         free(self.nodes, self.thread, bound)?;
-        let taken = self.thread.bindings.bind_table(bound, relation.columns);
+        let taken = self.thread.bind_table(bound, relation.columns);
         relation.rows.retain(|row| {
             let takes = selection.takes(row);
             if takes {
@@ -88,8 +88,8 @@ impl Stage<'_> {
 
     fn select(&mut self, from: &Address, filter: &Filter, tuple: &Operands, bound: u8) -> Answer {
         let locality = self.read(from.locality)?;
-        let selection = Selection::new(filter, &self.thread.bindings.variables)?;
-        let terms = Terms::new(tuple, &filter.template, &self.thread.bindings.variables)?;
+        let selection = Selection::new(filter, &self.thread.variables)?;
+        let terms = Terms::new(tuple, &filter.template, &self.thread.variables)?;
         let place = self.find(locality, from.name)?;
         let source = &self.tables[place].relation;
         selection.pattern.suits(&source.columns)?;
@@ -105,10 +105,10 @@ impl Stage<'_> {
         tuple: &Operands,
         bound: u8,
     ) -> Answer {
-        let selection = Selection::new(filter, &self.thread.bindings.variables)?;
-        let terms = Terms::new(tuple, &filter.template, &self.thread.bindings.variables)?;
+        let selection = Selection::new(filter, &self.thread.variables)?;
+        let terms = Terms::new(tuple, &filter.template, &self.thread.variables)?;
         // A copy, since the variable read may be the one bound.
-        let source = *self.thread.bindings.table(read)?;
+        let source = *self.thread.table_variable(read)?;
         selection.pattern.suits(&source.columns)?;
         free(self.nodes, self.thread, bound)?;
         store(self.thread, bound, &source, &selection, terms);
@@ -117,8 +117,8 @@ impl Stage<'_> {
 
     fn update(&mut self, at: &Address, filter: &Filter, tuple: &Operands) -> Answer {
         let locality = self.read(at.locality)?;
-        let selection = Selection::new(filter, &self.thread.bindings.variables)?;
-        let terms = Terms::new(tuple, &filter.template, &self.thread.bindings.variables)?;
+        let selection = Selection::new(filter, &self.thread.variables)?;
+        let terms = Terms::new(tuple, &filter.template, &self.thread.variables)?;
         let place = self.find(locality, at.name)?;
         let relation = &mut self.tables[place].relation;
         selection.pattern.suits(&relation.columns)?;
@@ -146,14 +146,14 @@ impl Stage<'_> {
         result: Operand,
     ) -> Answer {
         let locality = self.read(over.locality)?;
-        let selection = Selection::new(filter, &self.thread.bindings.variables)?;
+        let selection = Selection::new(filter, &self.thread.variables)?;
         let wanted = self.read(result)?;
         let place = self.find(locality, over.name)?;
         let relation = &self.tables[place].relation;
         selection.pattern.suits(&relation.columns)?;
         let value = fold(function, relation, &selection)?;
         match result {
-            Operand::Formal(v) => self.thread.bindings.variables[usize::from(v)] = Some(value),
+            Operand::Formal(v) => self.thread.variables[usize::from(v)] = Some(value),
             _ if wanted.is_some_and(|wanted| wanted.matches(value)) => {}
             _ => return Err(number::NO_RESULT),
         }
@@ -181,7 +181,7 @@ impl Stage<'_> {
     }
 
     fn read(&self, operand: Operand) -> Result<Option<Value>, u8> {
-        read(operand, &self.thread.bindings.variables)
+        read(operand, &self.thread.variables)
     }
 
     fn site(&self, locality: Option<Value>) -> Result<Site, u8> {
@@ -229,7 +229,7 @@ fn store(
     if wrong(Quirk::SelectDropsConstants) {
         terms.drop_fixed();
     }
-    let target = thread.bindings.bind_table(bound, terms.columns(&source.columns));
+    let target = thread.bind_table(bound, terms.columns(&source.columns));
     let taken = source.rows.iter().filter(|row| selection.takes(row));
     for row in taken.filter_map(|row| terms.row(row)) {
         if wrong(Quirk::SelectSet) && target.rows.contains(&row) {

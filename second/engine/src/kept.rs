@@ -1,7 +1,7 @@
 //! What a round binds ends with the round: the bindings that a sequential loop's entry keeps from
 //! the moment the loop was first met, and how they come back.
 
-use crate::net::{Bindings, Entry, Loop, Node, Thread};
+use crate::net::{Entry, Loop, Node, Thread, Variables};
 use crate::operand::Operand;
 use crate::quirk::{wrong, Quirk};
 
@@ -12,7 +12,7 @@ pub fn keeps(looping: &Loop) -> bool {
 
 /// Keeps what stands bound, for the loop that the top entry has just become an entry of.
 pub fn keep(thread: &mut Thread) {
-    thread.kept.push(thread.bindings.clone());
+    thread.kept.push(thread.bindings());
 }
 
 /// The same in place of what that entry kept before.
@@ -54,18 +54,18 @@ fn restore(thread: &mut Thread, looping: &Loop) {
         return;
     };
     if wrong(Quirk::BackFormals) {
-        return restore_formals(&mut thread.bindings, kept, looping);
+        return restore_formals(&mut thread.variables, &kept.variables, looping);
     }
-    thread.bindings.variables = kept.variables;
+    thread.variables = kept.variables;
     if !wrong(Quirk::BackVariables) {
-        thread.bindings.tables = kept.tables;
+        thread.tables = kept.tables;
     }
 }
 
-fn restore_formals(bindings: &mut Bindings, kept: &Bindings, looping: &Loop) {
+fn restore_formals(variables: &mut Variables, kept: &Variables, looping: &Loop) {
     for operand in looping.template.iter() {
         if let Operand::Formal(v) = operand {
-            bindings.variables[usize::from(*v)] = kept.variables[usize::from(*v)];
+            variables[usize::from(*v)] = kept[usize::from(*v)];
         }
     }
 }

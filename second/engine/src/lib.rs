@@ -28,7 +28,7 @@ pub use list::List;
 pub use load::{load, Fault};
 pub use net::{
     Act, Address, Aliases, Bindings, Entry, Filter, Function, Loop, Net, Node, Pick, Places,
-    Predicate, Table, Test, Thread, Variables,
+    Predicate, Table, TableVariables, Test, Thread, Variables,
 };
 pub use operand::{Operand, Operands};
 pub use page::page;

@@ -21,11 +21,11 @@ pub fn open_round(
     if wrong(Quirk::BackBeforeNextPick) {
         bring_back_late(thread, looping);
     }
-    let pattern = Pattern::new(&looping.template, &thread.bindings.variables)?;
+    let pattern = Pattern::new(&looping.template, &thread.variables)?;
     if wrong(Quirk::BackAtNextPick) {
         bring_back_late(thread, looping);
     }
-    let source = thread.bindings.table(looping.read)?;
+    let source = thread.table_variable(looping.read)?;
     pattern.suits(&source.columns)?;
     let (node, left) = match thread.stack[thread.stack.len() - 1] {
         Entry::Run(node) => (node, Places::below(source.rows.len())),
@@ -65,7 +65,7 @@ fn descend(thread: &mut Thread, looping: &Loop, values: &Row, first: bool) {
     if wrong(Quirk::KeptAgain) {
         keep_anew(thread);
     }
-    bind(&mut thread.bindings.variables, &looping.template, values);
+    bind(&mut thread.variables, &looping.template, values);
     if wrong(Quirk::KeptEachRound) || first && wrong(Quirk::KeptWithFormals) {
         keep_anew(thread);
     }
@@ -75,11 +75,12 @@ fn descend(thread: &mut Thread, looping: &Loop, values: &Row, first: bool) {
 /// A new thread at the same site, with the bindings, all variables and the body alone.
 fn fork(thread: &mut Thread, looping: &Loop, values: &Row) -> Thread {
     if wrong(Quirk::ForkBindsParent) {
-        bind(&mut thread.bindings.variables, &looping.template, values);
+        bind(&mut thread.variables, &looping.template, values);
     }
     let mut fork = Thread::new(thread.site, looping.body);
-    fork.bindings.clone_from(&thread.bindings);
-    bind(&mut fork.bindings.variables, &looping.template, values);
+    fork.variables = thread.variables;
+    fork.tables = thread.tables;
+    bind(&mut fork.variables, &looping.template, values);
     fork
 }
 

@@ -33,22 +33,25 @@ pub struct Table {
 
 pub type Variables = [Option<Value>; VARIABLES as usize];
 
-/// Variables and table variables, each bound or not.
-#[derive(Clone, PartialEq, Eq, Debug, Default)]
-pub struct Bindings {
-    pub variables: Variables,
-    pub tables: [Option<Relation>; TABLE_VARIABLES as usize],
-}
+pub type TableVariables = [Option<Relation>; TABLE_VARIABLES as usize];
 
 #[derive(Clone, PartialEq, Eq, Debug)]
 pub struct Thread {
     pub site: Site,
-    pub bindings: Bindings,
+    pub variables: Variables,
+    pub tables: TableVariables,
     pub stack: List<Entry, 8>,
     /// What each sequential loop's entry holds: the bindings of the moment the loop was first met.
-    /// One for each of these entries, from the bottom of the stack to its top. They stand apart
-    /// from the stack because they are large and few.
+    /// One for each of these entries, from the bottom of the stack to its top. They stand beside
+    /// the stack because they are large and few.
     pub kept: Vec<Bindings>,
+}
+
+/// What a thread has bound.
+#[derive(Clone, PartialEq, Eq, Debug, Default)]
+pub struct Bindings {
+    pub variables: Variables,
+    pub tables: TableVariables,
 }
 
 #[derive(Clone, Copy, PartialEq, Eq, Debug)]
@@ -150,15 +153,18 @@ impl Thread {
     pub fn new(site: Site, node: u8) -> Thread {
         Thread {
             site,
-            bindings: Bindings::default(),
+            variables: Variables::default(),
+            tables: TableVariables::default(),
             stack: List::from_iter([Entry::Run(node)]),
             kept: Vec::new(),
         }
     }
-}
 
-impl Bindings {
-    pub fn table(&self, variable: u8) -> Result<&Relation, u8> {
+    pub fn bindings(&self) -> Bindings {
+        Bindings { variables: self.variables, tables: self.tables }
+    }
+
+    pub fn table_variable(&self, variable: u8) -> Result<&Relation, u8> {
         self.tables[usize::from(variable)].as_ref().ok_or(number::UNBOUND)
     }
 

@@ -4,7 +4,7 @@ use crate::kept::keeps;
 use crate::list::List;
 use crate::net::{
     Act, Address, Bindings, Entry, Filter, Function, Loop, Net, Node, Places, Predicate, Table,
-    Thread, NODES, TABLES, TABLE_VARIABLES, THREADS,
+    TableVariables, Thread, Variables, NODES, TABLES, TABLE_VARIABLES, THREADS,
 };
 use crate::operand::{Operand, Operands};
 use crate::relation::{fits, Relation};
@@ -47,22 +47,23 @@ fn relation_sound(relation: &Relation) -> bool {
 
 fn thread_sound(thread: &Thread, nodes: &[Node]) -> bool {
     thread.site.in_range()
-        && bindings_sound(&thread.bindings)
+        && bindings_sound(&thread.variables, &thread.tables)
         && !thread.stack.is_empty()
         && thread.stack.iter().all(|entry| entry_sound(*entry, thread, nodes))
         && kept_sound(thread, nodes)
 }
 
-fn bindings_sound(bindings: &Bindings) -> bool {
-    bindings.variables.iter().flatten().all(|value| value.in_range())
-        && bindings.tables.iter().flatten().all(relation_sound)
+/// Of a thread's own bindings and of those that its loops keep.
+fn bindings_sound(variables: &Variables, tables: &TableVariables) -> bool {
+    variables.iter().flatten().all(|value| value.in_range())
+        && tables.iter().flatten().all(relation_sound)
 }
 
 fn entry_sound(entry: Entry, thread: &Thread, nodes: &[Node]) -> bool {
     match (nodes.get(usize::from(entry.node())), entry) {
         (Some(_), Entry::Run(_)) => true,
         (Some(Node { act: Act::Loop(looping), .. }), Entry::Loop { left, .. }) => {
-            let source = thread.bindings.tables.get(usize::from(looping.read));
+            let source = thread.tables.get(usize::from(looping.read));
             source
                 .and_then(Option::as_ref)
                 .is_some_and(|source| left.0 & !Places::below(source.rows.len()).0 == 0)
@@ -76,10 +77,13 @@ fn entry_sound(entry: Entry, thread: &Thread, nodes: &[Node]) -> bool {
 /// either kind below it holds, so that the places left to visit stay places when they come back.
 fn kept_sound(thread: &Thread, nodes: &[Node]) -> bool {
     let mut kept = thread.kept.iter();
-    let mut held = [false; TABLE_VARIABLES as usize];
+    let mut held = Held::default();
     for looping in thread.stack.iter().filter_map(|entry| entry.looping(nodes)) {
         held[usize::from(looping.read)] = true;
-        let sound = |kept| bindings_sound(kept) && agree(kept, &thread.bindings, held);
+        let sound = |kept: &Bindings| {
+            bindings_sound(&kept.variables, &kept.tables)
+                && agree(&kept.tables, &thread.tables, held)
+        };
         if keeps(looping) && !kept.next().is_some_and(sound) {
             return false;
         }
@@ -87,10 +91,12 @@ fn kept_sound(thread: &Thread, nodes: &[Node]) -> bool {
     kept.next().is_none()
 }
 
+/// Which table variables loop entries hold.
+type Held = [bool; TABLE_VARIABLES as usize];
+
 /// Whether the table variables that are held are bound alike: columns, and rows in order.
-fn agree(kept: &Bindings, own: &Bindings, held: [bool; TABLE_VARIABLES as usize]) -> bool {
-    let pairs = kept.tables.iter().zip(&own.tables);
-    pairs.zip(held).all(|((kept, own), held)| !held || kept.is_some() && kept == own)
+fn agree(kept: &TableVariables, own: &TableVariables, held: Held) -> bool {
+    kept.iter().zip(own).zip(held).all(|((kept, own), held)| !held || kept.is_some() && kept == own)
 }
 
 /// Check 9 on a node: what it names is a node above its own number.

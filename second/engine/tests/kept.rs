@@ -40,7 +40,7 @@ fn net(stack: &[u8]) -> Net {
     let thread = &mut net.threads[0];
     thread.stack = stack.iter().map(entry).collect();
     thread.kept = vec![bindings.clone(); sequential];
-    thread.bindings = bindings;
+    (thread.variables, thread.tables) = (bindings.variables, bindings.tables);
     assert!(sound(&net), "{stack:?}");
     net
 }
@@ -93,7 +93,7 @@ fn kept_bindings_have_the_ranges_of_a_threads_own() {
     });
     still_sound("other variables within range", &ROUND, |thread| {
         thread.kept[0].variables[3] = Some(Value::Loc(Locality(7)));
-        thread.bindings.variables[4] = Some(Value::Text(Text(*b"abc~")));
+        thread.variables[4] = Some(Value::Text(Text(*b"abc~")));
     });
 }
 
@@ -129,7 +129,7 @@ fn kept_bindings_agree_on_the_entrys_own_table_variable() {
     }
     unsound("other columns of no rows", &[OVER_0, STEP], |thread| {
         thread.stack[0] = Entry::Loop { node: OVER_0, left: Places(0) };
-        thread.bindings.tables[0] = ints(&[]);
+        thread.tables[0] = ints(&[]);
         thread.kept[0].tables[0] = ints(&[]);
         thread.kept[0].tables[0].as_mut().expect("bound").columns[0] = Kind::Loc;
     });
@@ -169,7 +169,7 @@ fn kept_bindings_need_not_agree_on_anything_else() {
 fn each_sequential_loops_entry_keeps_bindings_and_no_other() {
     unsound("none kept", &ROUND, |thread| thread.kept.clear());
     unsound("one kept for two", &[OVER_0, OVER_1, STEP], |thread| thread.kept.truncate(1));
-    let more = |thread: &mut Thread| thread.kept.push(thread.bindings.clone());
+    let more = |thread: &mut Thread| thread.kept.push(thread.bindings());
     unsound("two kept for one", &ROUND, more);
     unsound("kept for a parallel loop", &[FORKS_OVER_0], more);
     unsound("kept for an entry to run", &[STEP], more);

@@ -51,11 +51,11 @@ fn done(net: &mut Net, rows: &[u8]) {
 }
 
 fn bindings(net: &Net) -> Bindings {
-    net.threads[0].bindings.clone()
+    net.threads[0].bindings()
 }
 
 fn int_of(net: &Net, variable: usize) -> Option<Value> {
-    net.threads[0].bindings.variables[variable]
+    net.threads[0].variables[variable]
 }
 
 const FIFTEEN: Option<Value> = Some(Value::Int(15));
@@ -171,10 +171,10 @@ fn a_parallel_loop_keeps_nothing_and_its_forks_neither() {
     assert_eq!(net.threads[0].kept.len(), 1);
     let fork = &net.threads[1];
     assert_eq!((fork.kept.len(), fork.stack[..].to_vec()), (0, vec![Entry::Run(3)]));
-    assert_eq!(fork.bindings.variables[1], Some(Value::Int(6)));
-    assert_eq!(fork.bindings.tables, in_round.tables);
+    assert_eq!(fork.variables[1], Some(Value::Int(6)));
+    assert_eq!(fork.tables, in_round.tables);
     step(&mut net, Pick { thread: 1, row: 0 }).expect("a sum");
-    assert_eq!(net.threads[1].bindings.variables[2], FIFTEEN);
+    assert_eq!(net.threads[1].variables[2], FIFTEEN);
     assert_eq!(bindings(&net), in_round);
 }
 
@@ -184,7 +184,7 @@ fn what_is_kept_comes_back_whatever_stands_bound() {
     done(&mut net, &[0, 0, 0]);
     // Sound by hand: the record and the thread's own need not agree on variables.
     net.threads[0].kept[0].variables[8] = Some(Value::Int(-8));
-    net.threads[0].bindings.variables[9] = Some(Value::Int(9));
+    net.threads[0].variables[9] = Some(Value::Int(9));
     let kept = net.threads[0].kept.clone();
     done(&mut net, &[1]);
     assert_eq!(net.threads[0].kept, kept);

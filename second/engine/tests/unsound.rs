@@ -83,21 +83,17 @@ fn tables_and_aliases() {
 fn threads() {
     refuses("a ninth thread", |net| net.threads = vec![net.threads[0].clone(); 9]);
     refuses("a thread's site", |net| net.threads[0].site = Site(8));
-    refuses("a variable", |net| {
-        net.threads[0].bindings.variables[9] = Some(Value::Loc(Locality(9)))
-    });
+    refuses("a variable", |net| net.threads[0].variables[9] = Some(Value::Loc(Locality(9))));
     refuses("an empty stack", |net| net.threads[0].stack = List::default());
     refuses("an entry that names no node", |net| net.threads[0].stack[1] = Entry::Run(6));
     refuses("a table variable's row", |net| {
-        let relation = net.threads[0].bindings.tables[0].as_mut().expect("it is bound");
+        let relation = net.threads[0].tables[0].as_mut().expect("it is bound");
         relation.rows[0] = ints(3);
     });
     refuses("a table variable without columns", |net| {
-        net.threads[0].bindings.tables[1] = Some(Relation::default());
+        net.threads[0].tables[1] = Some(Relation::default());
     });
-    refuses("a loop over an unbound table variable", |net| {
-        net.threads[0].bindings.tables[0] = None
-    });
+    refuses("a loop over an unbound table variable", |net| net.threads[0].tables[0] = None);
     refuses("a loop entry of no loop", |net| {
         net.threads[0].stack[0] = Entry::Loop { node: 2, left: Places(0) };
     });

@@ -109,14 +109,14 @@ impl Ended {
     /// A node that reads what came back gets an old binding or none.
     fn count_read(&mut self, traces: &Traces, before: &Before, answer: Answer, net: &Net) {
         let act = act(before.top, net);
-        let bindings = &before.thread.bindings;
+        let thread = &before.thread;
         let mut variables = reads::variables(act);
         variables.retain(|v| traces.variables[usize::from(*v)]);
         let table = reads::table(act);
         self.table_reads += usize::from(answer.is_ok() && table.is_some());
         let table = table.filter(|table| traces.tables[usize::from(*table)]);
-        let unbound = variables.iter().any(|v| bindings.variables[usize::from(*v)].is_none())
-            || table.is_some_and(|table| bindings.tables[usize::from(table)].is_none());
+        let unbound = variables.iter().any(|v| thread.variables[usize::from(*v)].is_none())
+            || table.is_some_and(|table| thread.tables[usize::from(table)].is_none());
         self.add(Sort::UnboundAgain, answer == Err(12) && unbound);
         self.add(Sort::OldValue, answer.is_ok() && !variables.is_empty());
         self.add(Sort::OldTable, answer.is_ok() && table.is_some());
@@ -131,7 +131,7 @@ impl Ended {
     fn count_stay(&mut self, place: usize, before: &Before, net: &Net) {
         let after = &net.threads[place];
         if let Some(bound) = &before.in_round {
-            let changes = Changes::new(bound, &after.bindings);
+            let changes = Changes::new(bound, &after.bindings());
             self.count_end(place, before, bound, &changes, net);
             return self.threads[place].take(&changes, true);
         }
@@ -142,7 +142,8 @@ impl Ended {
             let back = |v: &u8| self.threads[place].variables[usize::from(*v)];
             self.add(Sort::TemplateRead, read.iter().any(back));
         }
-        self.threads[place].take(&Changes::new(&before.thread.bindings, &after.bindings), false);
+        let changes = Changes::new(&before.thread.bindings(), &after.bindings());
+        self.threads[place].take(&changes, false);
     }
 
     /// The end of a round that had these bindings, of which some changes bring back the old ones.
@@ -167,10 +168,10 @@ impl Ended {
         self.add(Sort::Table, changes.tables.contains(&true));
         self.add(Sort::SequentialOver, over.is_some_and(|over| !over.parallel));
         self.add(Sort::ParallelOver, over.is_some_and(|over| over.parallel));
-        self.add(Sort::BindsInVain, *bound != before.thread.bindings);
+        self.add(Sort::BindsInVain, *bound != before.thread.bindings());
         self.add(Sort::Nested, after.kept.len() > 1);
         self.add(Sort::InFork, self.threads[place].forked);
-        self.add(Sort::OtherRows, rows(bound) != rows(&after.bindings));
+        self.add(Sort::OtherRows, rows(bound) != rows(&after.bindings()));
     }
 
     /// Each sort with its count and the count of what it is among.
@@ -217,7 +218,7 @@ fn bound_in_round(thread: &Thread, top: Entry, net: &Net, pick: Pick) -> Option<
     step_sound(&mut net, pick).ok()?;
     let after = net.threads.swap_remove(usize::from(pick.thread));
     // A loop that opens a round is not over, and its own round goes on.
-    (after.stack.last() == Some(&Entry::Run(top.node()))).then_some(after.bindings)
+    (after.stack.last() == Some(&Entry::Run(top.node()))).then(|| after.bindings())
 }
 
 /// Which bindings differ.
