@@ -163,7 +163,7 @@ impl Writer<'_> {
     /// Reads the variable or the other table variable, both as they were before the loop.
     fn read_old(&mut self, chain: &mut Chain, sought: &Sought) {
         let old = *self.random.choose(&[var(sought.variable), plus(sought.variable, 0)]);
-        if self.random.chance(60) {
+        if self.random.chance(80) {
             let insert = self.insert_like(sought, old);
             self.append(chain, insert);
         }

@@ -59,7 +59,7 @@ const STATEMENTS: [(usize, Statement); 11] = [
     (13, Statement::Update),
     (10, Statement::Aggregate),
     (6, Statement::Create),
-    (9, Statement::Drop),
+    (10, Statement::Drop),
     (9, Statement::Loop(SEQUENTIAL)),
     (9, Statement::Loop(PARALLEL)),
 ];

@@ -32,7 +32,7 @@ pub fn net(random: &mut Random) -> Vec<Record> {
         (4, Theme::Full),
         (3, Theme::Crowded),
         (3, Theme::Sums),
-        (10, Theme::Anew),
+        (12, Theme::Anew),
         (4, Theme::Traps),
     ]);
     let world = World::new(random, size(theme));
