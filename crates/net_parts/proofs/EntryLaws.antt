@@ -27,10 +27,10 @@ use Rattle.net_parts.proofs.Counts.{rows-count}
 -- ── shapes ──
 
 -- of a node that is a loop or not, sequential or not, and reads table variable `r`
-abbrev shape : Bool → Bool → ℕ → ℕ
+abbrev pub shape : Bool → Bool → ℕ → ℕ
 shape loop once r = cond (loop && ltb r 2) (cond once r (r + 2)) 4
 
-first-shape : (loop once : Bool) (r : ℕ) → readsFirst (shape loop once r) ≡ (loop && eqb r 0)
+pub first-shape : (loop once : Bool) (r : ℕ) → readsFirst (shape loop once r) ≡ (loop && eqb r 0)
 first-shape false once r = refl
 first-shape true true zero = refl
 first-shape true false zero = refl
@@ -38,7 +38,7 @@ first-shape true true (suc zero) = refl
 first-shape true false (suc zero) = refl
 first-shape true once (suc (suc r)) = rw (le-ltb (suc (suc r)) 2 (omega arith), ne-eqb (suc (suc r)) 0 (λ e. omega arith))
 
-second-shape : (loop once : Bool) (r : ℕ) → readsSecond (shape loop once r) ≡ (loop && eqb r 1)
+pub second-shape : (loop once : Bool) (r : ℕ) → readsSecond (shape loop once r) ≡ (loop && eqb r 1)
 second-shape false once r = refl
 second-shape true true zero = refl
 second-shape true false zero = refl
@@ -46,7 +46,7 @@ second-shape true true (suc zero) = refl
 second-shape true false (suc zero) = refl
 second-shape true once (suc (suc r)) = rw (le-ltb (suc (suc r)) 2 (omega arith), ne-eqb (suc (suc r)) 1 (λ e. omega arith))
 
-low-shape : (loop once : Bool) (r : ℕ) → ltb (shape loop once r) 2 ≡ (loop && once && ltb r 2)
+pub low-shape : (loop once : Bool) (r : ℕ) → ltb (shape loop once r) 2 ≡ (loop && once && ltb r 2)
 low-shape false once r = refl
 low-shape true true zero = refl
 low-shape true false zero = refl

@@ -1,6 +1,6 @@
 -- What the soundness test of the code speaks of besides `sound`: labels, formals, links, rows, what each node asks of a loop entry, and what a table
 -- variable holds.
-use Prim.Native.Nat.{ℕ, _+_, _*_, _≤_}
+use Prim.Native.Nat.{ℕ, _+_, _*_, _<_, _≤_}
 use mathlib.Core.Path.{_≡_}
 use mathlib.Core.Bool.{Bool, true, not, cond, _&&_, _||_}
 use mathlib.Core.List.{List, [], _∷_, map}
@@ -11,13 +11,16 @@ use Rattle.values.specs.declared.Operand.{Operand}
 use Rattle.values.specs.declared.Value.{Value}
 use Rattle.values.specs.Lists.{all, agree, firsts}
 use Rattle.values.specs.Values.{sameSite, siteOk, kindOf, inRange}
-use Rattle.values.specs.Operands.{formalOf}
+use Rattle.values.specs.Operands.{formalOf, varsOf}
 use Rattle.rows.specs.Relations.{Row, Columns, Relation}
 use Rattle.net_parts.specs.declared.Extent.{Extent}
 use Rattle.net_parts.specs.declared.Label.{Label}
 use Rattle.nets.specs.declared.Alias.{Alias}
+use Rattle.nets.specs.declared.Saved.{Saved}
+use Rattle.nets.specs.declared.Thread as Code
 use Rattle.nets.specs.Nets.{Table, Kind, isLoop, isSequential, Node, Entry, toRun, visiting, Thread}
-use Rattle.nets.specs.Sound.{noNode, hasPlaces, bindingsOk, agreeOn}
+use Rattle.nets.specs.Sound.{noNode, relationOk, variableOk, hasPlaces, bindingsOk, sameRelation, agreeOn}
+use Rattle.nets.specs.View.{noVariable, variableOf}
 
 -- ── aliases and tables ──
 
@@ -119,3 +122,17 @@ savedRight ds rs s (visiting i v b) =
 abbrev pub allSavedRight : List Node → List (Option Relation) → List Entry → Bool
 allSavedRight ds rs [] = true
 allSavedRight ds rs (x ∷ s) = savedRight ds rs s x && allSavedRight ds rs s
+
+-- the same of what the code stores, with the thread's own table variable `o` of the number that the loop does not read; `held` says whether an entry further down reads it
+abbrev pub savedFits : Bool → Option Relation → Saved → Bool
+savedFits held o b =
+    eqb (length (varsOf (b .vars))) 16
+    && all variableOk (varsOf (b .vars))
+    && relationOk (variableOf (b .other))
+    && (not held || sameRelation o (variableOf (b .other)))
+
+-- what the test of a thread's other parts says of its arrays
+pub record Fitting (t : Code.Thread) : Type 0 where
+  pub depth : t .depth ≤ 8
+  pub long : length (t .relations) ≡ 2
+  pub relations : (m : ℕ) → m < 2 → relationOk (variableOf (getD (t .relations) m noVariable)) ≡ true
