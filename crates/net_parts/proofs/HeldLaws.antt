@@ -10,15 +10,20 @@ use lib.Dec.{T, eqb, eqb→eq, leb, ltb}
 use lib.ListN.{length, getD, length-map, List·getD-map, List·getD-eq-default}
 use Rattle.values.specs.Lists.{all, any}
 use Rattle.values.specs.Values.{siteOk}
+use Rattle.values.specs.Operands.{varsOf}
 use Rattle.values.proofs.Bools.{and-l, and-r, and-swap, is-true, T-of, same-test, eqb-sym}
 use Rattle.rows.specs.Relations.{Relation}
+use Rattle.nets.specs.declared.Entry as Code
+use Rattle.nets.specs.declared.Entry.the-variants.{Run, Loop}
 use Rattle.nets.specs.declared.Frame.{Frame}
+use Rattle.nets.specs.declared.Saved.{Saved}
+use Rattle.nets.specs.declared.TableVariable.{TableVariable}
 use Rattle.nets.specs.Nets.{isLoop, isSequential, Bindings, Node, Entry, toRun, visiting, Thread}
-use Rattle.nets.specs.Sound.{noNode, hasPlaces, bindingsOk, entryOk, sameRelation, agreeOn, savedAgrees, allSavedAgree, entriesOk, threadOk}
+use Rattle.nets.specs.Sound.{noNode, relationOk, variableOk, hasPlaces, bindingsOk, entryOk, sameRelation, agreeOn, savedAgrees, allSavedAgree, entriesOk, threadOk}
 use Rattle.nets.specs.Steps.{holds}
-use Rattle.nets.specs.View.{noFrame, entryOf, stackOf}
+use Rattle.nets.specs.View.{noFrame, noVariable, marked, entryWith, entryOf, stackOf, variableOf, savedOf, nodeIn, readAt}
 use Rattle.nets.proofs.SavedLaws.{relation-refl}
-use Rattle.net_parts.specs.SoundParts.{shapeOf, readsFirst, readsSecond, shapeIn, bareEntryOk, bareThreadOk, savedRight, allSavedRight}
+use Rattle.net_parts.specs.SoundParts.{shapeOf, readsFirst, readsSecond, shapeIn, bareEntryOk, bareThreadOk, savedRight, allSavedRight, savedFits}
 use Rattle.net_parts.proofs.EntryLaws.{first-shape, second-shape, low-shape}
 
 -- ── a thread in two parts ──
@@ -145,3 +150,80 @@ module _ (ds : List Node) (rs : List (Option Relation)) where
     pub none-saved : (s : List Entry) (x : Entry) → T (bareEntryOk ds rs x) → {n : ℕ} → n ≡ shapeIn ds x → 2 ≤ n → true ≡ savedRight ds rs s x
     none-saved s (toRun i) t e h = refl
     none-saved s (visiting i v b) t {n} e h = rw (sym (sequential-is i v b t) ∙ ap (λ (k : ℕ). ltb k 2) (sym e) ∙ le-ltb n 2 h)
+
+-- the saved bindings `x` of a sequential loop's entry, over the thread's own table variables `ts`
+module _ (ds : List Node) (ts : List TableVariable) (two : length ts ≡ 2) (own : (m : ℕ) → m < 2 → relationOk (variableOf (getD ts m noVariable)) ≡ true) (x : Saved) where
+  abbrev rs : List (Option Relation)
+  rs = map variableOf ts
+
+  both-there : length rs ≡ 2
+  both-there = length-map ts variableOf ∙ two
+
+  -- they are the thread's own but for the one that the loop does not read
+  one-differs : (r : ℕ) → r < 2 → (n : ℕ) → n < 2 → eqb (1 - r) n ≡ false → getD rs n none ≡ getD (savedOf r ts x .relations) n none
+  one-differs zero h zero k e = List·getD-map variableOf ts 0 noVariable
+  one-differs zero h (suc zero) k e = absurd (true≢false e)
+  one-differs (suc zero) h zero k e = absurd (true≢false e)
+  one-differs (suc zero) h (suc zero) k e = List·getD-map variableOf ts 1 noVariable
+  one-differs zero h (suc (suc n)) k e = absurd (omega arith)
+  one-differs (suc zero) h (suc (suc n)) k e = absurd (omega arith)
+  one-differs (suc (suc r)) h n k e = absurd (omega arith)
+
+  first-own : (a o : Bool) {f g w : Bool} → w ≡ true → f ≡ g → (a && o && f) ≡ (a && true && (w && (o && true)) && g)
+  first-own a o e k = rw (e, k, and-true a, and-true o)
+
+  second-own : (a o : Bool) {f g w : Bool} → w ≡ true → f ≡ g → (a && o && f) ≡ (a && true && (o && (w && true)) && g)
+  second-own a o e k = rw (e, k, and-true a, and-true o)
+
+  abbrev varsFine : Bool
+  varsFine = eqb (length (varsOf (x .vars))) 16 && all variableOk (varsOf (x .vars))
+
+  module _ (s : List Entry) (t : T (all (bareEntryOk ds rs) s)) where
+    flagged : (r : ℕ) (h : r < 2) → (not (any (holds ds (1 - r)) s) || sameRelation (variableOf (getD ts (1 - r) noVariable)) (getD (savedOf r ts x .relations) (1 - r) none)) ≡ all (agreeOn ds rs (savedOf r ts x .relations)) s
+    flagged r h =
+        ap (λ (o : Option Relation). not (any (holds ds (1 - r)) s) || sameRelation o (getD (savedOf r ts x .relations) (1 - r) none)) (sym (List·getD-map variableOf ts (1 - r) noVariable))
+        ∙ agree-flagged ds rs (savedOf r ts x .relations) both-there (1 - r) (one-differs r h) s t
+
+    fits-is : (r : ℕ) → r < 2 → savedFits (any (holds ds (1 - r)) s) (variableOf (getD ts (1 - r) noVariable)) x ≡ (bindingsOk (savedOf r ts x) && all (agreeOn ds rs (savedOf r ts x .relations)) s)
+    fits-is zero h = first-own varsFine (relationOk (variableOf (x .other))) (own 0 (omega arith)) (flagged 0 h)
+    fits-is (suc zero) h = second-own varsFine (relationOk (variableOf (x .other))) (own 1 (omega arith)) (flagged 1 h)
+    fits-is (suc (suc r)) h = absurd (omega arith)
+
+    -- whether the table variable that the loop does not read is held
+    other-held : (r : ℕ) → r < 2 → {n : ℕ} {p q h : Bool} → n ≡ r → p ≡ any (holds ds 0) s → q ≡ any (holds ds 1) s → h ≡ cond (eqb n 0) q p → h ≡ any (holds ds (1 - r)) s
+    other-held zero l e a b k = k ∙ rw (e, b)
+    other-held (suc zero) l e a b k = k ∙ rw (e, a)
+    other-held (suc (suc r)) l e a b k = absurd (omega arith)
+
+  abbrev entry : List Bool → Code.Entry → Entry
+  entry v y = entryWith (savedOf (getD ds (nodeIn y) noNode .read) ts x) v y
+
+  judged : (v : List Bool) (y : Code.Entry) (s : List Entry) → T (all (bareEntryOk ds rs) (entry v y ∷ s)) → {n : ℕ} {p q h r : Bool} → n ≡ shapeIn ds (entry v y) → n < 2
+      → p ≡ any (holds ds 0) (entry v y ∷ s) → q ≡ any (holds ds 1) (entry v y ∷ s) → h ≡ cond (eqb n 0) q p
+      → r ≡ savedFits h (variableOf (getD ts (1 - n) noVariable)) x → r ≡ savedRight ds rs s (entry v y)
+  judged v (Run i) s t e l a b k z = absurd (omega arith)
+  judged v (Loop i) s t {n} {h = h} e l a b k z =
+      z
+      ∙ ap₂ (λ (g : Bool) (m : ℕ). savedFits g (variableOf (getD ts (1 - m) noVariable)) x) (other-held (entry v (Loop i) ∷ s) t read low same a b k) same
+      ∙ fits-is (entry v (Loop i) ∷ s) t read low
+      ∙ sym (ap (λ (g : Bool). not g || (bindingsOk (savedOf read ts x) && all (agreeOn ds rs (savedOf read ts x .relations)) (entry v (Loop i) ∷ s))) once)
+    where
+      read : ℕ
+      read = getD ds i noNode .read
+
+      bare : T (bareEntryOk ds rs (entry v (Loop i)))
+      bare = and-l (bareEntryOk ds rs (entry v (Loop i))) (all (bareEntryOk ds rs) s) t
+
+      low : read < 2
+      low = read-low ds rs both-there i (marked 0 v) (savedOf read ts x) bare
+
+      once : isSequential (getD ds i noNode .kind) ≡ true
+      once = sym (sequential-is ds rs both-there i (marked 0 v) (savedOf read ts x) bare) ∙ ap (λ (k : ℕ). ltb k 2) (sym e) ∙ lt-ltb n 2 l
+
+      same : n ≡ read
+      same = e ∙ rw (is-loop ds rs i (marked 0 v) (savedOf read ts x) bare, lt-ltb read 2 low, once)
+
+  pub saved-judged : (f : Frame) (s : List Entry) → T (all (bareEntryOk ds rs) (entryOf (savedOf (readAt ds f) ts x) f ∷ s)) → {n : ℕ} {p q h r : Bool} → n ≡ shapeIn ds (entryOf (savedOf (readAt ds f) ts x) f) → n < 2
+      → p ≡ any (holds ds 0) (entryOf (savedOf (readAt ds f) ts x) f ∷ s) → q ≡ any (holds ds 1) (entryOf (savedOf (readAt ds f) ts x) f ∷ s) → h ≡ cond (eqb n 0) q p
+      → r ≡ savedFits h (variableOf (getD ts (1 - n) noVariable)) x → r ≡ savedRight ds rs s (entryOf (savedOf (readAt ds f) ts x) f)
+  saved-judged f s t e l a b k z = judged (f .visit) (f .entry) s t e l a b k z

@@ -1,0 +1,93 @@
+// What the entries of sequential loops hold, and with it whole threads.
+use crate::threads::shape_in;
+use crate::threads::thread_ok;
+use crate::threads::vars_ok;
+use net_parts::agreement::same_variable;
+use net_parts::nodes::reads_first;
+use net_parts::nodes::reads_second;
+use net_parts::relations::extent_of;
+use nets::Saved;
+use nets::TableVariable;
+use nets::Thread;
+ghost use mathlib.Core.Path.{_≡_};
+ghost use mathlib.Core.Bool.{true, cond, _&&_};
+ghost use mathlib.Core.List.{List};
+ghost use Prim.Native.Nat.{_≤_};
+ghost use lib.Dec.{eqb, leb};
+ghost use Rattle.values.specs.Lists.{all};
+ghost use Rattle.nets.specs.Nets as Model;
+ghost use Rattle.nets.specs.Sound.{relationOk, threadOk};
+ghost use Rattle.net_parts.specs.SoundParts.{ShapesOf, savedFits};
+ghost use Rattle.nets.specs.View.{variableOf, threadsOf};
+
+// Whether the table variable that a loop of shape 0 or 1 does not read is held.
+fn other_held(shape: u8, first: bool, second: bool) -> bool
+    ensures { λ r. ⌜ r ≡ cond (eqb shape 0) second first ⌝ }
+{
+    if shape == 0 {
+        return second;
+    }
+    first
+}
+
+// What is saved for one entry, of a thread with table variable `own` of the number that the loop does not read. Only if that one is held must the two agree.
+// The other one need not be compared, since it is stored once, in the thread.
+fn saved_ok(b: Saved, held: bool, own: TableVariable) -> bool
+    requires { ⌜ relationOk (variableOf own) ≡ true ⌝ }
+    ensures { λ r. ⌜ r ≡ savedFits held (variableOf own) b ⌝ }
+{
+    let vars = b.vars;
+    let other = b.other;
+    let e = extent_of(other);
+    if vars_ok(vars) & (e.rows <= 16) {
+        if held {
+            return same_variable(own, other);
+        }
+        return true;
+    }
+    false
+}
+
+// Each thread is judged but for what its loop entries hold, and then its entries from the bottom up, so that what is held further down is known at each.
+// Both loops stand in one function: to hand the 64 to a function for each thread copies 47 KB each time, and an insert's step took twice as long.
+pub fn threads_ok(
+    shapes: [u8; 128],
+    count: usize,
+    threads: [Thread; 8],
+    n: usize,
+    saved: [Saved; 64],
+) -> bool
+    requires { ⌜ count ≤ 128 ⌝ }
+    ensures { λ r. ⌜ ((ds : List Model.Node) → ShapesOf shapes count ds → r ≡ (leb n 8 && all (threadOk ds) (threadsOf ds saved n threads))) ⌝ }
+{
+    if 8 < n {
+        return false;
+    }
+    let mut i: usize = 0;
+    while i < n {
+        let t = threads[i];
+        if !thread_ok(shapes, count, t) {
+            return false;
+        }
+        let depth = t.depth;
+        let mut first = false;
+        let mut second = false;
+        let mut j: usize = 0;
+        while j < depth {
+            let f = t.stack[j];
+            let s = shape_in(shapes, count, f);
+            first = first | reads_first(s);
+            second = second | reads_second(s);
+            if s < 2 {
+                let b = saved[i * 8 + j];
+                let own = t.relations[1 - s as usize];
+                if !saved_ok(b, other_held(s, first, second), own) {
+                    return false;
+                }
+            }
+            j += 1;
+        }
+        i += 1;
+    }
+    true
+}
