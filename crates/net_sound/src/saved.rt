@@ -76,8 +76,8 @@ pub fn threads_ok(
         while j < depth {
             let f = t.stack[j];
             let s = shape_in(shapes, count, f);
-            first = first | reads_first(s);
-            second = second | reads_second(s);
+            first = reads_first(s) | first;
+            second = reads_second(s) | second;
             if s < 2 {
                 let b = saved[i * 8 + j];
                 let own = t.relations[1 - s as usize];
