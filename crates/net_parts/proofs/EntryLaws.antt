@@ -5,7 +5,7 @@ use mathlib.Core.Bool.{Bool, true, false, true≢false, cond, _&&_, and-false}
 use mathlib.Core.List.{List, [], _∷_, map}
 use mathlib.Core.Option.{Option, none, some}
 use native.Mathlib.Omega.{arith}
-use lib.Dec.{T, eqb, eqb→eq, ltb}
+use lib.Dec.{eqb, eqb→eq, ltb}
 use lib.ListN.{length, getD, length-map, List·getD-map, List·getD-eq-default}
 use borrow.Author.Tests.{ltb-true, lt-ltb, le-ltb, ne-eqb}
 use Rattle.values.specs.Lists.{all}
@@ -20,7 +20,7 @@ use Rattle.nets.specs.declared.Frame.{Frame}
 use Rattle.nets.specs.declared.TableVariable.{TableVariable}
 use Rattle.nets.specs.Nets.{isLoop, isSequential, Bindings, Node, visiting}
 use Rattle.nets.specs.Sound.{noNode, hasPlaces}
-use Rattle.net_parts.specs.SoundParts.{shapeOf, readsFirst, readsSecond, shapeIn, ShapesOf, holdsPlaces, ExtentsOf, bareEntryOk}
+use Rattle.net_parts.specs.SoundParts.{shapeOf, readsFirst, readsSecond, ShapesOf, holdsPlaces, ExtentsOf, bareEntryOk}
 use Rattle.nets.specs.View.{noVariable, marked, entryWith, entryOf, variableOf}
 use Rattle.net_parts.proofs.Counts.{rows-count}
 

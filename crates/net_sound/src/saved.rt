@@ -20,7 +20,7 @@ ghost use Rattle.nets.specs.Sound.{relationOk, threadOk};
 ghost use Rattle.net_parts.specs.SoundParts.{ShapesOf, savedFits};
 ghost use Rattle.nets.specs.View.{variableOf, threadsOf};
 
-// Whether the table variable that a loop of shape 0 or 1 does not read is held.
+// Whether the table variable that a sequential loop, of shape 0 or 1, does not read is held; `first` and `second` say it of each.
 fn other_held(shape: u8, first: bool, second: bool) -> bool
     ensures { λ r. ⌜ r ≡ cond (eqb shape 0) second first ⌝ }
 {
@@ -30,8 +30,8 @@ fn other_held(shape: u8, first: bool, second: bool) -> bool
     first
 }
 
-// What is saved for one entry, of a thread with table variable `own` of the number that the loop does not read. Only if that one is held must the two agree.
-// The other one need not be compared, since it is stored once, in the thread.
+// What is saved for the entry of a sequential loop. `own` is the thread's table variable that the loop does not read; the saved one of that number must
+// agree with it only if it is held. The one that the loop reads is stored in the thread alone, so there is nothing to compare.
 fn saved_ok(b: Saved, held: bool, own: TableVariable) -> bool
     requires { ⌜ relationOk (variableOf own) ≡ true ⌝ }
     ensures { λ r. ⌜ r ≡ savedFits held (variableOf own) b ⌝ }
@@ -48,8 +48,9 @@ fn saved_ok(b: Saved, held: bool, own: TableVariable) -> bool
     false
 }
 
-// Each thread is judged but for what its loop entries hold, and then its entries from the bottom up, so that what is held further down is known at each.
-// Both loops stand in one function: to hand the 64 to a function for each thread copies 47 KB each time, and an insert's step took twice as long.
+// Each thread is judged but for what its loop entries hold, and then its entries from the bottom up, so that at each it is known what those further down
+// hold. Both loops stand in one function: one that is handed the 64 for each thread copies 47 KB each time, and a step of an insert took 20 microseconds
+// in place of 10.
 pub fn threads_ok(
     shapes: [u8; 128],
     count: usize,
@@ -69,19 +70,17 @@ pub fn threads_ok(
         if !thread_ok(shapes, count, t) {
             return false;
         }
-        let depth = t.depth;
         let mut first = false;
         let mut second = false;
         let mut j: usize = 0;
-        while j < depth {
+        while j < t.depth {
             let f = t.stack[j];
             let s = shape_in(shapes, count, f);
             first = reads_first(s) | first;
             second = reads_second(s) | second;
             if s < 2 {
-                let b = saved[i * 8 + j];
                 let own = t.relations[1 - s as usize];
-                if !saved_ok(b, other_held(s, first, second), own) {
+                if !saved_ok(saved[i * 8 + j], other_held(s, first, second), own) {
                     return false;
                 }
             }

@@ -9,7 +9,6 @@ use Rattle.nets.specs.declared.TableVariable.{TableVariable}
 use Rattle.nets.specs.Sound.{relationOk, sameRelation}
 use Rattle.nets.specs.View.{variableOf}
 use Rattle.net_parts.proofs.RowLaws.{relation-shaped}
-use borrow.Author.Needs.{needs}
 use Rattle.net_parts.proofs.agreement.same_variable.Statement.{statement}
 use Rattle.net_parts.proofs.agreement.same_variable.Tie as tie
 

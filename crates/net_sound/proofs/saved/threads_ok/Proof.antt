@@ -28,14 +28,6 @@ use Rattle.net_parts.proofs.HeldLaws.{thread-parts, bare-lower, saved-lower, ho
 use borrow.Author.Needs.{needs}
 use Rattle.net_sound.proofs.saved.threads_ok.Statement.{statement}
 use Rattle.net_sound.proofs.saved.threads_ok.Tie as tie
-use Rattle.net_sound.proofs.saved.threads_ok.Reads as reads
-use Rattle.net_sound.proofs.saved.threads_ok.Lts as lts
-use Rattle.net_parts.proofs.nodes.reads_first.Reads as reads-first-reads
-use Rattle.net_parts.proofs.nodes.reads_second.Reads as reads-second-reads
-use Rattle.net_sound.proofs.saved.other_held.Reads as other-held-reads
-use Rattle.net_sound.proofs.saved.saved_ok.Reads as saved-ok-reads
-use Rattle.net_sound.proofs.threads.shape_in.Reads as shape-in-reads
-use Rattle.net_sound.proofs.threads.thread_ok.Reads as thread-ok-reads
 
 -- ── one entry more ──
 
@@ -126,11 +118,11 @@ module _ (ds : List Node) (saved : List Saved) (i : ℕ) (t : Code.Thread) {r : 
 -- ── the loops ──
 
 abbrev Inv-loop2 : tie.InvT-loop2
-Inv-loop2 shapes count n threads saved i t depth first₀ second₀ j₀ first second j = (j ≤ depth)
+Inv-loop2 shapes count n threads saved i t first₀ second₀ j₀ first second j = (j ≤ t .depth)
     × ((ds : List Node) → ShapesOf shapes count ds → Noted ds (map variableOf (t .relations)) (savedAt ds saved i t) (t .stack) first second j)
 
 abbrev μ-loop2 : tie.MeasureT-loop2
-μ-loop2 shapes count n threads saved i t depth first₀ second₀ j₀ first second j = depth - j
+μ-loop2 shapes count n threads saved i t first₀ second₀ j₀ first second j = t .depth - j
 
 abbrev Inv-loop : tie.InvT-loop
 Inv-loop shapes count n threads saved i₀ i = (i ≤ n)
@@ -170,17 +162,17 @@ mul-f c = omega (arith, fitting (c .before .before) .depth)
 element-copy-out-f : tie.Need-element-copy-out-f Inv-loop2 μ-loop2 Inv-loop μ-loop
 element-copy-out-f c = omega (arith, fitting (c .before .before) .depth)
 
-mul-b : tie.Need-mul-b Inv-loop2 μ-loop2 Inv-loop μ-loop
-mul-b c = omega (arith, fitting (c .before .before .before .before .before .before .before) .depth)
+mul-saved-ok : tie.Need-mul-saved-ok Inv-loop2 μ-loop2 Inv-loop μ-loop
+mul-saved-ok c = omega (arith, fitting (c .before .before .before .before .before .before .before .before) .depth)
 
-add-b : tie.Need-add-b Inv-loop2 μ-loop2 Inv-loop μ-loop
-add-b c = omega (arith, fitting (c .before .before .before .before .before .before .before) .depth)
+add-saved-ok : tie.Need-add-saved-ok Inv-loop2 μ-loop2 Inv-loop μ-loop
+add-saved-ok c = omega (arith, fitting (c .before .before .before .before .before .before .before .before) .depth)
 
-mul-b-2 : tie.Need-mul-b-2 Inv-loop2 μ-loop2 Inv-loop μ-loop
-mul-b-2 c = omega (arith, fitting (c .before .before .before .before .before .before .before) .depth)
+mul-saved-ok-2 : tie.Need-mul-saved-ok-2 Inv-loop2 μ-loop2 Inv-loop μ-loop
+mul-saved-ok-2 c = omega (arith, fitting (c .before .before .before .before .before .before .before .before) .depth)
 
-array-copy-out-b : tie.Need-array-copy-out-b Inv-loop2 μ-loop2 Inv-loop μ-loop
-array-copy-out-b c = omega (arith, fitting (c .before .before .before .before .before .before .before) .depth)
+array-copy-out-saved-ok : tie.Need-array-copy-out-saved-ok Inv-loop2 μ-loop2 Inv-loop μ-loop
+array-copy-out-saved-ok c = omega (arith, fitting (c .before .before .before .before .before .before .before .before) .depth)
 
 saved-ok-requires : tie.Need-saved-ok-requires Inv-loop2 μ-loop2 Inv-loop μ-loop
 saved-ok-requires c κs = fitting (c .before .before .before .before .before .before .before .before .before .before) .relations _ (omega arith)
@@ -261,14 +253,14 @@ threads-ok-spec =
     (λ c κs. search needs)
     (λ c κs. search needs)
     (λ c κs. search needs)
-    mul-b
-    add-b
-    mul-b-2
-    array-copy-out-b
     (λ c. search needs)
     (λ c. search needs)
     (λ c. search needs)
     (λ c. search needs)
+    mul-saved-ok
+    add-saved-ok
+    mul-saved-ok-2
+    array-copy-out-saved-ok
     (λ c κs. search needs)
     saved-ok-requires
     returns-3

@@ -1,5 +1,5 @@
 -- `net_sound::threads::thread_ok` meets its contract: site, variables and table variables first, then the stack.
-use Prim.Native.Nat.{ℕ, zero, suc, _<_, _≤_}
+use Prim.Native.Nat.{ℕ, zero, suc, _<_}
 use mathlib.Core.Path.{_≡_, sym, ap, _∙_}
 use mathlib.Core.Bool.{Bool, true, true≢false, _&&_, and-true}
 use mathlib.Core.List.{List, map}
