@@ -2,13 +2,12 @@
 use Prim.Native.Nat.{ℕ, suc, _+_, _-_, _*_, _/_, _<_, _≤_}
 use mathlib.Core.Path.{_≡_, refl, ap, ap₂, sym, subst, _∙_}
 use mathlib.Core.Bool.{Bool, true, false, cond}
-use mathlib.Core.List.{List, [], _∷_, _++_, map, append-nil}
+use mathlib.Core.List.{List, [], _∷_, _++_, append-nil}
 use native.Mathlib.Omega.{arith}
 use lib.Dec.{T, ltb}
 use lib.ListN.{length, getD, set, length-set}
 use lib.Seq.{getD-set-same, getD-set-other}
-use borrow.Author.Tests.{lt-ltb, ltb-true, ltb-false}
-use Rattle.values.specs.Lists.{places}
+use borrow.Author.Tests.{ltb-true, ltb-false}
 use Rattle.values.proofs.ByPlace.{by-next, by-same, by-set, by-remove}
 use Rattle.values.proofs.RemoveLaws.{Closing}
 use Rattle.nets.specs.declared.Saved.{Saved}
@@ -48,19 +47,6 @@ becomes-gone ds d e = go (d .ends)
     go false = goes-on-gone (d .saved) (d .thread) e
 
 -- ── all threads ──
-
-set-by : {B : Type 0} (f g : ℕ → B) (n k : ℕ) (b : B) → g k ≡ b → k < n → ((j : ℕ) → j < n → (j ≡ k → ⊥) → f j ≡ g j) → set (map f (places 0 n)) k b ≡ map g (places 0 n)
-set-by {B} f g n k b e low h = by-set f to n k b (to-low k low ∙ e) (λ j d. same j d (ltb j n) refl) ∙ by-same to g n to-low
-  where
-    to : ℕ → B
-    to i = cond (ltb i n) (g i) (f i)
-
-    to-low : (i : ℕ) → i < n → to i ≡ g i
-    to-low i q = rw (lt-ltb i n q)
-
-    same : (j : ℕ) → (j ≡ k → ⊥) → (z : Bool) → ltb j n ≡ z → f j ≡ to j
-    same j d true x = h j (ltb-true j n x) d ∙ sym (to-low j (ltb-true j n x))
-    same j d false x = rw x
 
 -- what is saved for threads at other places is the same
 pub record Beside (old new : List Saved) (at : ℕ) : Type 0 where
@@ -102,7 +88,7 @@ module _ (ds : List M.Node) (n : ℕ) (l : List Thread) (old new : List Saved) (
   module _ (u : Thread) (x : M.Thread) (is : threadOf (savedAt ds new at u) u ≡ x) (deep : 1 ≤ u .depth) where
     put : threadsOf ds new n (set l at u) ≡ settle at (goesOn x) (threadsOf ds old n l)
     put =
-        sym (set-by (threadAt ds old l) (threadAt ds new (set l at u)) n at x (ap (λ (t : Thread). threadOf (savedAt ds new at t) t) (getD-set-same l at u noThread (omega (arith, eight))) ∙ is) low (other-same u))
+        sym (by-set (threadAt ds old l) (threadAt ds new (set l at u)) n at x (ap (λ (t : Thread). threadOf (savedAt ds new at t) t) (getD-set-same l at u noThread (omega (arith, eight))) ∙ is) (other-same u))
         ∙ sym (settle-one at x (threadsOf ds old n l))
         ∙ ap (λ (us : List M.Thread). settle at us (threadsOf ds old n l)) (sym (subst (λ (y : M.Thread). goesOn y ≡ y ∷ []) is (goes-on-there (savedAt ds new at u) u deep)))
 
