@@ -42,8 +42,11 @@ roundBy true true true false = stopped 20
 roundBy true true true true = opened
 
 -- the places still to visit in a relation
+abbrev pub noHeld : M.Bindings
+noHeld = record { vars = []; relations = [] }
+
 abbrev pub visitOf : Frame → Relation → List ℕ
-visitOf f r = stillToVisit (entryOf f) (length (r .rows))
+visitOf f r = stillToVisit (entryOf noHeld f) (length (r .rows))
 
 abbrev pub readyAt : Vars → List Operand → Relation → ℕ → Bool
 readyAt e t r i = matches e t (getD (r .rows) i [])
@@ -73,6 +76,6 @@ abbrev pub goesOn : M.Thread → List M.Thread
 goesOn t = keepThread t (t .stack)
 
 -- the new thread of a parallel round, if there is one
-abbrev pub forksOf : Bool → Thread → List M.Thread
-forksOf false t = []
-forksOf true t = threadOf t ∷ []
+abbrev pub forksOf : (ℕ → M.Bindings) → Bool → Thread → List M.Thread
+forksOf bs false t = []
+forksOf bs true t = threadOf bs t ∷ []

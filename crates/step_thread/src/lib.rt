@@ -6,11 +6,12 @@ use nets::Thread;
 use values::Slot;
 ghost use mathlib.Core.Path.{_≡_};
 ghost use mathlib.Core.List.{[], _∷_};
-ghost use Prim.Native.Nat.{_-_};
+ghost use Prim.Native.Nat.{ℕ, _-_};
+ghost use lib.ListN.{getD};
+ghost use Rattle.nets.specs.declared.Entry.the-variants.{Run};
+ghost use Rattle.nets.specs.Nets as M;
 ghost use Rattle.nets.specs.Nets.{toRun};
-ghost use Rattle.nets.specs.Sound.{entryNode};
-ghost use Rattle.nets.specs.Scenes.{top};
-ghost use Rattle.nets.specs.View.{entryOf, threadOf, bindingsOf};
+ghost use Rattle.nets.specs.View.{noFrame, nodeIn, threadOf, bindingsOf};
 ghost use Rattle.step_thread.specs.Contracts.{Stacked};
 
 // What a loop's pick comes to: over, a round opened, or refused.
@@ -30,7 +31,7 @@ pub struct Round {
 // ---- frames
 
 pub fn run_frame(node: u8) -> Frame
-    ensures { λ r. ⌜ entryOf r ≡ toRun node ⌝ }
+    ensures { λ r. ⌜ r .entry ≡ Run node ⌝ }
 {
     let entry = Entry::Run(node);
     Frame {
@@ -40,7 +41,7 @@ pub fn run_frame(node: u8) -> Frame
 }
 
 pub fn node_of(f: Frame) -> u8
-    ensures { λ r. ⌜ r ≡ entryNode (entryOf f) ⌝ }
+    ensures { λ r. ⌜ r ≡ nodeIn (f .entry) ⌝ }
 {
     let e = f.entry;
     match e {
@@ -53,7 +54,7 @@ pub fn node_of(f: Frame) -> u8
 
 pub fn top_frame(t: Thread) -> Frame
     requires { ⌜ Stacked t ⌝ }
-    ensures { λ r. ⌜ entryOf r ≡ top (threadOf t .stack) ⌝ }
+    ensures { λ r. ⌜ r ≡ getD (t .stack) (t .depth - 1) noFrame ⌝ }
 {
     let at = t.depth - 1;
     t.stack[at]
@@ -61,7 +62,7 @@ pub fn top_frame(t: Thread) -> Frame
 
 // A thread at the same site with the same table variables, these variables, and one entry.
 pub fn forked(t: Thread, vars: [Slot; 16], body: u8) -> Thread
-    ensures { λ r. ⌜ (threadOf r ≡ record { site = t .site; bindings = bindingsOf vars (t .relations); stack = toRun body ∷ [] }) × (r .depth ≡ 1) ⌝ }
+    ensures { λ r. ⌜ ((bs : ℕ → M.Bindings) → threadOf bs r ≡ record { site = t .site; bindings = bindingsOf vars (t .relations); stack = toRun body ∷ [] }) × (r .depth ≡ 1) ⌝ }
 {
     let mut next = t;
     next.vars = vars;
