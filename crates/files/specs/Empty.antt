@@ -13,6 +13,7 @@ use Rattle.nets.specs.declared.Node.{Node}
 use Rattle.nets.specs.declared.Entry.the-variants.{Run}
 use Rattle.nets.specs.declared.Frame.{Frame}
 use Rattle.nets.specs.declared.TableVariable.{TableVariable}
+use Rattle.nets.specs.declared.Saved.{Saved}
 use Rattle.nets.specs.declared.Thread.{Thread}
 use Rattle.nets.specs.declared.Net.{Net}
 use Rattle.nets.specs.View.{noSite, noAlias}
@@ -57,6 +58,9 @@ blankVariable = record { bound = false; content = blankRelation }
 abbrev pub blankThread : Thread
 blankThread = record { site = noSite; vars = replicate 16 noSlot; relations = replicate 2 blankVariable; stack = replicate 8 blankFrame; depth = 0 }
 
+abbrev pub blankSaved : Saved
+blankSaved = record { vars = replicate 16 noSlot; other = blankVariable }
+
 unfoldable pub blankNet : Net
 blankNet =
     record {
@@ -68,4 +72,5 @@ blankNet =
       nodecount = 0;
       threads = replicate 8 blankThread;
       threadcount = 0;
+      saved = replicate 64 blankSaved;
     }
