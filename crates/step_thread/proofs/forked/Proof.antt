@@ -20,10 +20,12 @@ runs b f i e = rw e refl
 returns : tie.Need-returns
 returns c =
     let t = c .before .args .t in
-    let n : length (t .stack) ≡ 8 = search (long, needs) in
-    (λ bs.
-    let one = stack-push bs 0 (t .stack) (c .run-frame .result) (omega (arith, n)) ∙ ap (_∷ []) (runs (bs 0) (c .run-frame .result) (c .before .args .body) (c .run-frame .ensures)) in
-    ap (λ (s : List M.Entry). record { site = t .site; bindings = bindingsOf (c .before .args .vars) (t .relations); stack = s }) one, refl)
+    let n : length (t .stack) ≡ 8 = search (long, needs) in (
+      λ bs.
+          let one = stack-push bs 0 (t .stack) (c .run-frame .result) (omega (arith, n)) ∙ ap (_∷ []) (runs (bs 0) (c .run-frame .result) (c .before .args .body) (c .run-frame .ensures)) in
+          ap (λ (s : List M.Entry). record { site = t .site; bindings = bindingsOf (c .before .args .vars) (t .relations); stack = s }) one,
+      refl,
+    )
 
 pub forked-spec : {M : Type 1} → statement M
 forked-spec = tie.close (tie.spec (λ c κs. search needs) (λ c. search needs) returns)
