@@ -21,6 +21,7 @@ use step_meets::parts::onward;
 use step_meets::parts::refuses;
 use step_reads::reads_ok;
 use step_thread::RoundAnswer;
+use step_thread::is_run;
 use step_thread::node_of;
 use values::Slot;
 ghost use mathlib.Core.Path.{_≡_};
@@ -55,8 +56,8 @@ fn decide_loop(
     source: Relation,
     s: Setting,
 ) -> Decided
-    requires { ⌜ T (isLoop (kindAt (node .kind))) × Handed (λ w. Fine (situation (whole vars depth w) frame node content s) × Known (situation (whole vars depth w) frame node content s) × SourceIs (situation (whole vars depth w) frame node content s) source) ⌝ }
-    ensures { λ r. ⌜ ((w : Rest) → Fine (situation (whole vars depth w) frame node content s) → Known (situation (whole vars depth w) frame node content s) → SourceIs (situation (whole vars depth w) frame node content s) source → (c : Scene) → Meets (situation (whole vars depth w) frame node content s) c → DecidedAt (situation (whole vars depth w) frame node content s) source c r) ⌝ }
+    requires { ⌜ T (isLoop (kindAt (node .kind))) × Handed (λ w. Fine (situation (whole vars depth w) (w .saved) frame node content s) × Known (situation (whole vars depth w) (w .saved) frame node content s) × SourceIs (situation (whole vars depth w) (w .saved) frame node content s) source) ⌝ }
+    ensures { λ r. ⌜ ((w : Rest) → Fine (situation (whole vars depth w) (w .saved) frame node content s) → Known (situation (whole vars depth w) (w .saved) frame node content s) → SourceIs (situation (whole vars depth w) (w .saved) frame node content s) source → (c : Scene) → Meets (situation (whole vars depth w) (w .saved) frame node content s) c → DecidedAt (situation (whole vars depth w) (w .saved) frame node content s) source c r) ⌝ }
 {
     let selector = node.selector;
     let template = selector.template;
@@ -72,10 +73,12 @@ fn decide_loop(
             let inner = r.vars;
             let entry = Entry::Loop(node_of(frame));
             let waiting = Frame { entry, visit };
+            let saves = is_run(frame);
             if parallel {
                 return Decided {
                     answer: Answer::Done(0, 0),
                     forks: true,
+                    saves,
                     frame: waiting,
                     depth,
                     vars,
@@ -85,6 +88,7 @@ fn decide_loop(
             Decided {
                 answer: Answer::Done(0, 0),
                 forks: false,
+                saves,
                 frame: waiting,
                 depth: depth + 1,
                 vars: inner,
@@ -104,8 +108,8 @@ fn decide_step(
     j: Judged,
     s: Setting,
 ) -> Decided
-    requires { ⌜ T (isStep (kindAt (node .kind))) × JudgedIs node source vars j × Handed (λ w. Fine (situation (whole vars depth w) frame node content s) × Known (situation (whole vars depth w) frame node content s) × SourceIs (situation (whole vars depth w) frame node content s) source) ⌝ }
-    ensures { λ r. ⌜ ((w : Rest) → Fine (situation (whole vars depth w) frame node content s) → Known (situation (whole vars depth w) frame node content s) → SourceIs (situation (whole vars depth w) frame node content s) source → (c : Scene) → Meets (situation (whole vars depth w) frame node content s) c → check13 c ≡ true → check14 c ≡ true → check15 c ≡ true → DecidedAt (situation (whole vars depth w) frame node content s) source c r) × (T (isDoing (saidOf (r .answer))) → Doing node content source vars) ⌝ }
+    requires { ⌜ T (isStep (kindAt (node .kind))) × JudgedIs node source vars j × Handed (λ w. Fine (situation (whole vars depth w) (w .saved) frame node content s) × Known (situation (whole vars depth w) (w .saved) frame node content s) × SourceIs (situation (whole vars depth w) (w .saved) frame node content s) source) ⌝ }
+    ensures { λ r. ⌜ ((w : Rest) → Fine (situation (whole vars depth w) (w .saved) frame node content s) → Known (situation (whole vars depth w) (w .saved) frame node content s) → SourceIs (situation (whole vars depth w) (w .saved) frame node content s) source → (c : Scene) → Meets (situation (whole vars depth w) (w .saved) frame node content s) c → check13 c ≡ true → check14 c ≡ true → check15 c ≡ true → DecidedAt (situation (whole vars depth w) (w .saved) frame node content s) source c r) × (T (isDoing (saidOf (r .answer))) → Doing node content source vars) ⌝ }
 {
     let answer = says(node, content, source, vars, j, s.held, s.tables);
     match answer {
@@ -129,8 +133,8 @@ pub fn decide(
     j: Judged,
     s: Setting,
 ) -> Decided
-    requires { ⌜ JudgedIs node source vars j × Handed (λ w. Fine (situation (whole vars depth w) frame node content s) × Flagged w bound × Sourced (situation (whole vars depth w) frame node content s) source) ⌝ }
-    ensures { λ r. ⌜ ((w : Rest) → Fine (situation (whole vars depth w) frame node content s) → Flagged w bound → Sourced (situation (whole vars depth w) frame node content s) source → DecidedIs (situation (whole vars depth w) frame node content s) source r) ⌝ }
+    requires { ⌜ JudgedIs node source vars j × Handed (λ w. Fine (situation (whole vars depth w) (w .saved) frame node content s) × Flagged w bound × Sourced (situation (whole vars depth w) (w .saved) frame node content s) source) ⌝ }
+    ensures { λ r. ⌜ ((w : Rest) → Fine (situation (whole vars depth w) (w .saved) frame node content s) → Flagged w bound → Sourced (situation (whole vars depth w) (w .saved) frame node content s) source → DecidedIs (situation (whole vars depth w) (w .saved) frame node content s) source r) ⌝ }
 {
     let kind = node.kind;
     let located = s.located;

@@ -20,7 +20,7 @@ ghost use Rattle.values.specs.Operands.{varsOf};
 ghost use Rattle.rows.specs.View.{relationOf, operandsOf, Shaped, Short};
 ghost use Rattle.nets.specs.View.{entryOf, marked};
 ghost use Rattle.step_reads.specs.Contracts.{flagAt};
-ghost use Rattle.step_thread.specs.Contracts.{noHeld, visitOf, readyAt, OpenedIs, RoundIs};
+ghost use Rattle.step_thread.specs.Contracts.{noBindings, visitOf, readyAt, OpenedIs, RoundIs};
 ghost use Rattle.nets.specs.Scenes.{stillToVisit};
 
 // The first n places.
@@ -40,7 +40,7 @@ fn all_places(n: usize) -> [bool; 16]
 // The rows still to visit: all where the loop is first met.
 fn to_visit(frame: Frame, n: usize) -> [bool; 16]
     requires { ⌜ n ≤ 16 ⌝ }
-    ensures { λ r. ⌜ marked 0 r ≡ stillToVisit (entryOf noHeld frame) n ⌝ }
+    ensures { λ r. ⌜ marked 0 r ≡ stillToVisit (entryOf noBindings frame) n ⌝ }
 {
     let entry = frame.entry;
     let visit = frame.visit;

@@ -4,7 +4,7 @@ use mathlib.Core.Path.{_≡_, refl, ap, ap₂, sym, subst, _∙_}
 use mathlib.Core.Bool.{Bool, true, false, not, cond, _&&_, _||_}
 use mathlib.Core.List.{List, [], _++_, append-nil}
 use mathlib.Core.Option.{some}
-use lib.Dec.{T, eqb}
+use lib.Dec.{T, eqb, ltb}
 use lib.ListN.{set, length}
 use Rattle.values.specs.Lists.{isSome}
 use Rattle.values.specs.Operands.{varsOf}
@@ -19,8 +19,7 @@ use Rattle.nets.specs.declared.Answer.the-variants.{Done, Refused}
 use Rattle.nets.specs.declared.Node.{Node}
 use Rattle.values.specs.declared.Slot.{Slot}
 use Rattle.step_meets.specs.declared.Decided.{Decided}
-use Rattle.nets.specs.declared.Thread.{Thread}
-use Rattle.step_meets.specs.Situations.{Situation, moved}
+use Rattle.step_meets.specs.Situations.{Situation, Change, moved, savedAfter}
 use Rattle.nets.specs.Nets as M
 use Rattle.nets.specs.Nets.{Kind, code, isLoop, hasLocality, needsTable, isCreate, bindsRelation}
 use Rattle.nets.specs.Tables.{rowsOf, columnsOf, tableAt}
@@ -30,7 +29,7 @@ use Rattle.nets.specs.Answers.{refusing, isDoing, stepSaid, answerOf, saidOf}
 use Rattle.nets.specs.View.{kindAt, bindingsOf, threadOf}
 use Rattle.step_effect.specs.Contracts.{isStep, putsRows, partsOf, Doing}
 use Rattle.step_thread.specs.Contracts.{goesOn, forksOf}
-use Rattle.step_meets.specs.Contracts.{locatedOf, outcomeAt, Meets, partsIn, Made, changed, DecidedAt, DecidedIs, ChangeIs}
+use Rattle.step_meets.specs.Contracts.{locatedOf, outcomeAt, Meets, partsIn, becomes, Made, newThread, changed, DecidedAt, DecidedIs, ChangeIs}
 use Rattle.nets.proofs.AnswerLaws.{said-passed}
 use Rattle.nets.proofs.KindLaws.{at-one}
 use Rattle.step_meets.proofs.EffectTies.{puts-rows, effect-answer, effect-threads}
@@ -41,17 +40,28 @@ use Rattle.step_meets.proofs.MeetTies.{met-kind, met-parts}
 pub never-done : (r : Decided) (why : Refusal) → r .answer ≡ Refused why → T (isDoing (saidOf (r .answer))) → ⊥
 never-done r why e h = subst (λ (x : Answer). T (isDoing (saidOf x))) e h
 
+-- the change with another word for its answer, and for whether it forks
+abbrev pub changedTo : (s : Situation) (q : Code.Relation) (r : Decided) → Made s q r → Answer → Bool → Change
+changedTo s q r x a b =
+    record {
+      answer = a;
+      content = x .content;
+      thread = moved (s .thread) r (x .above) (x .body) (x .relations);
+      saved = savedAfter s r;
+      ends = ltb (r .depth) (s .thread .depth);
+      forks = b;
+      fork = newThread s r (x .relations);
+    }
+
 module _ (c : Scene) where
   -- a refusal changes nothing
   pub refused-at : (s : Situation) (q : Code.Relation) (r : Decided) (why : Refusal) → r .answer ≡ Refused why → saidOf (Refused why) ≡ answerOf (outcomeAt c) → DecidedAt s q c r
   refused-at s q r why e a = record { answer = ap saidOf e ∙ a; change = λ h. absurd (never-done r why e h) }
 
-  -- with another word for its answer, and for whether it forks
   pub change-as :
       (s : Situation) (q : Code.Relation) (r : Decided) (x : Made s q r) {a : Answer} {b : Bool} → r .answer ≡ a → r .forks ≡ b →
-      ChangeIs c (record { answer = a; content = x .content; thread = moved (s .thread) r (x .above) (x .body) (x .relations); forks = b; fork = x .fork }) → ChangeIs c (changed s q r x)
-  change-as s q r x e f =
-      subst (λ (z : Bool × Answer). ChangeIs c (record { answer = z .1; content = x .content; thread = moved (s .thread) r (x .above) (x .body) (x .relations); forks = z .0; fork = x .fork })) (λ i. (sym f i, sym e i))
+      ChangeIs c (changedTo s q r x a b) → ChangeIs c (changed s q r x)
+  change-as s q r x e f = subst (λ (z : Bool × Answer). ChangeIs c (changedTo s q r x (z .1) (z .0))) (λ i. (sym f i, sym e i))
 
   pub refuses-12 : check12 c ≡ false → refusing 12 [] ≡ answerOf (outcomeAt c)
   unfolding firstRefusal checks
@@ -164,7 +174,7 @@ module _ (s : Situation) (c : Scene) (m : Meets s c) (step : T (isStep (kindAt (
 
       pub act-change :
           {a t : ℕ} → r .answer ≡ Done a t → saidOf (r .answer) ≡ stepSaid (partsIn s q) (s .held) (s .tables) → r .forks ≡ false → varsOf (r .vars) ≡ varsBy kind (partsIn s q) →
-          goesOn (threadOf (moved (s .thread) r (x .above) (x .body) (x .relations))) ≡ goOn (s .node .next) (withBindings (threadOf (s .thread)) (bindingsOf (r .vars) (x .relations))) (below (threadOf (s .thread) .stack)) →
+          goesOn (becomes (c .net .nodes) (changed s q r x)) ≡ goOn (c .net .nodes) (s .node .next) (withBindings (threadOf (s .saved) (s .thread)) (bindingsOf (r .vars) (x .relations))) (below (threadOf (s .saved) (s .thread) .stack)) →
           ChangeIs c (changed s q r x)
       act-change e said f v goes-on =
           record {
@@ -172,13 +182,16 @@ module _ (s : Situation) (c : Scene) (m : Meets s c) (step : T (isStep (kindAt (
             content = λ h k. act-content k;
             room = λ h. absurd (subst T f h);
             threads = λ h.
-                threads ∙ sym (append-nil (settle (c .at) (goesOn (threadOf (moved (s .thread) r (x .above) (x .body) (x .relations)))) (c .net .threads)))
-                ∙ ap (λ (b : Bool). settle (c .at) (goesOn (threadOf (moved (s .thread) r (x .above) (x .body) (x .relations)))) (c .net .threads) ++ forksOf b (x .fork)) (sym f);
+                threads ∙ sym (append-nil after)
+                ∙ ap (λ (b : Bool). after ++ forksOf b (newThread s r (x .relations))) (sym f);
           }
         where
-          threads : threadsAfter c ≡ settle (c .at) (goesOn (threadOf (moved (s .thread) r (x .above) (x .body) (x .relations)))) (c .net .threads)
+          after : List M.Thread
+          after = settle (c .at) (goesOn (becomes (c .net .nodes) (changed s q r x))) (c .net .threads)
+
+          threads : threadsAfter c ≡ after
           threads =
               effect-threads c scene-step
-              ∙ ap₂ (λ (b : M.Bindings) (y : M.Thread). settle (c .at) (goOn (c .node .next) (withBindings y b) (below (y .stack))) (c .net .threads)) (bindings-are v) (m .thread)
-              ∙ ap (λ (d : M.Node). settle (c .at) (goOn (d .next) (withBindings (threadOf (s .thread)) (bindingsOf (r .vars) (x .relations))) (below (threadOf (s .thread) .stack))) (c .net .threads)) (m .node)
+              ∙ ap₂ (λ (b : M.Bindings) (y : M.Thread). settle (c .at) (goOn (c .net .nodes) (c .node .next) (withBindings y b) (below (y .stack))) (c .net .threads)) (bindings-are v) (m .thread)
+              ∙ ap (λ (d : M.Node). settle (c .at) (goOn (c .net .nodes) (d .next) (withBindings (threadOf (s .saved) (s .thread)) (bindingsOf (r .vars) (x .relations))) (below (threadOf (s .saved) (s .thread) .stack))) (c .net .threads)) (m .node)
               ∙ ap (λ (us : List M.Thread). settle (c .at) us (c .net .threads)) (sym goes-on)

@@ -70,6 +70,6 @@ module _ (c : Scene) (step : T (isStep (c .node .kind))) where
   effect-answer twelve thirteen fourteen fifteen = later-said c twelve thirteen fourteen fifteen ∙ rw (not-opens, and-true)
 
   pub effect-threads :
-      threadsAfter c ≡ settle (c .at) (goOn (c .node .next) (withBindings (c .thread) (bindingsBy (c .node .kind) c)) (below (c .thread .stack))) (c .net .threads)
+      threadsAfter c ≡ settle (c .at) (goOn (c .net .nodes) (c .node .next) (withBindings (c .thread) (bindingsBy (c .node .kind) c)) (below (c .thread .stack))) (c .net .threads)
   unfolding threadsAfter
   effect-threads = rw not-opens

@@ -17,7 +17,8 @@ use Rattle.nets.specs.View.{kindAt}
 use Rattle.step_thread.specs.Contracts.{visitOf}
 use Rattle.step_meets.specs.Contracts.{Meets, relationRead, partsIn}
 use Rattle.step_meets.proofs.RoundTies.{roundHere, roundWith, loop-round}
-use Rattle.step_thread.proofs.ThreadLaws.{length-stack}
+use Rattle.nets.proofs.StackView.{length-stack}
+use Rattle.step_thread.proofs.ThreadLaws.{visit-any}
 
 module _ (s : Situation) (c : Scene) (m : Meets s c) where
   pub met-kind : c .node .kind ≡ kindAt (s .node .kind)
@@ -43,7 +44,7 @@ module _ (s : Situation) (c : Scene) (m : Meets s c) where
       roundHere c ≡ roundWith (varsOf (s .thread .vars)) (operandsOf (s .node .selector .template)) r (visitOf (s .frame) r) (s .row) (roomForRound c)
   met-round l r e =
       loop-round c (subst (λ (k : Kind). T (isLoop k)) (sym met-kind) l) r (met-relation ∙ e)
-      ∙ rw (met-vars, met-template, m .entry, ← m .row)
+      ∙ rw (met-vars, met-template, m .entry, ← m .row, visit-any)
 
   pub met-room : roomForRound c ≡ cond (isParallel (kindAt (s .node .kind))) (ltb (s .threads) 8) (ltb (s .thread .depth) 8)
   unfolding roomForRound

@@ -87,11 +87,11 @@ module _ (c : Scene) (loop : T (isLoop (c .node .kind))) where
   own-bindings = of-class (λ k. bindingsBy k c ≡ c .thread .bindings) isLoop (refl ▸ refl ▸ tt) (c .node .kind) loop
 
   -- over: the thread goes on as it was
-  pub over-threads : roundHere c ≡ over → threadsAfter c ≡ settle (c .at) (goOn (c .node .next) (c .thread) (below (c .thread .stack))) (c .net .threads)
+  pub over-threads : roundHere c ≡ over → threadsAfter c ≡ settle (c .at) (goOn (c .net .nodes) (c .node .next) (c .thread) (below (c .thread .stack))) (c .net .threads)
   unfolding threadsAfter
   over-threads e =
       rw (open-if, none-ready (long c) (anyReady c) (pickReady c) (roomForRound c) e)
-      (ap (λ (b : Bindings). settle (c .at) (goOn (c .node .next) (withBindings (c .thread) b) (below (c .thread .stack))) (c .net .threads)) own-bindings)
+      (ap (λ (b : Bindings). settle (c .at) (goOn (c .net .nodes) (c .node .next) (withBindings (c .thread) b) (below (c .thread .stack))) (c .net .threads)) own-bindings)
 
   opened-threads : roundHere c ≡ opened → threadsAfter c ≡ cond (isParallel (c .node .kind)) (parallelRound c) (sequentialRound c)
   unfolding threadsAfter

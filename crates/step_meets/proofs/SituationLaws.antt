@@ -26,11 +26,11 @@ use Rattle.nets.specs.Nets.{Kind, hasTemplate, hasTuple, isSelect, isLoop, read
 use Rattle.nets.specs.Sound.{operandsOk, isEmpty, templateOk, relationOk, fieldsOkAs, linksOkAs}
 use Rattle.nets.specs.Scenes.{Scene, source}
 use Rattle.nets.specs.Steps.{isBound, isBoundTable, readsOk, check12}
-use Rattle.nets.specs.View.{kindAt, nodeOf, variableOf, threadOf}
+use Rattle.nets.specs.View.{kindAt, nodeOf, variableOf}
 use Rattle.step_reads.specs.Contracts.{flagAt}
 use Rattle.step_effect.specs.Contracts.{isStep, StepReady, JudgeReady}
 use Rattle.step_thread.specs.Contracts.{visitOf}
-use Rattle.step_meets.specs.Contracts.{Meets, relationRead, Fine, Known, SourceIs, Sourced}
+use Rattle.step_meets.specs.Contracts.{Meets, ownBindings, relationRead, Fine, Known, SourceIs, Sourced}
 use Rattle.step_meets.proofs.EffectTies.{read-source, own-source}
 use Rattle.nets.proofs.StepLaws.{given}
 use Rattle.nets.proofs.RoundLaws.{loop-reads}
@@ -127,7 +127,7 @@ module _ (s : Situation) (f : Fine s) where
 
   bound-fine : T (relationOk (relationRead s))
   bound-fine =
-      let b : M.Bindings = threadOf (s .thread) .bindings in
+      let b : M.Bindings = ownBindings s in
       let k = f .bindings in
       let two : length (b .relations) ≡ 2 = eqb→eq (length (b .relations)) 2 (search (and-l, and-r)) in
       all-at relationOk (b .relations) (s .node .read) none (search (and-l, and-r)) (omega (arith, fine-read))
@@ -149,22 +149,22 @@ module _ (s : Situation) (k : Known s) where
   -- ── a select's t ──
 
   pub known-complete : Fine s → T (isSelect (kindAt (s .node .kind))) → Complete (varsOf (s .thread .vars)) (operandsOf (s .node .selector .template)) (operandsOf (s .node .tuple))
-  known-complete f h = select-complete (threadOf (s .thread) .bindings) (nodeOf (s .node)) (f .count) (f .number) (f .node) (f .bindings) (k .reads) h
+  known-complete f h = select-complete (ownBindings s) (nodeOf (s .node)) (f .count) (f .number) (f .node) (f .bindings) (k .reads) h
 
 -- ── check 12 ──
 
 module _ (s : Situation) (c : Scene) (m : Meets s c) where
-  met-12 : check12 c ≡ readsOk (isBound (threadOf (s .thread) .bindings .vars)) (isBoundTable (threadOf (s .thread) .bindings .relations)) (nodeOf (s .node))
+  met-12 : check12 c ≡ readsOk (isBound (ownBindings s .vars)) (isBoundTable (ownBindings s .relations)) (nodeOf (s .node))
   unfolding check12
   met-12 = ap₂ (λ (t : M.Thread) (d : M.Node). readsOk (isBound (t .bindings .vars)) (isBoundTable (t .bindings .relations)) d) (m .thread) (m .node)
 
   pub known-12 : Known s → check12 c ≡ true
-  known-12 k = met-12 ∙ is-true (readsOk (isBound (threadOf (s .thread) .bindings .vars)) (isBoundTable (threadOf (s .thread) .bindings .relations)) (nodeOf (s .node))) (k .reads)
+  known-12 k = met-12 ∙ is-true (readsOk (isBound (ownBindings s .vars)) (isBoundTable (ownBindings s .relations)) (nodeOf (s .node))) (k .reads)
 
 -- with the table variables that are bound given by flags
-module _ (s : Situation) (hs : List Bool) (held : (i : ℕ) → flagAt hs i ≡ isBoundTable (threadOf (s .thread) .bindings .relations) i)
+module _ (s : Situation) (hs : List Bool) (held : (i : ℕ) → flagAt hs i ≡ isBoundTable (ownBindings s .relations) i)
     {b : Bool} (e : b ≡ readsOk (isBound (varsOf (s .thread .vars))) (flagAt hs) (nodeOf (s .node))) where
-  reads-flagged : b ≡ readsOk (isBound (threadOf (s .thread) .bindings .vars)) (isBoundTable (threadOf (s .thread) .bindings .relations)) (nodeOf (s .node))
+  reads-flagged : b ≡ readsOk (isBound (ownBindings s .vars)) (isBoundTable (ownBindings s .relations)) (nodeOf (s .node))
   reads-flagged = e ∙ (λ i. readsOk (isBound (varsOf (s .thread .vars))) (λ n. held n i) (nodeOf (s .node)))
 
   pub flagged-known : b ≡ true → Known s

@@ -1,5 +1,5 @@
 -- What the functions that decide on a step require and give back, part by part.
-use Prim.Native.Nat.{ℕ, _≤_, _<_}
+use Prim.Native.Nat.{ℕ, _-_, _≤_, _<_}
 use mathlib.Core.Path.{_≡_}
 use mathlib.Core.Bool.{Bool, false, cond}
 use mathlib.Core.List.{List, [], _∷_, _++_, map}
@@ -14,17 +14,17 @@ use Rattle.rows.specs.View.{relationOf, Shaped}
 use Rattle.row_change.specs.Contracts.{Holds}
 use Rattle.step_meets.specs.declared.Located.{Located}
 use Rattle.step_meets.specs.declared.Located.the-variants.{Nowhere, At}
+use Rattle.nets.specs.declared.Entry.the-variants.{Run}
 use Rattle.nets.specs.declared.Frame.{Frame}
 use Rattle.nets.specs.declared.TableVariable.{TableVariable}
-use Rattle.nets.specs.declared.Thread.{Thread}
 use Rattle.step_meets.specs.declared.Decided.{Decided}
-use Rattle.step_meets.specs.Situations.{Situation, Rest, Change, overOf, moved}
+use Rattle.step_meets.specs.Situations.{Situation, Rest, Change, overOf, moved, savedAfter}
 use Rattle.nets.specs.Nets as M
 use Rattle.nets.specs.Nets.{isLoop, readsRelation, bindsRelation, toRun, Outcome, refused}
 use Rattle.nets.specs.Tables.{tableAt, contentOf, rowsOf, columnsOf}
 use Rattle.nets.specs.Sound.{nodeOkAs, bindingsOk}
 use Rattle.nets.specs.Scenes.{Scene, Parts, site, siteOfL, table}
-use Rattle.nets.specs.Steps.{isBound, isBoundTable, readsOk, held, rowsBy, tablesBy, boundBy, settle, threadsAfter, performed, Check, firstRefusal, checks}
+use Rattle.nets.specs.Steps.{isBound, isBoundTable, readsOk, held, rowsBy, tablesBy, boundBy, restored, settle, threadsAfter, performed, Check, firstRefusal, checks}
 use Rattle.nets.specs.View.{kindAt, nodeOf, entryOf, variableOf, bindingsOf, threadOf}
 use Rattle.nets.specs.Answers.{isDoing, answerOf, saidOf}
 use Rattle.step_reads.specs.Contracts.{flagAt}
@@ -48,8 +48,8 @@ outcomeAt c = firstRefusal refused (laterChecks c) (performed c)
 
 -- the parts that a pick meets are those of a scene
 pub record Meets (s : Situation) (c : Scene) : Type 0 where
-  pub thread : c .thread ≡ threadOf (s .thread)
-  pub entry : c .entry ≡ entryOf (s .frame)
+  pub thread : c .thread ≡ threadOf (s .saved) (s .thread)
+  pub entry : c .entry ≡ entryOf (s .saved (s .thread .depth - 1)) (s .frame)
   pub node : c .node ≡ nodeOf (s .node)
   pub located : siteOfL c ≡ locatedOf (s .located)
   pub found : s .found ≡ isSome (table c)
@@ -59,16 +59,20 @@ pub record Meets (s : Situation) (c : Scene) : Type 0 where
   pub threads : s .threads ≡ length (c .net .threads)
   pub row : s .row ≡ c .row
 
+-- the bindings of the thread
+abbrev pub ownBindings : Situation → M.Bindings
+ownBindings s = bindingsOf (s .thread .vars) (s .thread .relations)
+
 -- the table variable that the node reads
 abbrev pub relationRead : Situation → Option Relation
-relationRead s = getD (threadOf (s .thread) .bindings .relations) (s .node .read) none
+relationRead s = getD (ownBindings s .relations) (s .node .read) none
 
 -- what soundness says of them
 pub record Fine (s : Situation) : Type 0 where
   pub number : ℕ
   pub count : ℕ
   pub node : T (nodeOkAs (kindAt (s .node .kind)) count number (nodeOf (s .node)))
-  pub bindings : T (bindingsOk (threadOf (s .thread) .bindings))
+  pub bindings : T (bindingsOk (ownBindings s))
   pub stacked : Stacked (s .thread)
   pub content : Shaped (s .content)
   -- a loop entry's places are rows of the table variable read
@@ -76,7 +80,7 @@ pub record Fine (s : Situation) : Type 0 where
 
 -- check 12 passed, said of the parts
 pub record Known (s : Situation) : Type 0 where
-  pub reads : T (readsOk (isBound (threadOf (s .thread) .bindings .vars)) (isBoundTable (threadOf (s .thread) .bindings .relations)) (nodeOf (s .node)))
+  pub reads : T (readsOk (isBound (ownBindings s .vars)) (isBoundTable (ownBindings s .relations)) (nodeOf (s .node)))
 
 -- the flags are those of a thread's table variables
 pub record Flagged (w : Rest) (flags : List Bool) : Type 0 where
@@ -93,6 +97,10 @@ pub record Sourced (s : Situation) (r : Code.Relation) : Type 0 where
   pub shaped : Shaped r
   pub source : Known s → SourceIs s r
 
+-- the thread afterwards, with the bindings that come back where an entry was removed
+abbrev pub becomes : List M.Node → Change → M.Thread
+becomes ds r = cond (r .ends) (restored ds (threadOf (r .saved) (r .thread)) (threadOf (r .saved) (r .thread) .stack)) (threadOf (r .saved) (r .thread))
+
 pub record ChangeIs (c : Scene) (r : Change) : Type 0 where
   pub answer : saidOf (r .answer) ≡ answerOf (outcomeAt c)
   -- the rows of the table at the step's site and name afterwards, where the step changes them
@@ -100,7 +108,7 @@ pub record ChangeIs (c : Scene) (r : Change) : Type 0 where
   -- a fork has room, and the thread that forks goes on
   pub room : T (r .forks) → (length (c .net .threads) < 8) × (1 ≤ r .thread .depth)
   -- what becomes of the thread, and the new thread of a parallel round
-  pub threads : T (isDoing (saidOf (r .answer))) → threadsAfter c ≡ settle (c .at) (goesOn (threadOf (r .thread))) (c .net .threads) ++ forksOf (r .forks) (r .fork)
+  pub threads : T (isDoing (saidOf (r .answer))) → threadsAfter c ≡ settle (c .at) (goesOn (becomes (c .net .nodes) r)) (c .net .threads) ++ forksOf (r .forks) (r .fork)
 
 -- ── what is decided ──
 
@@ -108,7 +116,7 @@ pub record ChangeIs (c : Scene) (r : Change) : Type 0 where
 abbrev pub partsIn : Situation → Code.Relation → Parts
 partsIn s q = partsOf (s .node) (s .content) q (s .thread .vars)
 
--- what is made for a done step: the table's content, the table variables, a frame for the body, and the new thread
+-- what is made for a done step: the table's content, the table variables, and a frame for the body
 pub record Made (s : Situation) (q : Code.Relation) (r : Decided) : Type 0 where
   pub content : Code.Relation
   pub put : T (putsRows (kindAt (s .node .kind))) → Holds content (relationOf (s .content) .columns) (rowsBy (kindAt (s .node .kind)) (partsIn s q) (relationOf (s .content) .rows))
@@ -119,13 +127,24 @@ pub record Made (s : Situation) (q : Code.Relation) (r : Decided) : Type 0 where
   pub above : ℕ
   pub over : above ≡ overOf (s .thread .depth)
   pub body : Frame
-  pub runs : entryOf body ≡ toRun (s .node .body)
-  pub fork : Thread
-  pub forked : T (r .forks) → threadOf fork ≡ record { site = s .thread .site; bindings = bindingsOf (r .inner) relations; stack = toRun (s .node .body) ∷ [] }
+  pub runs : body .entry ≡ Run (s .node .body)
+
+-- the new thread of a parallel round
+abbrev pub newThread : Situation → Decided → List TableVariable → M.Thread
+newThread s r vs = record { site = s .thread .site; bindings = bindingsOf (r .inner) vs; stack = toRun (s .node .body) ∷ [] }
 
 -- the change that it makes
 abbrev pub changed : (s : Situation) (q : Code.Relation) (r : Decided) → Made s q r → Change
-changed s q r m = record { answer = r .answer; content = m .content; thread = moved (s .thread) r (m .above) (m .body) (m .relations); forks = r .forks; fork = m .fork }
+changed s q r m =
+    record {
+      answer = r .answer;
+      content = m .content;
+      thread = moved (s .thread) r (m .above) (m .body) (m .relations);
+      saved = savedAfter s r;
+      ends = ltb (r .depth) (s .thread .depth);
+      forks = r .forks;
+      fork = newThread s r (m .relations);
+    }
 
 -- what is decided, beside the rule at a scene that the situation meets
 pub record DecidedAt (s : Situation) (q : Code.Relation) (c : Scene) (r : Decided) : Type 0 where

@@ -26,10 +26,11 @@ pub struct Setting {
 }
 
 // The answer, and what becomes of the thread: its top frame, the height of its stack and its variables; where a parallel round opens, also the
-// variables of the new thread. A sequential round's body goes above the top frame.
+// variables of the new thread. A sequential round's body goes above the top frame. Where a loop's first round opens, its entry holds the bindings from then on.
 pub struct Decided {
     pub answer: Answer,
     pub forks: bool,
+    pub saves: bool,
     pub frame: Frame,
     pub depth: usize,
     pub vars: [Slot; 16],

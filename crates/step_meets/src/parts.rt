@@ -12,12 +12,13 @@ use step_thread::run_frame;
 use values::Slot;
 ghost use mathlib.Core.Path.{_≡_};
 ghost use mathlib.Core.Bool.{false, cond, _&&_};
+ghost use mathlib.Core.List.{map};
 ghost use Prim.Native.Nat.{ℕ, _≤_};
 ghost use lib.ListN.{length};
 ghost use Rattle.values.specs.Lists.{isSome};
 ghost use Rattle.nets.specs.Nets.{readsRelation};
 ghost use Rattle.nets.specs.Steps.{isBoundTable};
-ghost use Rattle.nets.specs.View.{kindAt, threadOf};
+ghost use Rattle.nets.specs.View.{kindAt, variableOf};
 ghost use Rattle.step_reads.specs.Contracts.{flagAt};
 ghost use Rattle.step_meets.specs.Situations.{Onward};
 ghost use Rattle.step_meets.specs.Contracts.{locatedOf};
@@ -30,6 +31,7 @@ pub fn refuses(r: Refusal, vars: [Slot; 16], depth: usize, frame: Frame) -> Deci
     Decided {
         answer,
         forks: false,
+        saves: false,
         frame,
         depth,
         vars,
@@ -53,6 +55,7 @@ pub fn onward(
         return Decided {
             answer: Answer::Done(added, taken),
             forks: false,
+            saves: false,
             frame,
             depth: depth - 1,
             vars,
@@ -62,6 +65,7 @@ pub fn onward(
     Decided {
         answer: Answer::Done(added, taken),
         forks: false,
+        saves: false,
         frame: run_frame(next),
         depth,
         vars,
@@ -80,7 +84,7 @@ pub fn is_located(l: Located) -> bool
 
 // The table variables that are bound. The contract also says how long the stack's array is, which a caller that reads the thread from a list can't tell by itself.
 pub fn bound_tables(t: Thread) -> [bool; 2]
-    ensures { λ r. ⌜ ((i : ℕ) → flagAt r i ≡ isBoundTable (threadOf t .bindings .relations) i) × (length (t .stack) ≡ 8) ⌝ }
+    ensures { λ r. ⌜ ((i : ℕ) → flagAt r i ≡ isBoundTable (map variableOf (t .relations)) i) × (length (t .stack) ≡ 8) ⌝ }
 {
     let a = t.relations[0];
     let b = t.relations[1];

@@ -10,6 +10,8 @@ use Rattle.values.specs.Lists.{any, among, filter}
 use Rattle.values.specs.Operands.{Vars, varsOf}
 use Rattle.rows.specs.Relations.{Relation}
 use Rattle.rows.specs.Matching.{matches, rowVars}
+use Rattle.nets.specs.declared.Entry.{Entry}
+use Rattle.nets.specs.declared.Entry.the-variants.{Run, Loop}
 use Rattle.nets.specs.declared.Frame.{Frame}
 use Rattle.nets.specs.declared.Thread.{Thread}
 use Rattle.step_thread.specs.declared.RoundAnswer.{RoundAnswer}
@@ -18,7 +20,7 @@ use Rattle.step_thread.specs.declared.Round.{Round}
 use Rattle.nets.specs.Nets as M
 use Rattle.nets.specs.Scenes.{stillToVisit}
 use Rattle.nets.specs.Steps.{keepThread}
-use Rattle.nets.specs.View.{entryOf, threadOf, marked}
+use Rattle.nets.specs.View.{entryOf, marked}
 use Rattle.nets.specs.Answers.{numberOf}
 
 -- ── rounds of loops ──
@@ -41,12 +43,13 @@ roundBy true true false r = stopped 19
 roundBy true true true false = stopped 20
 roundBy true true true true = opened
 
--- the places still to visit in a relation
-abbrev pub noHeld : M.Bindings
-noHeld = record { vars = []; relations = [] }
+-- what an entry holds is no matter where its node or its places are asked for
+abbrev pub noBindings : M.Bindings
+noBindings = record { vars = []; relations = [] }
 
+-- the places still to visit in a relation
 abbrev pub visitOf : Frame → Relation → List ℕ
-visitOf f r = stillToVisit (entryOf noHeld f) (length (r .rows))
+visitOf f r = stillToVisit (entryOf noBindings f) (length (r .rows))
 
 abbrev pub readyAt : Vars → List Operand → Relation → ℕ → Bool
 readyAt e t r i = matches e t (getD (r .rows) i [])
@@ -66,6 +69,11 @@ pub record RoundIs (e : Vars) (t : List Operand) (r : Relation) (f : Frame) (row
 
 -- ── threads ──
 
+-- an entry to run
+abbrev pub isRun : Entry → Bool
+isRun (Run i) = true
+isRun (Loop i) = false
+
 -- a stack with an entry, within its array
 pub record Stacked (t : Thread) : Type 0 where
   pub some : 1 ≤ t .depth
@@ -76,6 +84,6 @@ abbrev pub goesOn : M.Thread → List M.Thread
 goesOn t = keepThread t (t .stack)
 
 -- the new thread of a parallel round, if there is one
-abbrev pub forksOf : (ℕ → M.Bindings) → Bool → Thread → List M.Thread
-forksOf bs false t = []
-forksOf bs true t = threadOf bs t ∷ []
+abbrev pub forksOf : Bool → M.Thread → List M.Thread
+forksOf false t = []
+forksOf true t = t ∷ []

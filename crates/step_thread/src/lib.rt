@@ -8,11 +8,10 @@ ghost use mathlib.Core.Path.{_≡_};
 ghost use mathlib.Core.List.{[], _∷_};
 ghost use Prim.Native.Nat.{ℕ, _-_};
 ghost use lib.ListN.{getD};
-ghost use Rattle.nets.specs.declared.Entry.the-variants.{Run};
 ghost use Rattle.nets.specs.Nets as M;
 ghost use Rattle.nets.specs.Nets.{toRun};
 ghost use Rattle.nets.specs.View.{noFrame, nodeIn, threadOf, bindingsOf};
-ghost use Rattle.step_thread.specs.Contracts.{Stacked};
+ghost use Rattle.step_thread.specs.Contracts.{isRun, Stacked};
 
 // What a loop's pick comes to: over, a round opened, or refused.
 pub enum RoundAnswer {
@@ -31,7 +30,7 @@ pub struct Round {
 // ---- frames
 
 pub fn run_frame(node: u8) -> Frame
-    ensures { λ r. ⌜ r .entry ≡ Run node ⌝ }
+    ensures { λ r. ⌜ r .entry ≡ Entry.Run node ⌝ }
 {
     let entry = Entry::Run(node);
     Frame {
@@ -50,6 +49,16 @@ pub fn node_of(f: Frame) -> u8
     }
 }
 
+pub fn is_run(f: Frame) -> bool
+    ensures { λ r. ⌜ r ≡ isRun (f .entry) ⌝ }
+{
+    let e = f.entry;
+    match e {
+        Entry::Run(_) => true,
+        Entry::Loop(_) => false,
+    }
+}
+
 // ---- stacks
 
 pub fn top_frame(t: Thread) -> Frame
@@ -60,7 +69,7 @@ pub fn top_frame(t: Thread) -> Frame
     t.stack[at]
 }
 
-// A thread at the same site with the same table variables, these variables, and one entry.
+// A thread at the same site with the same table variables, these variables, and one entry. An entry to run holds nothing, so whatever is saved at its place is no matter.
 pub fn forked(t: Thread, vars: [Slot; 16], body: u8) -> Thread
     ensures { λ r. ⌜ ((bs : ℕ → M.Bindings) → threadOf bs r ≡ record { site = t .site; bindings = bindingsOf vars (t .relations); stack = toRun body ∷ [] }) × (r .depth ≡ 1) ⌝ }
 {

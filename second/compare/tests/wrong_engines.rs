@@ -1,6 +1,6 @@
-//! Each of the twenty-five wrong engines is told apart by the generated files.
+//! Each of the wrong engines that a text shows is told apart by the generated files.
 
-use compare::cases::stored_pages;
+use compare::cases::{stored, stored_pages};
 use engine::quirk::Quirk;
 use generate::{file, Class};
 use std::path::Path;
@@ -26,7 +26,7 @@ fn differs(quirk: Quirk, cases: &[(Vec<u8>, Vec<u8>)], text: fn(&[u8]) -> Vec<u8
 #[test]
 fn generated_files_tell_wrong_engines_apart() {
     let cases = cases(engine::netrun);
-    for quirk in Quirk::OF_RUNS {
+    for quirk in Quirk::OF_RUNS.into_iter().chain(Quirk::OF_ROUNDS) {
         assert!(differs(quirk, &cases, engine::netrun), "{quirk:?} looks right on {FILES} files");
     }
 }
@@ -41,10 +41,31 @@ fn generated_files_tell_wrong_pages_apart() {
     }
 }
 
+/// Those are held to the right engine net by net, in `wrong_rounds.rs`.
+#[test]
+fn no_text_shows_what_only_a_net_shows() {
+    let runs = cases(engine::netrun);
+    for quirk in Quirk::OF_NETS.into_iter().chain(Quirk::OF_NETS_BY_HAND) {
+        assert!(!differs(quirk, &runs, engine::netrun), "{quirk:?} shows in netrun's text");
+    }
+}
+
+fn directory() -> &'static Path {
+    Path::new(concat!(env!("CARGO_MANIFEST_DIR"), "/examples"))
+}
+
+#[test]
+fn stored_examples_tell_wrong_rounds_apart() {
+    let stored = stored(directory()).expect("the stored examples");
+    let cases: Vec<_> = stored.into_iter().map(|run| (run.file, run.text)).collect();
+    for quirk in Quirk::OF_ROUNDS {
+        assert!(differs(quirk, &cases, engine::netrun), "{quirk:?} looks right on the examples");
+    }
+}
+
 #[test]
 fn stored_pages_tell_wrong_pages_apart() {
-    let directory = Path::new(concat!(env!("CARGO_MANIFEST_DIR"), "/examples"));
-    let stored = stored_pages(directory).expect("the stored pages");
+    let stored = stored_pages(directory()).expect("the stored pages");
     let cases: Vec<_> = stored.into_iter().map(|page| (page.file, page.text)).collect();
     for quirk in Quirk::OF_PAGES {
         assert!(differs(quirk, &cases, engine::netpage), "{quirk:?} looks right on the examples");

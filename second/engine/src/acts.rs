@@ -1,9 +1,7 @@
 //! The steps that are no loop rounds. Each makes all its checks before it changes anything.
 
 use crate::aggregate::fold;
-use crate::net::{
-    Act, Address, Aliases, Entry, Filter, Function, Loop, Node, Table, Thread, TABLES,
-};
+use crate::net::{Act, Address, Aliases, Entry, Filter, Function, Node, Table, Thread, TABLES};
 use crate::number;
 use crate::operand::{Operand, Operands};
 use crate::quirk::{wrong, Quirk};
@@ -212,10 +210,7 @@ fn same_name(a: Text, b: Text) -> bool {
 fn free(nodes: &[Node], thread: &Thread, variable: u8) -> Result<(), u8> {
     let held = thread.stack.iter().any(|entry| match *entry {
         Entry::Loop { left, .. } if left.is_empty() && wrong(Quirk::HeldWhileRows) => false,
-        Entry::Loop { node, .. } => {
-            matches!(nodes[usize::from(node)].act, Act::Loop(Loop { read, .. }) if read == variable)
-        }
-        Entry::Run(_) => false,
+        entry => entry.looping(nodes).is_some_and(|looping| looping.read == variable),
     });
     if held {
         return Err(number::HELD);

@@ -5,6 +5,7 @@
 pub mod accounts;
 mod acts;
 mod aggregate;
+mod kept;
 mod list;
 mod load;
 mod loops;
@@ -26,8 +27,8 @@ mod write;
 pub use list::List;
 pub use load::{load, Fault};
 pub use net::{
-    Act, Address, Aliases, Entry, Filter, Function, Loop, Net, Node, Pick, Places, Predicate,
-    Table, Test, Thread, Variables,
+    Act, Address, Aliases, Bindings, Entry, Filter, Function, Loop, Net, Node, Pick, Places,
+    Predicate, Table, TableVariables, Test, Thread, Variables,
 };
 pub use operand::{Operand, Operands};
 pub use page::page;

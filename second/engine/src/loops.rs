@@ -1,5 +1,6 @@
 //! Rounds of sequential and parallel loops.
 
+use crate::kept::{bring_back_late, keep, keep_anew, keeps};
 use crate::net::{Entry, Loop, Places, Thread, Variables, THREADS};
 use crate::number;
 use crate::operand::Operand;
@@ -17,8 +18,14 @@ pub fn open_round(
 ) -> Result<bool, u8> {
     let count = threads.len();
     let thread = &mut threads[place];
-    let source = thread.table_variable(looping.read)?;
+    if wrong(Quirk::BackBeforeNextPick) {
+        bring_back_late(thread, looping);
+    }
     let pattern = Pattern::new(&looping.template, &thread.variables)?;
+    if wrong(Quirk::BackAtNextPick) {
+        bring_back_late(thread, looping);
+    }
+    let source = thread.table_variable(looping.read)?;
     pattern.suits(&source.columns)?;
     let (node, left) = match thread.stack[thread.stack.len() - 1] {
         Entry::Run(node) => (node, Places::below(source.rows.len())),
@@ -37,28 +44,43 @@ pub fn open_round(
     if full {
         return Err(number::LIMIT);
     }
-    let bindings = source.rows[usize::from(row)];
+    let values = source.rows[usize::from(row)];
     let last = thread.stack.len() - 1;
+    let first = matches!(thread.stack[last], Entry::Run(_));
     thread.stack[last] = Entry::Loop { node, left: left.without(row) };
+    if first && keeps(looping) {
+        keep(thread);
+    }
     if looping.parallel {
-        let fork = fork(thread, looping, &bindings);
+        let fork = fork(thread, looping, &values);
         threads.push(fork);
     } else {
-        bind(&mut thread.variables, &looping.template, &bindings);
-        thread.stack.push(Entry::Run(looping.body));
+        descend(thread, looping, &values, first);
     }
     Ok(true)
 }
 
-/// A new thread at the same site, with the bindings, all variables and the body alone.
-fn fork(thread: &mut Thread, looping: &Loop, bindings: &Row) -> Thread {
-    if wrong(Quirk::ForkBindsParent) {
-        bind(&mut thread.variables, &looping.template, bindings);
+/// Binds the formals of a sequential loop and puts its body on the stack.
+fn descend(thread: &mut Thread, looping: &Loop, values: &Row, first: bool) {
+    if wrong(Quirk::KeptAgain) {
+        keep_anew(thread);
     }
-    let mut fork = thread.clone();
-    fork.stack.clear();
-    fork.stack.push(Entry::Run(looping.body));
-    bind(&mut fork.variables, &looping.template, bindings);
+    bind(&mut thread.variables, &looping.template, values);
+    if wrong(Quirk::KeptEachRound) || first && wrong(Quirk::KeptWithFormals) {
+        keep_anew(thread);
+    }
+    thread.stack.push(Entry::Run(looping.body));
+}
+
+/// A new thread at the same site, with the bindings, all variables and the body alone.
+fn fork(thread: &mut Thread, looping: &Loop, values: &Row) -> Thread {
+    if wrong(Quirk::ForkBindsParent) {
+        bind(&mut thread.variables, &looping.template, values);
+    }
+    let mut fork = Thread::new(thread.site, looping.body);
+    fork.variables = thread.variables;
+    fork.tables = thread.tables;
+    bind(&mut fork.variables, &looping.template, values);
     fork
 }
 

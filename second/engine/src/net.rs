@@ -33,12 +33,25 @@ pub struct Table {
 
 pub type Variables = [Option<Value>; VARIABLES as usize];
 
+pub type TableVariables = [Option<Relation>; TABLE_VARIABLES as usize];
+
 #[derive(Clone, PartialEq, Eq, Debug)]
 pub struct Thread {
     pub site: Site,
     pub variables: Variables,
-    pub tables: [Option<Relation>; TABLE_VARIABLES as usize],
+    pub tables: TableVariables,
     pub stack: List<Entry, 8>,
+    /// What each sequential loop's entry holds: the bindings of the moment the loop was first met.
+    /// One for each of these entries, from the bottom of the stack to its top. They stand beside
+    /// the stack because they are large and few.
+    pub kept: Vec<Bindings>,
+}
+
+/// What a thread has bound.
+#[derive(Clone, PartialEq, Eq, Debug, Default)]
+pub struct Bindings {
+    pub variables: Variables,
+    pub tables: TableVariables,
 }
 
 #[derive(Clone, Copy, PartialEq, Eq, Debug)]
@@ -141,9 +154,14 @@ impl Thread {
         Thread {
             site,
             variables: Variables::default(),
-            tables: [None; TABLE_VARIABLES as usize],
+            tables: TableVariables::default(),
             stack: List::from_iter([Entry::Run(node)]),
+            kept: Vec::new(),
         }
+    }
+
+    pub fn bindings(&self) -> Bindings {
+        Bindings { variables: self.variables, tables: self.tables }
     }
 
     pub fn table_variable(&self, variable: u8) -> Result<&Relation, u8> {
@@ -168,6 +186,14 @@ impl Entry {
     pub fn node(self) -> u8 {
         match self {
             Entry::Run(node) | Entry::Loop { node, .. } => node,
+        }
+    }
+
+    /// The loop that this is a loop entry of; none for an entry to run.
+    pub fn looping(self, nodes: &[Node]) -> Option<&Loop> {
+        match (self, &nodes.get(usize::from(self.node()))?.act) {
+            (Entry::Loop { .. }, Act::Loop(looping)) => Some(looping),
+            _ => None,
         }
     }
 }

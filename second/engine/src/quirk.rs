@@ -1,4 +1,4 @@
-//! Twenty-five wrong engines, to show that the generated files tell them apart.
+//! Thirty-five wrong engines, to show that the generated files tell them apart.
 //! Without the feature `quirks` nothing of them is left in the program.
 
 /// One way of reading the rules wrongly.
@@ -44,6 +44,26 @@ pub enum Quirk {
     EagerNext,
     /// The seventeenth row is found before a row that doesn't fit.
     RowLimitFirst,
+    /// A sequential loop keeps the formals of its first round too.
+    KeptWithFormals,
+    /// A sequential loop keeps what is bound after the formals of each round.
+    KeptEachRound,
+    /// Only variables come back after a round.
+    BackVariables,
+    /// Only the loop's own formals come back after a round.
+    BackFormals,
+    /// Bindings come back at every step of the body.
+    BackEachStep,
+    /// Bindings come back at the loop's next pick, after T was judged.
+    BackAtNextPick,
+    /// Bindings don't come back where the entry removed is a loop that is over.
+    BackAfterActions,
+    /// Bindings come back at the loop's next pick, before T is judged.
+    BackBeforeNextPick,
+    /// A sequential loop keeps what is bound before the formals of each round.
+    KeptAgain,
+    /// Bindings come back under a parallel loop's entry too.
+    BackUnderForks,
     /// The sums of a page wrap at 32 bits.
     PageSumWraps,
     /// The page of a table without rows has no line at all.
@@ -99,6 +119,23 @@ mod switch {
             Quirk::EagerNext,
             Quirk::RowLimitFirst,
         ];
+
+        /// Those about what a round binds that netrun's text shows too.
+        pub const OF_ROUNDS: [Quirk; 7] = [
+            Quirk::KeptWithFormals,
+            Quirk::KeptEachRound,
+            Quirk::BackVariables,
+            Quirk::BackFormals,
+            Quirk::BackEachStep,
+            Quirk::BackAtNextPick,
+            Quirk::BackAfterActions,
+        ];
+
+        /// Those that no text shows, but the net after a pick.
+        pub const OF_NETS: [Quirk; 1] = [Quirk::BackBeforeNextPick];
+
+        /// Those that show only on sound nets that no file and picks lead to.
+        pub const OF_NETS_BY_HAND: [Quirk; 2] = [Quirk::KeptAgain, Quirk::BackUnderForks];
 
         /// Those that only netpage's text shows.
         pub const OF_PAGES: [Quirk; 5] = [

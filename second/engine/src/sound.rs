@@ -1,9 +1,10 @@
 //! Soundness of a net, and the part of check 4 that a loaded node must obey too.
 
+use crate::kept::keeps;
 use crate::list::List;
 use crate::net::{
-    Act, Address, Entry, Filter, Function, Loop, Net, Node, Places, Predicate, Table, Thread,
-    NODES, TABLES, TABLE_VARIABLES, THREADS,
+    Act, Address, Bindings, Entry, Filter, Function, Loop, Net, Node, Places, Predicate, Table,
+    TableVariables, Thread, Variables, NODES, TABLES, TABLE_VARIABLES, THREADS,
 };
 use crate::operand::{Operand, Operands};
 use crate::relation::{fits, Relation};
@@ -46,10 +47,16 @@ fn relation_sound(relation: &Relation) -> bool {
 
 fn thread_sound(thread: &Thread, nodes: &[Node]) -> bool {
     thread.site.in_range()
-        && thread.variables.iter().flatten().all(|value| value.in_range())
-        && thread.tables.iter().flatten().all(relation_sound)
+        && bindings_sound(&thread.variables, &thread.tables)
         && !thread.stack.is_empty()
         && thread.stack.iter().all(|entry| entry_sound(*entry, thread, nodes))
+        && kept_sound(thread, nodes)
+}
+
+/// Of a thread's own bindings and of those that its loops keep.
+fn bindings_sound(variables: &Variables, tables: &TableVariables) -> bool {
+    variables.iter().flatten().all(|value| value.in_range())
+        && tables.iter().flatten().all(relation_sound)
 }
 
 fn entry_sound(entry: Entry, thread: &Thread, nodes: &[Node]) -> bool {
@@ -63,6 +70,33 @@ fn entry_sound(entry: Entry, thread: &Thread, nodes: &[Node]) -> bool {
         }
         _ => false,
     }
+}
+
+/// Whether each entry that keeps bindings has its own, and no more are kept. They are bindings like
+/// the thread's, and agree with these on the table variables that the entry or a loop entry of
+/// either kind below it holds, so that the places left to visit stay places when they come back.
+fn kept_sound(thread: &Thread, nodes: &[Node]) -> bool {
+    let mut kept = thread.kept.iter();
+    let mut held = Held::default();
+    for looping in thread.stack.iter().filter_map(|entry| entry.looping(nodes)) {
+        held[usize::from(looping.read)] = true;
+        let sound = |kept: &Bindings| {
+            bindings_sound(&kept.variables, &kept.tables)
+                && agree(&kept.tables, &thread.tables, held)
+        };
+        if keeps(looping) && !kept.next().is_some_and(sound) {
+            return false;
+        }
+    }
+    kept.next().is_none()
+}
+
+/// Which table variables loop entries hold.
+type Held = [bool; TABLE_VARIABLES as usize];
+
+/// Whether the table variables that are held are bound alike: columns, and rows in order.
+fn agree(kept: &TableVariables, own: &TableVariables, held: Held) -> bool {
+    kept.iter().zip(own).zip(held).all(|((kept, own), held)| !held || kept.is_some() && kept == own)
 }
 
 /// Check 9 on a node: what it names is a node above its own number.

@@ -1,8 +1,9 @@
 //! One pick, and a list of picks.
 
 use crate::acts::Stage;
+use crate::kept::{bring_back, take_off};
 use crate::loops::open_round;
-use crate::net::{Act, Entry, Net, Pick, Thread};
+use crate::net::{Act, Entry, Net, Node, Pick, Thread};
 use crate::number;
 use crate::quirk::{wrong, Quirk};
 use crate::sound::sound;
@@ -48,18 +49,34 @@ pub fn step_sound(net: &mut Net, pick: Pick) -> Answer {
         thread: &mut net.threads[place],
     };
     let done = stage.act(&node.act)?;
-    advance(&mut net.threads, place, node.next);
+    advance(&mut net.threads, place, &net.nodes, node.next);
     Ok(done)
 }
 
-/// Goes to the node's next; without one the entry goes, and a thread with no entry goes too.
-fn advance(threads: &mut Vec<Thread>, place: usize, next: Option<u8>) {
-    let stack = &mut threads[place].stack;
-    stack.pop();
+/// Goes to the node's next; without one the entry goes, and a thread with no entry goes too. An
+/// entry that goes ends the round of a sequential loop directly below it.
+fn advance(threads: &mut Vec<Thread>, place: usize, nodes: &[Node], next: Option<u8>) {
+    let thread = &mut threads[place];
+    let top = thread.stack.last().copied();
+    take_off(thread, nodes);
+    if next.is_none() && thread.stack.is_empty() {
+        return remove(threads, place);
+    }
+    if ends_round(top, next) {
+        bring_back(thread, nodes);
+    }
     if let Some(node) = next {
-        stack.push(Entry::Run(node));
-    } else if stack.is_empty() {
-        remove(threads, place);
+        thread.stack.push(Entry::Run(node));
+    }
+}
+
+/// Whether leaving the top entry ends a round: only where the entry goes, whatever it was.
+fn ends_round(top: Option<Entry>, next: Option<u8>) -> bool {
+    let late = wrong(Quirk::BackAtNextPick) || wrong(Quirk::BackBeforeNextPick);
+    let looping = matches!(top, Some(Entry::Loop { .. })) && wrong(Quirk::BackAfterActions);
+    match next {
+        Some(_) => wrong(Quirk::BackEachStep),
+        None => !late && !looping,
     }
 }
 

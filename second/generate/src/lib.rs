@@ -1,10 +1,13 @@
 //! A seeded generator of files for netrun, and examples computed by hand.
 #![forbid(unsafe_code)]
 
+mod anew;
 mod damage;
+mod ended;
 pub mod examples;
 mod program;
 mod random;
+mod reads;
 pub mod record;
 mod scope;
 mod standing;

@@ -1,7 +1,7 @@
 //! Programs: chains of nodes, loops with bodies, and loops nested in loops.
 
 use crate::record::{node, Record, COUNT, END, PARALLEL, SEQUENTIAL, SUM};
-use crate::scope::Scope;
+use crate::scope::{Scope, Template};
 use crate::statement::Writer;
 
 /// What a file is mostly about.
@@ -18,6 +18,8 @@ pub enum Theme {
     Crowded,
     /// Sums at the edge of 32 bits.
     Sums,
+    /// Sequential loops whose bodies bind anew what is read again.
+    Anew,
     /// Short programs that end in nodes with several reasons to be refused.
     Traps,
 }
@@ -57,13 +59,13 @@ const STATEMENTS: [(usize, Statement); 11] = [
     (13, Statement::Update),
     (10, Statement::Aggregate),
     (6, Statement::Create),
-    (8, Statement::Drop),
+    (10, Statement::Drop),
     (9, Statement::Loop(SEQUENTIAL)),
     (9, Statement::Loop(PARALLEL)),
 ];
 
 /// How deep loops of mixed statements go.
-const DEPTH: usize = 3;
+pub const DEPTH: usize = 3;
 
 /// The nodes after which only the program at hand is ended.
 const ROOM: usize = 90;
@@ -87,9 +89,11 @@ impl Writer<'_> {
             Theme::Full => self.fill(&mut chain),
             Theme::Crowded => self.crowd(&mut chain),
             Theme::Sums => self.sums(&mut chain),
+            Theme::Anew => self.anew(&mut chain),
         }
         let (count, traps) = match self.theme {
             Theme::Traps => (self.random.between(0, 2), 100),
+            Theme::Anew => (self.random.between(0, 2), 30),
             _ => (self.random.between(2, 9), 60),
         };
         self.statements(&mut chain, count, 0);
@@ -108,7 +112,7 @@ impl Writer<'_> {
         self.nodes.push(record);
     }
 
-    fn statements(&mut self, chain: &mut Chain, count: usize, depth: usize) {
+    pub fn statements(&mut self, chain: &mut Chain, count: usize, depth: usize) {
         for _ in 0..count {
             if self.has_room() {
                 self.statement(chain, depth);
@@ -131,6 +135,9 @@ impl Writer<'_> {
             Statement::Aggregate => self.aggregate(),
             Statement::Create => Some(self.create()),
             Statement::Drop => self.drop_table(),
+            Statement::Loop(SEQUENTIAL) if depth < DEPTH && self.random.chance(40) => {
+                return self.loop_anew(chain, depth + 1)
+            }
             Statement::Loop(kind) if depth < DEPTH => return self.nested(chain, &[kind], depth),
             Statement::Loop(_) => self.aggregate(),
         };
@@ -159,6 +166,17 @@ impl Writer<'_> {
         let read = self.scope.bound_table(self.random)?;
         let columns = self.scope.tables[usize::from(read)].clone()?;
         let template = self.scope.template(self.random, &columns, None, formals);
+        Some(self.open_with(chain, kind, read, template))
+    }
+
+    /// The same with a T that is given.
+    pub fn open_with(
+        &mut self,
+        chain: &mut Chain,
+        kind: u8,
+        read: u8,
+        template: Template,
+    ) -> Opened {
         let body = self.nodes.len() as u8 + 1;
         let record = node(kind, END).body(body).read(read).template(&template.operands);
         self.append(chain, record);
@@ -170,13 +188,13 @@ impl Writer<'_> {
         } else {
             self.scope.held[usize::from(read)] = true;
         }
-        Some(Opened { parallel, before })
+        Opened { parallel, before }
     }
 
-    /// After a parallel loop its thread is as it was. A sequential one leaves its bindings, if it
-    /// had a round at all.
+    /// After a loop its thread has what it had bound before it. Now and then a sequential one is
+    /// taken to leave what its body bound.
     pub fn close_loop(&mut self, opened: Opened) {
-        if opened.parallel || self.random.chance(50) {
+        if opened.parallel || self.random.chance(75) {
             self.scope = opened.before;
         } else {
             self.scope.held = opened.before.held;
@@ -201,7 +219,7 @@ impl Writer<'_> {
             self.append(chain, record);
         }
         self.forks(chain);
-        if let Some(record) = self.insert() {
+        for record in [self.insert(), self.insert()].into_iter().flatten() {
             self.append(chain, record);
         }
     }

@@ -1,5 +1,7 @@
-//! How often each number, each kind done and each sort of page occurs in generated files.
+//! How often each number, each kind done, each sort of round end and each sort of page occurs in
+//! generated files.
 
+use crate::ended::{Before, Ended};
 use crate::standing::Standing;
 use crate::{file, Class};
 use engine::{accounts, load, step_sound, Answer, Entry, Net, Pick};
@@ -17,6 +19,8 @@ pub struct Stats {
     rounds: [usize; 4],
     /// Picks on nets at a limit: rows of a table, tables, threads, entries of the stack picked.
     limits: [usize; 4],
+    /// Rounds of sequential loops that end, and what comes back by it.
+    ended: Ended,
     /// The tables that the picks left.
     standing: Standing,
     /// The first files on which demand 3 is broken.
@@ -74,14 +78,17 @@ impl Stats {
 
     fn count_picks(&mut self, mut net: Net, picks: &[Pick]) {
         self.picks += picks.len();
+        self.ended.start(&net);
         for pick in picks {
             let thread = net.threads.get(usize::from(pick.thread));
             let top = thread.and_then(|thread| thread.stack.last().copied());
+            let before = Before::new(&net, *pick);
             let kind = top.map(|top| net.nodes[usize::from(top.node())].act.kind());
             let (threads, depth) = extent(&net, *pick);
             self.count_limits(&net, depth);
             let answer = step_sound(&mut net, *pick);
             self.count_answer(answer, kind);
+            self.ended.count(usize::from(pick.thread), before, answer, &net);
             let later = usize::from(matches!(top, Some(Entry::Loop { .. })));
             match extent(&net, *pick) {
                 (after, _) if after > threads => self.rounds[2 + later] += 1,
@@ -128,6 +135,11 @@ impl Stats {
         share(self.done[kind], self.picks)
     }
 
+    /// The share of each sort of pick around the end of rounds among its own, in percent.
+    pub fn ended_shares(&self) -> impl Iterator<Item = f64> + '_ {
+        self.ended.sorts().map(|(_, count, of)| share(count, of))
+    }
+
     /// The share of each sort of page among the tables standing after the picks, in percent.
     pub fn page_shares(&self) -> impl Iterator<Item = f64> + '_ {
         self.standing.sorts().map(|(_, count)| share(count, self.standing.tables))
@@ -163,6 +175,9 @@ impl fmt::Display for Stats {
         }
         for (name, count) in ROUNDS.iter().zip(self.rounds) {
             line(format!("round {name}"), count, self.picks)?;
+        }
+        for (name, count, of) in self.ended.sorts() {
+            line(name.into(), count, of)?;
         }
         for (name, count) in LIMITS.iter().zip(self.limits) {
             line(format!("pick at {name}"), count, self.picks)?;

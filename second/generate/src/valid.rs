@@ -28,10 +28,11 @@ pub fn net(random: &mut Random) -> Vec<Record> {
     let theme = random.weighted(&[
         (10, Theme::Mixed),
         (3, Theme::Deep),
-        (3, Theme::Forks),
-        (3, Theme::Full),
+        (4, Theme::Forks),
+        (4, Theme::Full),
         (3, Theme::Crowded),
         (3, Theme::Sums),
+        (12, Theme::Anew),
         (4, Theme::Traps),
     ]);
     let world = World::new(random, size(theme));
@@ -50,12 +51,18 @@ fn size(theme: Theme) -> Size {
         Theme::Full => Size { tables: (1, 3), rows: (6, 22), edges, heavy: 60 },
         Theme::Traps => Size { tables: (1, 4), rows: (0, 20), edges, heavy },
         Theme::Crowded => Size { tables: (4, 8), rows: (0, 5), edges, heavy },
+        Theme::Anew => Size { tables: (1, 3), rows: (2, 7), edges, heavy: 50 },
         Theme::Sums => Size { tables: (2, 4), rows: (2, 7), edges: 55, heavy },
     }
 }
 
 fn programs(random: &mut Random, world: &World, theme: Theme) -> (Vec<Record>, Vec<Record>) {
-    let count = if theme == Theme::Traps { 8 } else { random.between(2, 6) };
+    let count = match theme {
+        Theme::Traps => 8,
+        // Few, so that the picks lead far.
+        Theme::Anew => random.between(1, 2),
+        _ => random.between(2, 6),
+    };
     let homes = &world.homes;
     let mut writer = Writer {
         random,

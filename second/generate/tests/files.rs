@@ -23,6 +23,12 @@ fn no_refusal_and_no_kind_done_is_rare_among_valid_files() {
 }
 
 #[test]
+fn no_sort_of_round_end_is_rare_among_valid_files() {
+    let stats = Stats::of(Class::Valid, 0..3_000);
+    assert!(stats.ended_shares().all(|share| share >= SHARE), "{stats}");
+}
+
+#[test]
 fn no_sort_of_page_is_rare_among_valid_files() {
     let stats = Stats::of(Class::Valid, 0..3_000);
     assert!(stats.page_shares().all(|share| share >= SHARE), "{stats}");

@@ -19,7 +19,7 @@ use Rattle.step_decide.proofs.decide.Statement.{statement}
 use Rattle.step_decide.proofs.decide.Tie as tie
 
 abbrev meant : tie.Start → Rest → Situation
-meant s w = let a = s .args in situation (whole (a .vars) (a .depth) w) (a .frame) (a .node) (a .content) (a .s)
+meant s w = let a = s .args in situation (whole (a .vars) (a .depth) w) (w .saved) (a .frame) (a .node) (a .content) (a .s)
 
 abbrev start : tie.After-reads-ok → tie.Start
 start r = r .before

@@ -19,7 +19,7 @@ abbrev start : tie.After-round → tie.Start
 start r = r .before .before .before .before .before
 
 abbrev meant : tie.Start → Rest → Situation
-meant s w = let a = s .args in situation (whole (a .vars) (a .depth) w) (a .frame) (a .node) (a .content) (a .s)
+meant s w = let a = s .args in situation (whole (a .vars) (a .depth) w) (w .saved) (a .frame) (a .node) (a .content) (a .s)
 
 abbrev met : tie.After-round → Rest → Situation
 met r w = meant (start r) w
@@ -51,11 +51,12 @@ onward-requires c κs = start (c .before .before) .pre .1 .facts .0 .stacked .so
 -- a round in a new thread
 returns : tie.Need-returns
 returns c w fine known source n m =
-    let k = c .before in
+    let i = c .before in
+    let k = i .before in
     let o = k .before .before .before in
     let r = o .before .before in
     let s = start r in
-    forks-at (met r w) (s .args .source) n (r .round .result) (round-at r w known source n m) (fine .stacked) (w .long) _ refl (o .enum-told2 .given .1) (k .node-of .ensures) refl (sym (r .before .before .is-parallel .ensures) ∙ c .if1 .taken) refl refl refl refl
+    forks-at (met r w) (s .args .source) n (r .round .result) (round-at r w known source n m) (fine .stacked) (w .long) _ refl (o .enum-told2 .given .1) (i .is-run .ensures) (k .node-of .ensures) (λ b. refl) (sym (r .before .before .is-parallel .ensures) ∙ c .if1 .taken) refl refl refl refl
 
 -- refused
 returns-2 : tie.Need-returns-2
@@ -75,7 +76,8 @@ returns-3 c w fine known source n m =
 -- a round in the thread
 returns-4 : tie.Need-returns-4
 returns-4 c w fine known source n m =
-    let k = c .before in
+    let i = c .before in
+    let k = i .before in
     let o = k .before .before .before in
     let r = o .before .before in
     let s = start r in
@@ -83,7 +85,7 @@ returns-4 c w fine known source n m =
     let deep : s .args .depth < 8 =
     ltb-true (s .args .depth) 8
     (sym (ap (λ (b : Bool). cond b (ltb (s .args .s .threads) 8) (ltb (s .args .depth) 8)) (c .if1 .left)) ∙ sym (r .before .room-for-round .ensures) ∙ round-room (r .round .ensures) e) in
-    runs-at (met r w) (s .args .source) n (r .round .result) (round-at r w known source n m) (fine .stacked) (w .long) _ refl e (k .node-of .ensures) refl (sym (r .before .before .is-parallel .ensures) ∙ c .if1 .left) deep refl refl refl
+    runs-at (met r w) (s .args .source) n (r .round .result) (round-at r w known source n m) (fine .stacked) (w .long) _ refl e (i .is-run .ensures) (k .node-of .ensures) (λ b. refl) (sym (r .before .before .is-parallel .ensures) ∙ c .if1 .left) deep refl refl refl
 
 pub decide-loop-spec : {M : Type 1} → statement M
 decide-loop-spec =
@@ -97,6 +99,7 @@ decide-loop-spec =
     (λ c. search needs)
     onward-requires
     (λ c. search needs)
+    (λ c κs. search needs)
     (λ c κs. search needs)
     returns
     (λ c. search needs)

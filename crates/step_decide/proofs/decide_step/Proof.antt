@@ -5,15 +5,15 @@ use borrow.Author.Needs.{needs}
 use Rattle.values.specs.Operands.{varsOf}
 use Rattle.nets.specs.Answers.{Said, isDoing, stepSaid, saidOf}
 use Rattle.step_effect.specs.Contracts.{partsOf, Doing, StepReady}
-use Rattle.step_meets.specs.Situations.{Situation, situation, Rest, whole}
+use Rattle.step_meets.specs.Situations.{Situation, situation, Rest, whole, savedAfter}
 use Rattle.step_meets.proofs.SituationLaws.{source-met, known-12, step-ready}
 use Rattle.step_meets.proofs.DecideLaws.{never-done, refused-at, done-parts, act-answers, act-change}
-use Rattle.step_meets.proofs.MovedLaws.{goes-on}
+use Rattle.step_meets.proofs.MovedLaws.{goes-on, saved-below}
 use Rattle.step_decide.proofs.decide_step.Statement.{statement}
 use Rattle.step_decide.proofs.decide_step.Tie as tie
 
 abbrev met : tie.Start → Rest → Situation
-met s w = let a = s .args in situation (whole (a .vars) (a .depth) w) (a .frame) (a .node) (a .content) (a .s)
+met s w = let a = s .args in situation (whole (a .vars) (a .depth) w) (w .saved) (a .frame) (a .node) (a .content) (a .s)
 
 -- what the step's own functions ask for
 ready : (s : tie.Start) → StepReady (s .args .node) (s .args .content) (s .args .source) (s .args .vars)
@@ -67,7 +67,7 @@ returns-2 c =
             change = λ h x.
                 act-change (met s w) n m (s .pre .0) (s .args .source) (source-met (met s w) (s .args .source) source n m) (known-12 (met s w) n m known) thirteen fourteen fifteen (o .result) x (o .ensures .0) said
                 (o .ensures .1) (ap varsOf (o .ensures .2) ∙ v .vars-after .ensures)
-                (goes-on (met s w .thread) (o .result) (x .above) (x .over) (x .body) (x .relations) (fine .stacked) (w .long) (s .args .node .next) (o .ensures .3));
+                (goes-on (met s w .thread) (w .saved) (savedAfter (met s w) (o .result)) (o .result) (x .above) (x .over) (x .body) (x .relations) (fine .stacked) (w .long) (saved-below (met s w) (o .result)) (n .net .nodes) (s .args .node .next) (o .ensures .3));
           },
       λ h. does (v .before),
     )

@@ -22,7 +22,7 @@ use Rattle.step_thread.specs.declared.Round.{Round}
 use Rattle.nets.specs.Scenes.{stillToVisit}
 use Rattle.nets.specs.View.{entryOf, marked}
 use Rattle.step_reads.specs.Contracts.{flagAt}
-use Rattle.step_thread.specs.Contracts.{RoundSaid, over, opened, stopped, roundSaid, roundBy, noHeld, visitOf, readyAt, OpenedIs, RoundIs}
+use Rattle.step_thread.specs.Contracts.{noBindings, RoundSaid, over, opened, stopped, roundSaid, roundBy, visitOf, readyAt, OpenedIs, RoundIs}
 use Rattle.step_loop.proofs.MarkLaws.{passing-any, passing-among}
 use borrow.Author.Needs.{needs}
 use Rattle.step_loop.proofs.round.Statement.{statement}
@@ -71,9 +71,9 @@ lengths t s =
     ap₂ eqb (length-firsts (λ (f : Field). f .operand) noField (t .count) (t .fields)) (length-firsts (λ (k : ℕ). k) 0 (s .columns) (s .kinds))
 
 -- the rows still to visit
-module _ (s : Code.Relation) (f : Frame) (visit : List Bool) (to-visit : marked 0 visit ≡ stillToVisit (entryOf noHeld f) (s .count)) where
+module _ (s : Code.Relation) (f : Frame) (visit : List Bool) (to-visit : marked 0 visit ≡ stillToVisit (entryOf noBindings f) (s .count)) where
   seen : marked 0 visit ≡ visitOf f (relationOf s)
-  seen = to-visit ∙ sym (ap (stillToVisit (entryOf noHeld f)) (length-firsts (valuesOf (s .columns)) noRow (s .count) (s .rows)))
+  seen = to-visit ∙ sym (ap (stillToVisit (entryOf noBindings f)) (length-firsts (valuesOf (s .columns)) noRow (s .count) (s .rows)))
 
   -- those that match
   module _ (h : T (all (λ (i : ℕ). ltb i (s .count)) (visitOf f (relationOf s)))) (p : ℕ → Bool) (ready : List Bool)

@@ -4,6 +4,7 @@ mod document;
 mod loading;
 mod loops;
 mod pages;
+mod rounds;
 mod steps;
 
 use crate::record::{file, pick, row, start, table, Name, Operand, Record};
@@ -52,7 +53,7 @@ pub fn shown() -> Vec<Example> {
 }
 
 pub fn all() -> Vec<Example> {
-    [document::all(), loading::all(), steps::all(), loops::all(), pages::all()]
+    [document::all(), loading::all(), steps::all(), loops::all(), rounds::all(), pages::all()]
         .into_iter()
         .flatten()
         .collect()
