@@ -1,104 +1,131 @@
--- Entries judged by their node's shape and their table variable's extent; stacks from the top down; what extents say of table variables. Assumes nothing.
-use Prim.Native.Nat.{ℕ, zero, suc, _-_, _<_, _≤_}
+-- Entries judged by their node's shape and their table variable's extent; what extents say of table variables. Assumes nothing.
+use Prim.Native.Nat.{ℕ, zero, suc, _+_, _<_, _≤_}
 use mathlib.Core.Path.{_≡_, refl, sym, ap, ap₂, _∙_}
-use mathlib.Core.Bool.{Bool, true, false, cond, _&&_}
+use mathlib.Core.Bool.{Bool, true, false, true≢false, cond, _&&_, and-false}
 use mathlib.Core.List.{List, [], _∷_, map}
 use mathlib.Core.Option.{Option, none, some}
 use native.Mathlib.Omega.{arith}
-use lib.Dec.{ltb}
+use lib.Dec.{eqb, eqb→eq, ltb}
 use lib.ListN.{length, getD, length-map, List·getD-map, List·getD-eq-default}
-use borrow.Author.Tests.{ltb-true, ltb-false, lt-ltb, le-ltb}
+use borrow.Author.Tests.{ltb-true, lt-ltb, le-ltb, ne-eqb}
 use Rattle.values.specs.Lists.{all}
+use Rattle.values.proofs.Bools.{and-first, and-last, T-of}
 use Rattle.values.proofs.Firsts.{firsts-at}
 use Rattle.rows.specs.Relations.{Relation}
 use Rattle.rows.specs.View.{relationOf}
 use Rattle.net_parts.specs.declared.Extent.{Extent}
-use Rattle.nets.specs.declared.Frame.{Frame}
+use Rattle.nets.specs.declared.Entry.{Entry}
 use Rattle.nets.specs.declared.Entry.the-variants.{Run, Loop}
+use Rattle.nets.specs.declared.Frame.{Frame}
 use Rattle.nets.specs.declared.TableVariable.{TableVariable}
-use Rattle.nets.specs.Nets.{isLoop, Node}
-use Rattle.nets.specs.Sound.{noNode, hasPlaces, entryOk}
-use Rattle.net_parts.specs.SoundParts.{shapeOf, ShapesOf, holdsPlaces, ExtentsOf}
-use Rattle.nets.specs.View.{noFrame, noVariable, marked, entryWith, entryOf, stackOf, variableOf}
+use Rattle.nets.specs.Nets.{isLoop, isSequential, Bindings, Node, visiting}
+use Rattle.nets.specs.Sound.{noNode, hasPlaces}
+use Rattle.net_parts.specs.SoundParts.{shapeOf, readsFirst, readsSecond, ShapesOf, holdsPlaces, ExtentsOf, bareEntryOk}
+use Rattle.nets.specs.View.{noVariable, marked, entryWith, entryOf, variableOf}
 use Rattle.net_parts.proofs.Counts.{rows-count}
+
+-- ── shapes ──
+
+-- of a node that is a loop or not, sequential or not, and reads table variable `r`
+abbrev pub shape : Bool → Bool → ℕ → ℕ
+shape loop once r = cond (loop && ltb r 2) (cond once r (r + 2)) 4
+
+pub first-shape : (loop once : Bool) (r : ℕ) → readsFirst (shape loop once r) ≡ (loop && eqb r 0)
+first-shape false once r = refl
+first-shape true true zero = refl
+first-shape true false zero = refl
+first-shape true true (suc zero) = refl
+first-shape true false (suc zero) = refl
+first-shape true once (suc (suc r)) = rw (le-ltb (suc (suc r)) 2 (omega arith), ne-eqb (suc (suc r)) 0 (λ e. omega arith))
+
+pub second-shape : (loop once : Bool) (r : ℕ) → readsSecond (shape loop once r) ≡ (loop && eqb r 1)
+second-shape false once r = refl
+second-shape true true zero = refl
+second-shape true false zero = refl
+second-shape true true (suc zero) = refl
+second-shape true false (suc zero) = refl
+second-shape true once (suc (suc r)) = rw (le-ltb (suc (suc r)) 2 (omega arith), ne-eqb (suc (suc r)) 1 (λ e. omega arith))
+
+pub low-shape : (loop once : Bool) (r : ℕ) → ltb (shape loop once r) 2 ≡ (loop && once && ltb r 2)
+low-shape false once r = refl
+low-shape true true zero = refl
+low-shape true false zero = refl
+low-shape true true (suc zero) = refl
+low-shape true false (suc zero) = refl
+low-shape true true (suc (suc r)) = rw (le-ltb (suc (suc r)) 2 (omega arith))
+low-shape true false (suc (suc r)) = rw (le-ltb (suc (suc r)) 2 (omega arith))
+
+-- a node that is there
+loop-there : (ds : List Node) (i : ℕ) → isLoop (getD ds i noNode .kind) ≡ true → ltb i (length ds) ≡ true
+loop-there [] i e = absurd (true≢false (sym e))
+loop-there (d ∷ ds) zero e = lt-ltb 0 (suc (length ds)) (omega arith)
+loop-there (d ∷ ds) (suc i) e = lt-ltb (suc i) (suc (length ds)) (omega (arith, ltb-true i (length ds) (loop-there ds i e)))
+
+-- the shape that an array of shapes has for a node; past the nodes no node is a loop
+module _ {ds : List Node} {shapes : List ℕ} {count : ℕ} (s : ShapesOf shapes count ds) (i : ℕ) where
+  pub shape-at : i < count → getD shapes i 0 ≡ shapeOf (getD ds i noNode)
+  shape-at h = sym (firsts-at (λ (n : ℕ). n) 0 count shapes i 4 h) ∙ ap (λ (l : List ℕ). getD l i 4) (s .each) ∙ List·getD-map shapeOf ds i noNode
+
+  pub shape-past : count ≤ i → 4 ≡ shapeOf (getD ds i noNode)
+  shape-past h = sym (ap shapeOf (List·getD-eq-default ds noNode (omega (arith, s .long))))
 
 -- ── one entry ──
 
--- a node's answer by its shape
-module _ {a b : Extent} {rs : List (Option Relation)} (g : ExtentsOf a b rs) (v : List ℕ) (read : ℕ) where
-  abbrev asked : Bool → Bool
-  asked loop = loop && hasPlaces v (getD rs read none)
+-- a loop's entry is judged by its node and its places
+bare-is : (ds : List Node) (rs : List (Option Relation)) (i : ℕ) (v : List ℕ) (b : Bindings)
+    → (isLoop (getD ds i noNode .kind) && hasPlaces v (getD rs (getD ds i noNode .read) none)) ≡ bareEntryOk ds rs (visiting i v b)
+bare-is ds rs i v b = go (isLoop (getD ds i noNode .kind)) refl
+  where
+    go : (l : Bool) → isLoop (getD ds i noNode .kind) ≡ l → (l && hasPlaces v (getD rs (getD ds i noNode .read) none)) ≡ (ltb i (length ds) && l && hasPlaces v (getD rs (getD ds i noNode .read) none))
+    go true e = rw (loop-there ds i e)
+    go false e = rw (and-false (ltb i (length ds)))
 
-  abbrev shape : Bool → Bool → ℕ
-  shape loop low = cond (loop && low) read 2
+module _ (ds : List Node) (rs : List (Option Relation)) (b : Bindings) (f : Frame) where
+  entry-is : {e : Entry} → f .entry ≡ e → bareEntryOk ds rs (entryWith b (f .visit) e) ≡ bareEntryOk ds rs (entryOf b f)
+  entry-is e = sym (ap (λ x. bareEntryOk ds rs (entryWith b (f .visit) x)) e)
 
-  first-asked : (loop low : Bool) → shape loop low ≡ 0 → holdsPlaces a v ≡ asked loop
-  first-asked false low e = absurd (omega arith)
-  first-asked true false e = absurd (omega arith)
-  first-asked true true e = sym (g .first v) ∙ ap (λ (j : ℕ). hasPlaces v (getD rs j none)) (sym e)
+  pub entry-runs : {i n : ℕ} → length ds ≡ n → f .entry ≡ Run i → ltb i n ≡ bareEntryOk ds rs (entryOf b f)
+  entry-runs {i} l e = ap (ltb i) (sym l) ∙ entry-is e
 
-  second-asked : (loop low : Bool) → shape loop low ≡ 1 → holdsPlaces b v ≡ asked loop
-  second-asked false low e = absurd (omega arith)
-  second-asked true false e = absurd (omega arith)
-  second-asked true true e = sym (g .second v) ∙ ap (λ (j : ℕ). hasPlaces v (getD rs j none)) (sym e)
-
-  none-asked : (loop low : Bool) → ltb read 2 ≡ low → (shape loop low ≡ 0 → ⊥) → (shape loop low ≡ 1 → ⊥) → false ≡ asked loop
-  none-asked false low t h k = refl
-  none-asked true false t h k = sym (ap (hasPlaces v) (g .others read (ltb-false read 2 t)))
-  none-asked true true t h k = let l : read < 2 = ltb-true read 2 t in absurd (omega arith)
-
-module _ (ds : List Node) (rs : List (Option Relation)) {shapes : List ℕ} {count : ℕ} (s : ShapesOf shapes count ds) {a b : Extent} (g : ExtentsOf a b rs) (f : Frame) where
-  pub entry-runs : {i : ℕ} → f .entry ≡ Run i → ltb i count ≡ entryOk ds rs (entryOf f)
-  entry-runs {i} e = ap (ltb i) (sym (s .long)) ∙ sym (ap (λ x. entryOk ds rs (entryWith (f .visit) x)) e)
-
-  module _ {i : ℕ} (e : f .entry ≡ Loop i) where
+  module _ {x y : Extent} (g : ExtentsOf x y rs) {i s : ℕ} (e : f .entry ≡ Loop i) (q : s ≡ shapeOf (getD ds i noNode)) where
     abbrev node : Node
     node = getD ds i noNode
 
     abbrev places : List ℕ
     places = marked 0 (f .visit)
 
-    -- t says whether there is such a node
-    whole : {t : Bool} → ltb i (length ds) ≡ t → (t && isLoop (node .kind) && hasPlaces places (getD rs (node .read) none)) ≡ entryOk ds rs (entryOf f)
-    whole h =
-        sym (ap (λ (t : Bool). t && isLoop (node .kind) && hasPlaces places (getD rs (node .read) none)) h)
-        ∙ sym (ap (λ x. entryOk ds rs (entryWith (f .visit) x)) e)
+    whole : (isLoop (node .kind) && hasPlaces places (getD rs (node .read) none)) ≡ bareEntryOk ds rs (entryOf b f)
+    whole = bare-is ds rs i places b ∙ entry-is e
 
-    pub entry-past : count ≤ i → false ≡ entryOk ds rs (entryOf f)
-    entry-past h = whole (le-ltb i (length ds) (omega (arith, s .long)))
+    -- the node is a loop that reads table variable m
+    found : (m : ℕ) (z : Extent) {r l : Bool} → l ≡ (isLoop (node .kind) && eqb (node .read) m) → l ≡ true → hasPlaces places (getD rs m none) ≡ holdsPlaces z places
+        → r ≡ holdsPlaces z places → r ≡ bareEntryOk ds rs (entryOf b f)
+    found m z p h a k =
+        let t = sym p ∙ h in
+        let n : node .read ≡ m = eqb→eq (node .read) m (T-of (eqb (node .read) m) (and-last (isLoop (node .kind)) (eqb (node .read) m) t)) in
+        k ∙ sym a ∙ ap₂ (λ (u : Bool) (j : ℕ). u && hasPlaces places (getD rs j none)) (sym (and-first (isLoop (node .kind)) (eqb (node .read) m) t)) (sym n) ∙ whole
 
-    module _ (h : i < count) where
-      here : asked g places (node .read) (isLoop (node .kind)) ≡ entryOk ds rs (entryOf f)
-      here = whole (lt-ltb i (length ds) (omega (arith, s .long)))
+    first-is : readsFirst s ≡ (isLoop (node .kind) && eqb (node .read) 0)
+    first-is = ap readsFirst q ∙ first-shape (isLoop (node .kind)) (isSequential (node .kind)) (node .read)
 
-      shape-at : getD shapes i 0 ≡ shapeOf node
-      shape-at = sym (firsts-at (λ (n : ℕ). n) 0 count shapes i 2 h) ∙ ap (λ (l : List ℕ). getD l i 2) (s .each) ∙ List·getD-map shapeOf ds i noNode
+    second-is : readsSecond s ≡ (isLoop (node .kind) && eqb (node .read) 1)
+    second-is = ap readsSecond q ∙ second-shape (isLoop (node .kind)) (isSequential (node .kind)) (node .read)
 
-      pub entry-first : getD shapes i 0 ≡ 0 → {r : Bool} → r ≡ holdsPlaces a places → r ≡ entryOk ds rs (entryOf f)
-      entry-first k q =
-          q ∙ first-asked g places (node .read) (isLoop (node .kind)) (ltb (node .read) 2) (sym shape-at ∙ k) ∙ here
+    pub entry-first : {t r : Bool} → t ≡ readsFirst s → t ≡ true → r ≡ holdsPlaces x places → r ≡ bareEntryOk ds rs (entryOf b f)
+    entry-first p h k = found 0 x (p ∙ first-is) h (g .first places) k
 
-      pub entry-second : getD shapes i 0 ≡ 1 → {r : Bool} → r ≡ holdsPlaces b places → r ≡ entryOk ds rs (entryOf f)
-      entry-second k q =
-          q ∙ second-asked g places (node .read) (isLoop (node .kind)) (ltb (node .read) 2) (sym shape-at ∙ k) ∙ here
+    pub entry-second : {t r : Bool} → t ≡ readsSecond s → t ≡ true → r ≡ holdsPlaces y places → r ≡ bareEntryOk ds rs (entryOf b f)
+    entry-second p h k = found 1 y (p ∙ second-is) h (g .second places) k
 
-      pub entry-neither : (getD shapes i 0 ≡ 0 → ⊥) → (getD shapes i 0 ≡ 1 → ⊥) → false ≡ entryOk ds rs (entryOf f)
-      entry-neither k l =
-          none-asked g places (node .read) (isLoop (node .kind)) (ltb (node .read) 2) refl (λ q. k (shape-at ∙ q)) (λ q. l (shape-at ∙ q)) ∙ here
-
--- ── stacks, from the top down ──
-
-pub length-stack : (n : ℕ) (l : List Frame) → length (stackOf n l) ≡ n
-length-stack zero l = refl
-length-stack (suc n) l = ap suc (length-stack n l)
-
-pub stack-cons : (n : ℕ) (l : List Frame) → 0 < n → stackOf n l ≡ entryOf (getD l (n - 1) noFrame) ∷ stackOf (n - 1) l
-stack-cons zero l h = absurd (omega arith)
-stack-cons (suc n) l h = let q : suc n - 1 ≡ n = omega arith in rw q
-
-pub stack-end : (n : ℕ) (l : List Frame) → n ≤ 0 → stackOf n l ≡ []
-stack-end zero l h = refl
-stack-end (suc n) l h = absurd (omega arith)
+    pub entry-neither : {t u : Bool} → t ≡ readsFirst s → t ≡ false → u ≡ readsSecond s → u ≡ false → false ≡ bareEntryOk ds rs (entryOf b f)
+    entry-neither p h p′ h′ =
+        none-asked (isLoop (node .kind)) (node .read) (sym (p ∙ first-is) ∙ h) (sym (p′ ∙ second-is) ∙ h′) ∙ whole
+      where
+        none-asked : (loop : Bool) (r : ℕ) → (loop && eqb r 0) ≡ false → (loop && eqb r 1) ≡ false → false ≡ (loop && hasPlaces places (getD rs r none))
+        none-asked false r h k = refl
+        none-asked true zero h k = absurd (true≢false h)
+        none-asked true (suc zero) h k = absurd (true≢false k)
+        none-asked true (suc (suc r)) h k = sym (ap (hasPlaces places) (g .others (suc (suc r)) (omega arith)))
 
 -- ── table variables ──
 

@@ -3,6 +3,7 @@ pub mod Counts
 pub mod DistinctLaws
 pub mod EntryLaws
 pub mod FieldLaws
+pub mod HeldLaws
 pub mod MarkLaws
 pub mod RowLaws
 pub mod TextLaws

@@ -5,19 +5,21 @@ use mathlib.Core.Bool.{Bool, true, false, _&&_, _||_, and-false, true≢false}
 use mathlib.Core.List.{List, [], _∷_}
 use mathlib.Core.Option.{some}
 use native.Mathlib.Omega.{arith}
-use lib.Dec.{eqb, leb, ltb}
+use lib.Dec.{T, eqb, leb, ltb, leb→le}
 use lib.ListN.{length, getD}
 use Rattle.values.specs.declared.Value.{Value}
 use Rattle.values.specs.Lists.{all, agree, firsts}
 use Rattle.values.specs.Values.{kindOf, inRange}
-use Rattle.values.proofs.Bools.{and-comm, and-swap, and-first, and-last}
+use Rattle.values.proofs.Bools.{and-l, and-r, and-comm, and-swap, and-first, and-last, T-of}
 use Rattle.values.proofs.Firsts.{firsts-same}
 use Rattle.rows.specs.declared.Cell.{Cell}
+use Rattle.rows.specs.declared.Relation as Code
 use Rattle.rows.specs.Relations.{Row, Columns, Relation}
 use Rattle.rows.specs.Fit.{fitsRow, relationFits}
-use Rattle.rows.specs.View.{noCell, columnsOf}
+use Rattle.rows.specs.View.{noCell, columnsOf, relationOf, Shaped}
 use Rattle.nets.specs.Sound.{columnsOk, relationOk}
 use Rattle.net_parts.specs.SoundParts.{cellOk, rowOk}
+use Rattle.net_parts.proofs.Counts.{columns-count, rows-count}
 
 -- ── the four places of a row ──
 
@@ -106,3 +108,15 @@ module _ (r : Relation) {n : ℕ} (e : length (r .rows) ≡ n) {x : Bool} (p : x
   relation-fails h =
       stop (columnsOk (r .columns)) (leb (length (r .rows)) 16) (all (λ r. all inRange r) (r .rows)) (relationFits r)
       (sym (ap₂ (λ (a : Bool) (m : ℕ). a && leb m 16) p (sym e)) ∙ h)
+
+-- ── a relation that is right is within its arrays ──
+
+pub relation-shaped : (r : Code.Relation) → relationOk (some (relationOf r)) ≡ true → Shaped r
+relation-shaped r h =
+    let a : T (relationOk (some (relationOf r))) = T-of (relationOk (some (relationOf r))) h in
+    let b : T (leb (length (relationOf r .columns)) 4) = search (and-l, and-r) in
+    let c : T (leb (length (relationOf r .rows)) 16) = search (and-l, and-r) in
+    record {
+      columns = omega (arith, leb→le (length (relationOf r .columns)) 4 b, columns-count (r .columns) (r .kinds));
+      count = omega (arith, leb→le (length (relationOf r .rows)) 16 c, rows-count r);
+    }

@@ -1,6 +1,7 @@
 // The soundness of the parts of a net: values, relations, operands and nodes in their ranges; aliases and tables, no two alike.
 use values::Site;
 
+pub mod agreement;
 pub mod lists;
 pub mod nodes;
 pub mod operands;
@@ -19,7 +20,8 @@ pub struct Label {
     pub name: u32,
 }
 
-// Whether the nodes are right, and of each its shape: the table variable that a loop reads, 0 or 1, and 2 of a node that is no loop.
+// Whether the nodes are right, and of each its shape: 0 or 1 of a sequential loop that reads table variable 0 or 1, 2 or 3 of a parallel one, and 4 of a
+// node that is no loop.
 // A shape is a number and no enum, since an array of 128 numbers is filled and read with no struct around each.
 pub struct NodesTested {
     pub right: bool,

@@ -19,6 +19,7 @@ use nets::kinds::is_aggregate;
 use nets::kinds::is_create;
 use nets::kinds::is_loop;
 use nets::kinds::is_select;
+use nets::kinds::is_sequential;
 use nets::kinds::reads_relation;
 use rows::Operands;
 use values::Operand;
@@ -30,7 +31,7 @@ ghost use Rattle.rows.specs.View.{columnsOf, operandsOf};
 ghost use Rattle.nets.specs.Nets.{hasLocality, hasTemplate, hasTest, hasTuple, isSelect, isLoop};
 ghost use Rattle.nets.specs.Sound.{columnsOk, tagged, isAbsent, localityOperandOk, operandsOk, isEmpty, fieldsOkAs, linksOkAs, nodesOk};
 ghost use Rattle.nets.specs.View.{kindAt, nodeOf, nodesOf};
-ghost use Rattle.net_parts.specs.SoundParts.{linksAt, shapeOf, ShapesOf};
+ghost use Rattle.net_parts.specs.SoundParts.{linksAt, shapeOf, readsFirst, readsSecond, ShapesOf};
 
 // A field that is used is as its rule says, and else zero.
 fn ok_if_used(used: bool, ok: bool, zero: bool) -> bool
@@ -207,23 +208,38 @@ fn links_ok(d: Node, i: usize, n: usize) -> bool
     links_at(d.kind, d.next, d.body, i, n)
 }
 
-// The table variable that a loop node reads; 2 of every other node.
+// A sequential loop that reads table variable 0 or 1 is 0 or 1, a parallel one 2 or 3, and every other node 4.
 fn shape_of(d: Node) -> u8
     ensures { λ r. ⌜ r ≡ shapeOf (nodeOf d) ⌝ }
 {
     let kind = d.kind;
     let read = d.read;
     if is_loop(kind) & (read < 2) {
-        return read;
+        if is_sequential(kind) {
+            return read;
+        }
+        return read + 2;
     }
-    2
+    4
+}
+
+pub fn reads_first(shape: u8) -> bool
+    ensures { λ r. ⌜ r ≡ readsFirst shape ⌝ }
+{
+    (shape == 0) | (shape == 2)
+}
+
+pub fn reads_second(shape: u8) -> bool
+    ensures { λ r. ⌜ r ≡ readsSecond shape ⌝ }
+{
+    (shape == 1) | (shape == 3)
 }
 
 // Each node is judged and its shape noted in one pass.
 pub fn nodes_ok(nodes: [Node; 128], count: usize) -> NodesTested
     ensures { λ r. ⌜ (r .right ≡ (leb count 128 && nodesOk count 0 (nodesOf count nodes))) × (r .right ≡ true → ShapesOf (r .shapes) count (nodesOf count nodes)) ⌝ }
 {
-    let mut shapes: [u8; 128] = [2; 128];
+    let mut shapes: [u8; 128] = [4; 128];
     if 128 < count {
         return NodesTested {
             right: false,

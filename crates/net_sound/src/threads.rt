@@ -1,5 +1,8 @@
-// Threads: variables, table variables and stacks. A loop entry is judged by its node's shape and its table variable's extent, which are computed once.
+// A thread but for what its loop entries hold: variables, table variables and its stack. A loop entry is judged by its node's shape and its table
+// variable's extent, which are computed once.
 use net_parts::Extent;
+use net_parts::nodes::reads_first;
+use net_parts::nodes::reads_second;
 use net_parts::ranges::site_ok;
 use net_parts::ranges::variable_ok;
 use net_parts::relations::extent_of;
@@ -8,22 +11,23 @@ use nets::Frame;
 use nets::Thread;
 use values::Slot;
 ghost use mathlib.Core.Path.{_≡_};
-ghost use mathlib.Core.Bool.{_&&_};
+ghost use mathlib.Core.Bool.{true};
 ghost use mathlib.Core.List.{List};
 ghost use mathlib.Core.Option.{Option};
-ghost use Prim.Native.Nat.{_≤_};
-ghost use lib.Dec.{leb, ltb};
+ghost use Prim.Native.Nat.{ℕ, _≤_};
+ghost use lib.Dec.{ltb};
+ghost use lib.ListN.{getD};
 ghost use Rattle.values.specs.Lists.{all};
 ghost use Rattle.values.specs.Operands.{varsOf};
 ghost use Rattle.rows.specs.Relations as Rows;
 ghost use Rattle.nets.specs.Nets as Model;
-ghost use Rattle.nets.specs.Sound.{variableOk, entryOk, stackOk, threadOk};
-ghost use Rattle.net_parts.specs.SoundParts.{ShapesOf, holdsPlaces, ExtentsOf};
-ghost use Rattle.nets.specs.View.{marked, entryOf, stackOf, threadOf, threadsOf};
+ghost use Rattle.nets.specs.Sound.{noNode, variableOk};
+ghost use Rattle.net_parts.specs.SoundParts.{shapeOf, shapeIn, ShapesOf, holdsPlaces, ExtentsOf, bareEntryOk, bareStackOk, bareThreadOk, Fitting};
+ghost use Rattle.nets.specs.View.{marked, entryOf, stackOf, threadOf};
 
 // ---- parts of a thread
 
-fn vars_ok(vars: [Slot; 16]) -> bool
+pub fn vars_ok(vars: [Slot; 16]) -> bool
     ensures { λ r. ⌜ r ≡ all variableOk (varsOf vars) ⌝ }
 {
     let mut i: usize = 0;
@@ -59,24 +63,43 @@ fn extent_ok(e: Extent, visit: [bool; 16]) -> bool
     e.bound & visit_ok(visit, e.rows)
 }
 
+// The shape of node `i`; 4, as of a node that is no loop, past the nodes.
+fn shape_at(shapes: [u8; 128], count: usize, i: usize) -> u8
+    requires { ⌜ count ≤ 128 ⌝ }
+    ensures { λ r. ⌜ ((ds : List Model.Node) → ShapesOf shapes count ds → r ≡ shapeOf (getD ds i noNode)) ⌝ }
+{
+    if count <= i {
+        return 4;
+    }
+    shapes[i]
+}
+
+// Of an entry to run 4: it holds no table variable.
+pub fn shape_in(shapes: [u8; 128], count: usize, f: Frame) -> u8
+    requires { ⌜ count ≤ 128 ⌝ }
+    ensures { λ r. ⌜ ((ds : List Model.Node) (b : Model.Bindings) → ShapesOf shapes count ds → r ≡ shapeIn ds (entryOf b f)) ⌝ }
+{
+    let e = f.entry;
+    match e {
+        Entry::Run(_) => 4,
+        Entry::Loop(i) => shape_at(shapes, count, i as usize),
+    }
+}
+
 fn frame_ok(shapes: [u8; 128], count: usize, a: Extent, b: Extent, f: Frame) -> bool
     requires { ⌜ count ≤ 128 ⌝ }
-    ensures { λ r. ⌜ ((ds : List Model.Node) (rs : List (Option Rows.Relation)) → ShapesOf shapes count ds → ExtentsOf a b rs → r ≡ entryOk ds rs (entryOf f)) ⌝ }
+    ensures { λ r. ⌜ ((ds : List Model.Node) (rs : List (Option Rows.Relation)) (x : Model.Bindings) → ShapesOf shapes count ds → ExtentsOf a b rs → r ≡ bareEntryOk ds rs (entryOf x f)) ⌝ }
 {
     let e = f.entry;
     let visit = f.visit;
     match e {
         Entry::Run(i) => (i as usize) < count,
         Entry::Loop(i) => {
-            let k = i as usize;
-            if count <= k {
-                return false;
-            }
-            let s = shapes[k];
-            if s == 0 {
+            let s = shape_at(shapes, count, i as usize);
+            if reads_first(s) {
                 return extent_ok(a, visit);
             }
-            if s == 1 {
+            if reads_second(s) {
                 return extent_ok(b, visit);
             }
             false
@@ -94,7 +117,7 @@ fn stack_ok(
     depth: usize,
 ) -> bool
     requires { ⌜ count ≤ 128 ⌝ }
-    ensures { λ r. ⌜ ((ds : List Model.Node) (rs : List (Option Rows.Relation)) → ShapesOf shapes count ds → ExtentsOf a b rs → r ≡ stackOk ds rs (stackOf depth stack)) ⌝ }
+    ensures { λ r. ⌜ ((ds : List Model.Node) (rs : List (Option Rows.Relation)) (bs : ℕ → Model.Bindings) → ShapesOf shapes count ds → ExtentsOf a b rs → r ≡ bareStackOk ds rs (stackOf bs depth stack)) × (r ≡ true → depth ≤ 8) ⌝ }
 {
     if depth == 0 {
         return false;
@@ -115,11 +138,11 @@ fn stack_ok(
     true
 }
 
-// ---- threads
+// ---- a thread
 
-fn thread_ok(shapes: [u8; 128], count: usize, t: Thread) -> bool
+pub fn thread_ok(shapes: [u8; 128], count: usize, t: Thread) -> bool
     requires { ⌜ count ≤ 128 ⌝ }
-    ensures { λ r. ⌜ ((ds : List Model.Node) → ShapesOf shapes count ds → r ≡ threadOk ds (threadOf t)) ⌝ }
+    ensures { λ r. ⌜ ((ds : List Model.Node) (bs : ℕ → Model.Bindings) → ShapesOf shapes count ds → r ≡ bareThreadOk ds (threadOf bs t)) × (r ≡ true → Fitting t) ⌝ }
 {
     let vars = t.vars;
     let stack = t.stack;
@@ -131,23 +154,4 @@ fn thread_ok(shapes: [u8; 128], count: usize, t: Thread) -> bool
         return stack_ok(shapes, count, m, n, stack, t.depth);
     }
     false
-}
-
-pub fn threads_ok(shapes: [u8; 128], count: usize, threads: [Thread; 8], n: usize) -> bool
-    requires { ⌜ count ≤ 128 ⌝ }
-    ensures { λ r. ⌜ ((ds : List Model.Node) → ShapesOf shapes count ds → r ≡ (leb n 8 && all (threadOk ds) (threadsOf n threads))) ⌝ }
-{
-    if 8 < n {
-        return false;
-    }
-    let mut i: usize = 0;
-    while i < n {
-        let t = threads[i];
-        if thread_ok(shapes, count, t) {
-            i += 1;
-        } else {
-            return false;
-        }
-    }
-    true
 }

@@ -1,11 +1,12 @@
 // Soundness as a test, for any net, also one whose counts are out of range.
-use crate::threads::threads_ok;
+use crate::saved::threads_ok;
 use net_parts::lists::aliases_ok;
 use net_parts::lists::tables_ok;
 use net_parts::nodes::nodes_ok;
 use nets::Alias;
 use nets::Net;
 use nets::Node;
+use nets::Saved;
 use nets::Table;
 use nets::Thread;
 ghost use mathlib.Core.Path.{_≡_};
@@ -22,15 +23,16 @@ pub fn sound_parts(
     nodecount: usize,
     threads: [Thread; 8],
     threadcount: usize,
+    saved: [Saved; 64],
 ) -> bool
-    ensures { λ r. ⌜ r ≡ sound (view (record { aliases = aliases; aliascount = aliascount; tables = tables; tablecount = tablecount; nodes = nodes; nodecount = nodecount; threads = threads; threadcount = threadcount })) ⌝ }
+    ensures { λ r. ⌜ r ≡ sound (view (record { aliases = aliases; aliascount = aliascount; tables = tables; tablecount = tablecount; nodes = nodes; nodecount = nodecount; threads = threads; threadcount = threadcount; saved = saved })) ⌝ }
 {
     let judged = nodes_ok(nodes, nodecount);
     let shapes = judged.shapes;
     if judged.right {
         let a = tables_ok(tables, tablecount);
         let b = aliases_ok(aliases, aliascount);
-        let c = threads_ok(shapes, nodecount, threads, threadcount);
+        let c = threads_ok(shapes, nodecount, threads, threadcount, saved);
         return a & b & c;
     }
     false
@@ -43,6 +45,7 @@ pub fn sound_net(net: Net) -> bool
     let tables = net.tables;
     let nodes = net.nodes;
     let threads = net.threads;
+    let saved = net.saved;
     sound_parts(
         aliases,
         net.aliascount,
@@ -52,5 +55,6 @@ pub fn sound_net(net: Net) -> bool
         net.nodecount,
         threads,
         net.threadcount,
+        saved,
     )
 }

@@ -1,8 +1,9 @@
 -- `net_sound::threads::thread_ok` meets its contract: site, variables and table variables first, then the stack.
-use Prim.Native.Nat.{ℕ, _≤_}
+use Prim.Native.Nat.{ℕ, zero, suc, _<_}
 use mathlib.Core.Path.{_≡_, sym, ap, _∙_}
-use mathlib.Core.Bool.{Bool, true, _&&_, and-true}
+use mathlib.Core.Bool.{Bool, true, true≢false, _&&_, and-true}
 use mathlib.Core.List.{List, map}
+use native.Mathlib.Omega.{arith}
 use lib.Dec.{leb}
 use lib.ListN.{length, getD, length-map}
 use borrow.Author.Tests.{eq-eqb, leb-true}
@@ -37,11 +38,18 @@ module _ (t : Thread) (m : length (t .vars) ≡ 16) (n : length (t .relations) �
 
 -- what a test that passed says of the two counts
 module _ (s v : Bool) (m n : ℕ) (h : (s && v && (leb m 16 && leb n 16)) ≡ true) where
-  first-low : m ≤ 16
-  first-low = leb-true m 16 (and-first (leb m 16) (leb n 16) (and-last (s && v) (leb m 16 && leb n 16) h))
+  first-low : leb m 16 ≡ true
+  first-low = and-first (leb m 16) (leb n 16) (and-last (s && v) (leb m 16 && leb n 16) h)
 
-  second-low : n ≤ 16
-  second-low = leb-true n 16 (and-last (leb m 16) (leb n 16) (and-last (s && v) (leb m 16 && leb n 16) h))
+  second-low : leb n 16 ≡ true
+  second-low = and-last (leb m 16) (leb n 16) (and-last (s && v) (leb m 16 && leb n 16) h)
+
+-- both table variables are right
+each-right : (l : List TableVariable) → relationOk (variableOf (getD l 0 noVariable)) ≡ true → relationOk (variableOf (getD l 1 noVariable)) ≡ true
+    → (m : ℕ) → m < 2 → relationOk (variableOf (getD l m noVariable)) ≡ true
+each-right l a b zero h = a
+each-right l a b (suc zero) h = b
+each-right l a b (suc (suc m)) h = absurd (omega arith)
 
 vars-long : (s : tie.Start) → length (s .args .t3 .vars) ≡ 16
 vars-long s = search (long, needs)
@@ -57,22 +65,31 @@ returns c =
     let f = c .before .before .before .before .before .before .before .extent-of2 in
     let x = c .before .before .before .before .before .site-ok in
     let y = c .before .before .before .before .vars-ok in
-    λ ds h.
-    and-go
-    (parts-are t (vars-long s) (relations-long s) (x .ensures) (y .ensures) (e .ensures .0) (f .ensures .0))
-    (c .before .if1 .taken)
-    (c .stack-ok .ensures ds (map variableOf (t .relations)) h
-    (extents-are (t .relations) (relations-long s)
-    (e .ensures .1 (first-low (x .result) (y .result) (e .result .rows) (f .result .rows) (c .before .if1 .taken)))
-    (f .ensures .1 (second-low (x .result) (y .result) (e .result .rows) (f .result .rows) (c .before .if1 .taken)))))
+    let p = first-low (x .result) (y .result) (e .result .rows) (f .result .rows) (c .before .if1 .taken) in
+    let q = second-low (x .result) (y .result) (e .result .rows) (f .result .rows) (c .before .if1 .taken) in (
+      λ ds bs h.
+          and-go
+          (parts-are t (vars-long s) (relations-long s) (x .ensures) (y .ensures) (e .ensures .0) (f .ensures .0))
+          (c .before .if1 .taken)
+          (c .stack-ok .ensures .0 ds (map variableOf (t .relations)) bs h
+          (extents-are (t .relations) (relations-long s) (e .ensures .1 (leb-true _ 16 p)) (f .ensures .1 (leb-true _ 16 q)))),
+      λ h.
+          record {
+            depth = c .stack-ok .ensures .1 h;
+            long = relations-long s;
+            relations = each-right (t .relations) (sym (e .ensures .0) ∙ p) (sym (f .ensures .0) ∙ q);
+          },
+    )
 
 returns-2 : tie.Need-returns-2
 returns-2 c =
-    let s = c .before .before .before .before .before .before .before .before .before .before .before .before in
-    λ ds h.
-    and-stop
-    (parts-are (s .args .t3) (vars-long s) (relations-long s) (c .before .before .before .before .site-ok .ensures) (c .before .before .before .vars-ok .ensures) (c .before .before .before .before .before .before .before .extent-of .ensures .0) (c .before .before .before .before .before .before .extent-of2 .ensures .0))
-    _ (c .if1 .left)
+    let s = c .before .before .before .before .before .before .before .before .before .before .before .before in (
+      λ ds bs h.
+          and-stop
+          (parts-are (s .args .t3) (vars-long s) (relations-long s) (c .before .before .before .before .site-ok .ensures) (c .before .before .before .vars-ok .ensures) (c .before .before .before .before .before .before .before .extent-of .ensures .0) (c .before .before .before .before .before .before .extent-of2 .ensures .0))
+          _ (c .if1 .left),
+      λ h. absurd (true≢false (sym h)),
+    )
 
 pub thread-ok-spec : {M : Type 1} → statement M
 thread-ok-spec =

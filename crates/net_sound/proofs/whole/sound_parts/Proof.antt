@@ -7,13 +7,14 @@ use lib.Dec.{T, leb}
 use lib.ListN.{length}
 use Rattle.values.specs.Lists.{all}
 use Rattle.values.proofs.Bools.{and-l, and-r, and-in, T-of, same-test}
+use Rattle.values.proofs.ByPlace.{length-by}
 use Rattle.values.proofs.Firsts.{length-firsts}
 use Rattle.values.proofs.Sizes.{size-is}
 use Rattle.nets.specs.declared.Alias.{Alias}
 use Rattle.nets.specs.Nets.{Table, Node, Thread}
 use Rattle.nets.specs.Tables.{rowsFit, distinct}
 use Rattle.nets.specs.Sound.{tableOk, aliasOk, aliasesDiffer, nodesOk, threadOk, sound}
-use Rattle.nets.specs.View.{noNode, nodeOf, nodesOf, noThread, threadOf, threadsOf, aliasesOf, tablesOf, view}
+use Rattle.nets.specs.View.{noNode, nodeOf, nodesOf, threadAt, threadsOf, aliasesOf, tablesOf, view}
 use borrow.Author.Needs.{needs}
 use Rattle.net_sound.proofs.whole.sound_parts.Statement.{statement}
 use Rattle.net_sound.proofs.whole.sound_parts.Tie as tie
@@ -54,16 +55,17 @@ unfolding view
 returns c =
     let net = c .before .before .before .before .before .before .args in
     let ds = nodesOf (net .nodecount) (net .nodes) in
-    all-tested (aliasesOf (net .aliascount) (net .aliases)) (tablesOf (net .tablecount) (net .tables)) ds (threadsOf (net .threadcount) (net .threads))
-    (length-firsts nodeOf noNode (net .nodecount) (net .nodes)) (length-firsts threadOf noThread (net .threadcount) (net .threads))
+    all-tested (aliasesOf (net .aliascount) (net .aliases)) (tablesOf (net .tablecount) (net .tables)) ds (threadsOf ds (net .saved) (net .threadcount) (net .threads))
+    (length-firsts nodeOf noNode (net .nodecount) (net .nodes)) (length-by (threadAt ds (net .saved) (net .threads)) 0 (net .threadcount))
     (c .before .before .before .before .before .nodes-ok .ensures .0) (c .before .before .before .if1 .taken) (c .before .before .tables-ok .ensures) (c .before .aliases-ok .ensures) (c .threads-ok .ensures ds (c .before .before .before .before .before .nodes-ok .ensures .1 (c .before .before .before .if1 .taken)))
 
 returns-2 : tie.Need-returns-2
 unfolding view
 returns-2 c =
     let net = c .before .before .before .args in
-    nodes-fail (aliasesOf (net .aliascount) (net .aliases)) (tablesOf (net .tablecount) (net .tables)) (nodesOf (net .nodecount) (net .nodes)) (threadsOf (net .threadcount) (net .threads))
-    (length-firsts nodeOf noNode (net .nodecount) (net .nodes)) (length-firsts threadOf noThread (net .threadcount) (net .threads))
+    let ds = nodesOf (net .nodecount) (net .nodes) in
+    nodes-fail (aliasesOf (net .aliascount) (net .aliases)) (tablesOf (net .tablecount) (net .tables)) ds (threadsOf ds (net .saved) (net .threadcount) (net .threads))
+    (length-firsts nodeOf noNode (net .nodecount) (net .nodes)) (length-by (threadAt ds (net .saved) (net .threads)) 0 (net .threadcount))
     (c .before .before .nodes-ok .ensures .0) (c .if1 .left)
 
 pub sound-parts-spec : {M : Type 1} → statement M
