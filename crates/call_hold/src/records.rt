@@ -18,7 +18,7 @@ ghost use mathlib.Core.Path.{_≡_};
 ghost use Prim.Native.Nat.{_≤_};
 ghost use lib.ListN.{length};
 ghost use Rattle.rows.specs.View.{valuesOf, columnsOf};
-ghost use Rattle.nets.specs.View.{entryOf};
+ghost use Rattle.call_rules.specs.Openings.{entryAlone};
 ghost use Rattle.call_rules.specs.Moments.{startOf, valuesRecord, relationHead, entryRecord, threadHead};
 
 // Where the rows still to visit end.
@@ -56,7 +56,7 @@ pub fn put_relation_head(out: &mut [u8], number: u8, bound: u8, columns: usize, 
 // A stack entry.
 pub fn put_entry(out: &mut [u8], f: Frame)
     requires { ⌜ length (now out) ≡ 104 ⌝ }
-    ensures { λ _. ⌜ now (out .exit) ≡ entryRecord (entryOf f) ⌝ }
+    ensures { λ _. ⌜ now (out .exit) ≡ entryRecord (entryAlone f) ⌝ }
 {
     put_start(&mut out[0..KINDS], 69, entry_kind(f), node_of(f));
     put_visit(&mut out[KINDS..VISIT_END], f);

@@ -11,7 +11,7 @@ use Rattle.nets.specs.declared.Table.{Table}
 use Rattle.nets.specs.declared.Net.{Net}
 use Rattle.nets.specs.Nets as M
 use Rattle.nets.specs.Sound.{sound}
-use Rattle.nets.specs.View.{noTable, tableOf, tablesOf, threadsOf, view}
+use Rattle.nets.specs.View.{noTable, tableOf, tablesOf, view}
 use Rattle.nets.proofs.ShapeLaws.{tables-of, tables-ok, shaped-at}
 use Rattle.record_bytes.specs.Encoding.{tableBytes, rowBytes}
 use Rattle.value_bytes.specs.Bytes.{endToEnd}
@@ -21,8 +21,7 @@ use Rattle.write_fields.proofs.WriteLaws.{row-length, table-length}
 use Rattle.write.proofs.WholeLaws.{rows-append}
 use Rattle.call_rules.specs.Moments.{allThreads, momentHead, momentPut}
 use Rattle.value_bytes.proofs.Parts.{Sized, sized-length, sized-append, sized-map, sized-firsts}
-use Rattle.call_moment.proofs.NetShapes.{threads-of, all-shaped}
-use Rattle.call_moment.proofs.ThreadRecordLaws.{threads-sized}
+use Rattle.call_moment.proofs.ThreadRecordLaws.{records-all, threads-sized}
 
 pub head-length : (a b n : ℕ) → length (momentHead a b n) ≡ 104
 unfolding momentHead
@@ -46,8 +45,9 @@ module _ (net : Net) (ok : T (sound (view net))) where
   abbrev tables : List M.Table
   tables = tablesOf (net .tablecount) (net .tables)
 
-  abbrev threads : List M.Thread
-  threads = threadsOf (net .threadcount) (net .threads)
+  -- those of all threads
+  abbrev held : List (List ℕ)
+  held = allThreads (view net .nodes) (view net .threads)
 
   rows-sized : (i : ℕ) → i ≤ net .tablecount → Sized 104 (rowsTo i (net .tables))
   rows-sized zero h = tt
@@ -67,34 +67,37 @@ module _ (net : Net) (ok : T (sound (view net))) where
   -- ── the whole ──
 
   abbrev records : List (List ℕ)
-  records = (map tableBytes tables ++ allRows tables) ++ allThreads threads
+  records = (map tableBytes tables ++ allRows tables) ++ held
+
+  held-sized : Sized 104 held
+  held-sized = subst (Sized 104) (sym (records-all net)) (threads-sized net ok (net .threadcount) (omega arith))
 
   records-sized : Sized 104 records
-  records-sized = sized-append 104 (map tableBytes tables ++ allRows tables) (allThreads threads) tables-sized (threads-sized (net .threadcount) (net .threads) (all-shaped net ok) (net .threadcount) (omega arith))
+  records-sized = sized-append 104 (map tableBytes tables ++ allRows tables) held tables-sized held-sized
 
   abbrev head : ℕ → List ℕ
-  head n = momentHead (length tables) (length threads) n
+  head n = momentHead (length tables) (length (view net .threads)) n
 
   moment-is : momentPut (view net) ≡ head (suc (length records)) ++ endToEnd records
   unfolding momentPut
-  moment-is = rw (tables-of net, threads-of net)
+  moment-is = rw (tables-of net)
 
   long : length (momentPut (view net)) ≡ 104 + length records * 104
-  long = ap length moment-is ∙ length-append (head (suc (length records))) (endToEnd records) ∙ omega (arith, head-length (length tables) (length threads) (suc (length records)), sized-length 104 records records-sized)
+  long = ap length moment-is ∙ length-append (head (suc (length records))) (endToEnd records) ∙ omega (arith, head-length (length tables) (length (view net .threads)) (suc (length records)), sized-length 104 records records-sized)
 
-  ends : endToEnd records ≡ written tables ++ endToEnd (allThreads threads)
+  ends : endToEnd records ≡ written tables ++ endToEnd held
   unfolding written
-  ends = ends-append (map tableBytes tables ++ allRows tables) (allThreads threads)
+  ends = ends-append (map tableBytes tables ++ allRows tables) held
 
   written-long : length (written tables) ≡ length (map tableBytes tables ++ allRows tables) * 104
   unfolding written
   written-long = sized-length 104 (map tableBytes tables ++ allRows tables) tables-sized
 
-  pub moment-length : length (momentPut (view net)) ≡ 104 + length (written tables) + length (allThreads threads) * 104
-  moment-length = omega (arith, long, written-long, length-append (map tableBytes tables ++ allRows tables) (allThreads threads))
+  pub moment-length : length (momentPut (view net)) ≡ 104 + length (written tables) + length held * 104
+  moment-length = omega (arith, long, written-long, length-append (map tableBytes tables ++ allRows tables) held)
 
   -- by its length in bytes
-  pub moment-parts : momentPut (view net) ≡ head (length (momentPut (view net)) / 104) ++ (written tables ++ endToEnd (allThreads threads))
+  pub moment-parts : momentPut (view net) ≡ head (length (momentPut (view net)) / 104) ++ (written tables ++ endToEnd held)
   moment-parts =
       let e : suc (length records) ≡ length (momentPut (view net)) / 104 = omega (arith, long) in
       moment-is ∙ ap (λ (n : ℕ). head n ++ endToEnd records) e ∙ ap (λ (l : List ℕ). head (length (momentPut (view net)) / 104) ++ l) ends

@@ -20,7 +20,7 @@ pub mod threads;
 
 // How many tables, threads and records there are.
 fn put_moment_head(out: &mut [u8], tables: u8, threads: u8, records: usize)
-    requires { ⌜ (length (now out) ≡ 104) × (records ≤ 609) ⌝ }
+    requires { ⌜ (length (now out) ≡ 104) × (records ≤ 3809) ⌝ }
     ensures { λ _. ⌜ now (out .exit) ≡ momentHead tables threads records ⌝ }
 {
     put_eight(
@@ -40,11 +40,10 @@ fn put_moment_head(out: &mut [u8], tables: u8, threads: u8, records: usize)
 // How long a moment is.
 pub fn moment_size(net: Net) -> usize
     requires { ⌜ T (sound (view net)) ⌝ }
-    ensures { λ r. ⌜ (r ≡ length (momentPut (view net))) × (r ≤ 63336) ⌝ }
+    ensures { λ r. ⌜ (r ≡ length (momentPut (view net))) × (r ≤ 396136) ⌝ }
 {
     let tables = net.tables;
-    let threads = net.threads;
-    RECORD + tables_size(tables, net.tablecount) + count_all(threads, net.threadcount) * RECORD
+    RECORD + tables_size(tables, net.tablecount) + count_all(net) * RECORD
 }
 
 pub fn put_moment(out: &mut [u8], net: Net)
@@ -52,7 +51,6 @@ pub fn put_moment(out: &mut [u8], net: Net)
     ensures { λ _. ⌜ now (out .exit) ≡ momentPut (view net) ⌝ }
 {
     let tables = net.tables;
-    let threads = net.threads;
     let middle = RECORD + tables_size(tables, net.tablecount);
     let end = moment_size(net);
     put_moment_head(
@@ -62,5 +60,5 @@ pub fn put_moment(out: &mut [u8], net: Net)
         end / RECORD,
     );
     write_tables(&mut out[RECORD..middle], tables, net.tablecount);
-    put_all(&mut out[middle..end], threads, net.threadcount);
+    put_all(&mut out[middle..end], net);
 }

@@ -7,15 +7,18 @@ use lib.IntN.{pos}
 use lib.ListN.{replicate}
 use Rattle.values.specs.declared.Value.the-variants.{Int}
 use Rattle.values.specs.declared.Got.the-variants.{Nothing, One}
+use Rattle.values.specs.declared.Operand.the-variants.{Absent}
 use Rattle.values.specs.Lists.{places}
 use Rattle.values.specs.Values.{textOrder}
-use Rattle.values.specs.Operands.{bind}
+use Rattle.values.specs.Operands.{Vars, bind}
+use Rattle.rows.specs.declared.Test.the-variants.{Always}
+use Rattle.rows.specs.declared.Function.the-variants.{Unused}
 use Rattle.rows.specs.Matching.{matches, hits}
 use Rattle.rows.specs.Fit.{draft}
 use Rattle.row_change.specs.Changes.{tupleFor, changes, selectedColumns}
 use Rattle.row_change.specs.Aggregates.{aggregated}
 use Rattle.nets.specs.declared.Pick.{Pick}
-use Rattle.nets.specs.Nets.{toRun, visiting, Thread, Net}
+use Rattle.nets.specs.Nets.{Kind, other, sequential, parallel, Node, toRun, visiting, Bindings, Thread, Net}
 use Rattle.nets.specs.Tables.{distinct, change}
 use Rattle.nets.specs.Sound.{fieldsOkAs, linksOkAs, sound}
 use Rattle.nets.specs.Scenes.{sceneOf, siteOfL, site, table, relation, source, anyReady, opens}
@@ -100,7 +103,7 @@ unfolding opened
 no-thread-left = refl
 
 -- a loop at node 3 with rows 1 and 15 still to visit, above a node to run
-pub thread-in-loop : (t : Thread) → threadBytes (record { site = record { 0 = 2 }; bindings = t .bindings; stack = visiting 3 (1 ∷ 15 ∷ []) ∷ toRun 4 ∷ [] }) ≡ 2 ∷ 2 ∷ 1 ∷ 3 ∷ z 5 ++ (1 ∷ z 13 ++ (1 ∷ []))
+pub thread-in-loop : (t : Thread) → threadBytes (record { site = record { 0 = 2 }; bindings = t .bindings; stack = visiting 3 (1 ∷ 15 ∷ []) (t .bindings) ∷ toRun 4 ∷ [] }) ≡ 2 ∷ 2 ∷ 1 ∷ 3 ∷ z 5 ++ (1 ∷ z 13 ++ (1 ∷ []))
 unfolding opened
 thread-in-loop t = refl
 
@@ -168,38 +171,102 @@ pub trace-short : called (λ net ps. traced 9 net ps (replicate 311 7)) file twi
 unfolding opened
 trace-short = refl
 
+-- sixteen variables, none of them bound
+abbrev noVariables : List ℕ
+noVariables = endToEnd (map (λ (i : ℕ). 66 ∷ i ∷ z 102) (places 0 16))
+
 -- before any pick a thread stands, with nothing bound and node 0 to run
 abbrev waiting : List ℕ
 waiting =
     64 ∷ 1 ∷ 1 ∷ 0 ∷ 22 ∷ z 99
     ++ (nums
     ++ (65 ∷ 0 ∷ 1 ∷ z 101
-    ++ (endToEnd (map (λ (i : ℕ). 66 ∷ i ∷ z 102) (places 0 16))
+    ++ (noVariables
     ++ (67 ∷ z 103 ++ (67 ∷ 1 ∷ z 102 ++ (69 ∷ z 103))))))
 
 pub trace-of-all : called (λ net ps. traced 0 net ps (replicate 3000 7)) file twice ≡ putting (waiting ++ (inserted ++ inserted))
 unfolding opened
 trace-of-all = refl
 
--- x1 is 5; T0 is bound, with the row (5)
-pub bound : endToEnd (bindingsRecords (record { vars = Nothing ∷ One (Int (pos 5)) ∷ []; relations = some (record { columns = 1 ∷ []; rows = (Int (pos 5) ∷ []) ∷ [] }) ∷ none ∷ [] }))
-    ≡ 66 ∷ z 103 ++ (66 ∷ 1 ∷ z 54 ++ (five ++ z 40) ++ (endToEnd (map (λ (i : ℕ). 66 ∷ i ∷ z 102) (places 2 14)) ++ (67 ∷ 0 ∷ 1 ∷ z 5 ++ (1 ∷ z 95) ++ (68 ∷ z 55 ++ (five ++ z 40) ++ (67 ∷ 1 ∷ z 102)))))
+-- T0 is bound, with the row (5); T1 is not
+abbrev fiveInT0 : List ℕ
+fiveInT0 = 67 ∷ 0 ∷ 1 ∷ z 5 ++ (1 ∷ z 95) ++ (68 ∷ z 55 ++ (five ++ z 40) ++ (67 ∷ 1 ∷ z 102))
+
+abbrev withFive : Vars → Bindings
+withFive vs = record { vars = vs; relations = some (record { columns = 1 ∷ []; rows = (Int (pos 5) ∷ []) ∷ [] }) ∷ none ∷ [] }
+
+-- x1 is 5
+abbrev fiveInX1 : List ℕ
+fiveInX1 = 66 ∷ z 103 ++ (66 ∷ 1 ∷ z 54 ++ (five ++ z 40) ++ endToEnd (map (λ (i : ℕ). 66 ∷ i ∷ z 102) (places 2 14)))
+
+pub bound : endToEnd (bindingsRecords (withFive (Nothing ∷ One (Int (pos 5)) ∷ []))) ≡ fiveInX1 ++ fiveInT0
 unfolding opened
 bound = refl
 
 -- a loop at node 3 with row 1 still to visit
-pub entry-of-loop : entryRecord (visiting 3 (1 ∷ [])) ≡ 69 ∷ 1 ∷ 3 ∷ z 6 ++ (1 ∷ z 94)
+pub entry-of-loop : (b : Bindings) → entryRecord (visiting 3 (1 ∷ []) b) ≡ 69 ∷ 1 ∷ 3 ∷ z 6 ++ (1 ∷ z 94)
 unfolding opened
-entry-of-loop = refl
+entry-of-loop b = refl
 
--- a thread at site 2: T1 is bound, with the rows (5) and (5); a loop at node 3 stands above node 4 to run
-pub thread-whole : endToEnd (threadRecords (record { site = record { 0 = 2 }; bindings = record { vars = []; relations = none ∷ some (record { columns = 1 ∷ []; rows = (Int (pos 5) ∷ []) ∷ (Int (pos 5) ∷ []) ∷ [] }) ∷ [] }; stack = visiting 3 (1 ∷ []) ∷ toRun 4 ∷ [] }))
-    ≡ 65 ∷ 2 ∷ 2 ∷ z 101
-    ++ (endToEnd (map (λ (i : ℕ). 66 ∷ i ∷ z 102) (places 0 16))
+-- a thread at site 2: T1 is bound, with the rows (5) and (5); node 4 is to run
+pub thread-whole : endToEnd (threadRecords [] (record { site = record { 0 = 2 }; bindings = record { vars = []; relations = none ∷ some (record { columns = 1 ∷ []; rows = (Int (pos 5) ∷ []) ∷ (Int (pos 5) ∷ []) ∷ [] }) ∷ [] }; stack = toRun 4 ∷ [] }))
+    ≡ 65 ∷ 2 ∷ 1 ∷ z 101
+    ++ (noVariables
     ++ (67 ∷ z 103
     ++ (67 ∷ 1 ∷ 1 ∷ z 5 ++ (1 ∷ z 95)
     ++ (68 ∷ 1 ∷ z 54 ++ (five ++ z 40)
     ++ (68 ∷ 1 ∷ z 54 ++ (five ++ z 40)
-    ++ (69 ∷ 1 ∷ 3 ∷ z 6 ++ (1 ∷ z 94) ++ (69 ∷ 0 ∷ 4 ∷ z 101)))))))
+    ++ (69 ∷ 0 ∷ 4 ∷ z 101))))))
 unfolding opened
 thread-whole = refl
+
+-- ── what a loop's entry holds ──
+
+-- a loop over T0, with node 2 as its body
+abbrev loopOf : Kind → Node
+loopOf k =
+    record {
+      kind = k;
+      next = 255;
+      body = 2;
+      name = 0;
+      bound = 0;
+      read = 0;
+      function = Unused;
+      column = 0;
+      columns = [];
+      locality = Absent;
+      selector = record { template = []; test = Always; left = Absent; right = Absent };
+      tuple = [];
+      result = Absent;
+    }
+
+-- node 2 is to run, in the body of the sequential loop 0, whose entry holds that x1 is 5; below it stands the parallel loop 1, whose entry holds the same
+abbrev inBody : Net
+inBody =
+    record {
+      aliases = [];
+      tables = [];
+      nodes = loopOf (other sequential) ∷ loopOf (other parallel) ∷ [];
+      threads =
+          record {
+            site = record { 0 = 2 };
+            bindings = withFive [];
+            stack = toRun 2 ∷ visiting 0 (1 ∷ []) (withFive (Nothing ∷ One (Int (pos 5)) ∷ [])) ∷ visiting 1 [] (withFive (Nothing ∷ One (Int (pos 5)) ∷ [])) ∷ [];
+          }
+          ∷ [];
+    }
+
+-- variables and table variables stand behind the record of the sequential loop, and nowhere else
+pub held-in-body : momentPut inBody
+    ≡ 64 ∷ 0 ∷ 1 ∷ 0 ∷ 43 ∷ z 99
+    ++ (65 ∷ 2 ∷ 3 ∷ z 101
+    ++ (noVariables
+    ++ (fiveInT0
+    ++ (69 ∷ 0 ∷ 2 ∷ z 101
+    ++ (69 ∷ 1 ∷ 0 ∷ z 6 ++ (1 ∷ z 94)
+    ++ (fiveInX1
+    ++ (fiveInT0
+    ++ (69 ∷ 1 ∷ 1 ∷ z 101))))))))
+unfolding opened
+held-in-body = refl

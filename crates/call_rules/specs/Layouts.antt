@@ -21,12 +21,12 @@ tablesPut net ps = written (after net ps .tables)
 -- 0 for a node to run, 1 for a loop
 abbrev pub entryKind : Entry → ℕ
 entryKind (toRun i) = 0
-entryKind (visiting i v) = 1
+entryKind (visiting i v b) = 1
 
 -- a node to run has none
 abbrev pub toVisit : Entry → List ℕ
 toVisit (toRun i) = []
-toVisit (visiting i v) = v
+toVisit (visiting i v b) = v
 
 -- 1 for each row place of the list
 unfoldable pub visitBytes : List ℕ → List ℕ

@@ -1,5 +1,6 @@
 -- A moment of a run: all that stands between two picks, as records of 104 bytes. Tables and rows are those of a file; what threads hold has records of its own, kinds 64 to 69.
 use Prim.Native.Nat.{ℕ, suc}
+use mathlib.Core.Bool.{cond}
 use mathlib.Core.List.{List, [], _∷_, _++_, map}
 use mathlib.Core.Option.{Option, none, some}
 use lib.ListN.{length, getD, replicate}
@@ -7,8 +8,8 @@ use Rattle.values.specs.declared.Got.the-variants.{Nothing}
 use Rattle.values.specs.Lists.{places}
 use Rattle.values.specs.Operands.{Vars, valuesIn}
 use Rattle.rows.specs.Relations.{Row, Columns, Relation}
-use Rattle.nets.specs.Nets.{Entry, Bindings, Thread, Net}
-use Rattle.nets.specs.Sound.{entryNode}
+use Rattle.nets.specs.Nets.{isSequential, Node, Entry, toRun, visiting, Bindings, Thread, Net}
+use Rattle.nets.specs.Sound.{noNode, entryNode}
 use Rattle.record_bytes.specs.Encoding.{tupleBytes, columnBytes, tableBytes}
 use Rattle.value_bytes.specs.Bytes.{endToEnd, littleBytes}
 use Rattle.files.specs.Writing.{allRows}
@@ -54,13 +55,23 @@ entryRecord e = startOf 69 (entryKind e) (entryNode e) ++ (visitBytes (toVisit e
 unfoldable pub threadHead : ℕ → ℕ → List ℕ
 threadHead s d = startOf 65 s d ++ replicate 96 0
 
--- its bindings, and its stack from the top down
-abbrev pub threadRecords : Thread → List (List ℕ)
-threadRecords t = threadHead (t .site .0) (length (t .stack)) ∷ (bindingsRecords (t .bindings) ++ map entryRecord (t .stack))
+-- the bindings that an entry holds: those of a sequential loop, and no others
+abbrev pub heldRecords : List Node → Entry → List (List ℕ)
+heldRecords ds (toRun i) = []
+heldRecords ds (visiting i v b) = cond (isSequential (getD ds i noNode .kind)) (bindingsRecords b) []
 
-abbrev pub allThreads : List Thread → List (List ℕ)
-allThreads [] = []
-allThreads (t ∷ ts) = threadRecords t ++ allThreads ts
+-- each entry, and behind it what it holds
+abbrev pub stackRecords : List Node → List Entry → List (List ℕ)
+stackRecords ds [] = []
+stackRecords ds (e ∷ s) = entryRecord e ∷ (heldRecords ds e ++ stackRecords ds s)
+
+-- its bindings, and its stack from the top down
+abbrev pub threadRecords : List Node → Thread → List (List ℕ)
+threadRecords ds t = threadHead (t .site .0) (length (t .stack)) ∷ (bindingsRecords (t .bindings) ++ stackRecords ds (t .stack))
+
+abbrev pub allThreads : List Node → List Thread → List (List ℕ)
+allThreads ds [] = []
+allThreads ds (t ∷ ts) = threadRecords ds t ++ allThreads ds ts
 
 -- ── a moment ──
 
@@ -69,7 +80,7 @@ unfoldable pub momentHead : ℕ → ℕ → ℕ → List ℕ
 momentHead tables threads n = (64 ∷ tables ∷ threads ∷ 0 ∷ littleBytes n) ++ replicate 96 0
 
 abbrev pub momentRecords : Net → List (List ℕ)
-momentRecords net = (map tableBytes (net .tables) ++ allRows (net .tables)) ++ allThreads (net .threads)
+momentRecords net = (map tableBytes (net .tables) ++ allRows (net .tables)) ++ allThreads (net .nodes) (net .threads)
 
 unfoldable pub momentPut : Net → List ℕ
 momentPut net = momentHead (length (net .tables)) (length (net .threads)) (suc (length (momentRecords net))) ++ endToEnd (momentRecords net)

@@ -1,14 +1,16 @@
 -- What the functions inside a call require and give back. Only the code speaks of it: the rule is `called`.
 use Prim.Native.Nat.{ℕ, _<_}
 use mathlib.Core.Path.{_≡_}
-use mathlib.Core.List.{List}
+use mathlib.Core.List.{List, []}
 use lib.Dec.{T}
 use lib.ListN.{getD}
 use Rattle.nets.specs.declared.Pick.{Pick}
+use Rattle.nets.specs.declared.Frame.{Frame}
 use Rattle.nets.specs.declared.Thread.{Thread}
-use Rattle.nets.specs.Nets.{Net}
+use Rattle.nets.specs.Nets.{Entry, Bindings, Net}
+use Rattle.nets.specs.Nets as M
 use Rattle.nets.specs.Sound.{sound}
-use Rattle.nets.specs.View.{noThread, view}
+use Rattle.nets.specs.View.{noThread, entryOf, threadOf, view}
 use Rattle.step_thread.specs.Contracts.{Stacked}
 use Rattle.files.specs.declared.Verdict.{Verdict}
 use Rattle.files.specs.declared.Verdict.the-variants as verdict
@@ -57,3 +59,13 @@ answerReply (pageLength n) = record { number = 0; place = n }
 -- each thread in use has one to eight entries
 abbrev pub AllStacked : ℕ → List Thread → Type 0
 AllStacked n ts = (i : ℕ) → i < n → Stacked (getD ts i noThread)
+
+-- an entry and a thread without what entries hold, which has records of its own
+abbrev nothingHeld : Bindings
+nothingHeld = record { vars = []; relations = [] }
+
+abbrev pub entryAlone : Frame → Entry
+entryAlone f = entryOf nothingHeld f
+
+abbrev pub threadAlone : Thread → M.Thread
+threadAlone t = threadOf (λ (j : ℕ). nothingHeld) t

@@ -1,6 +1,6 @@
 -- The bytes of threads, one after the other. Assumes nothing.
 use Prim.Native.Nat.{ℕ, zero, suc, _+_, _-_, _*_, _<_, _≤_}
-use mathlib.Core.Path.{_≡_, refl, sym, ap, _∙_}
+use mathlib.Core.Path.{_≡_, refl, sym, ap, ap₂, _∙_}
 use mathlib.Core.Bool.{false}
 use mathlib.Core.List.{List, [], _∷_, _++_, map, append-assoc, append-nil}
 use native.Mathlib.Omega.{arith}
@@ -8,25 +8,51 @@ use native.Mathlib.Numerals.{add-one}
 use lib.ListN.{length, drop, getD, set, drop-of-length-le}
 use lib.Seq.{set-at, drop-cons}
 use borrow.Rule.Slice.PartMut.{putMid}
-use Rattle.values.specs.Lists.{bit, among, places, firsts}
-use Rattle.values.proofs.Firsts.{map-firsts}
-use Rattle.nets.specs.declared.Entry.the-variants.{Loop}
+use Rattle.values.specs.Lists.{bit, among, places}
+use Rattle.nets.specs.declared.Entry.{Entry}
+use Rattle.nets.specs.declared.Entry.the-variants.{Run, Loop}
 use Rattle.nets.specs.declared.Frame.{Frame}
+use Rattle.nets.specs.declared.Saved.{Saved}
 use Rattle.nets.specs.declared.Thread.{Thread}
 use Rattle.nets.specs.Nets as M
 use Rattle.nets.specs.Sound.{entryNode}
 use Rattle.nets.specs.Scenes.{top}
-use Rattle.nets.specs.View.{noThread, entryOf, threadOf, threadsOf}
+use Rattle.nets.specs.View.{noFrame, noThread, nodeIn, entryOf, threadOf, threadAt, threadsOf}
+use Rattle.nets.proofs.StackView.{length-stack, stack-cons, entry-node-in}
 use Rattle.step_loop.proofs.MarkLaws.{marked-among}
-use Rattle.step_thread.proofs.ThreadLaws.{length-stack}
 use Rattle.value_bytes.specs.Bytes.{endToEnd}
-use Rattle.value_bytes.proofs.Stores.{part-written, ends-more, ends-all}
+use Rattle.value_bytes.proofs.Stores.{part-written}
+use Rattle.value_bytes.proofs.Parts.{along, along-length}
 use Rattle.call_rules.specs.Layouts.{entryKind, toVisit, visitBytes, headBytes, threadBytes}
+use Rattle.call_rules.specs.Openings.{entryAlone, threadAlone}
+
+-- ── an entry, whatever it holds ──
+
+module _ (b : M.Bindings) (f : Frame) where
+  pub alone-kind : entryKind (entryOf b f) ≡ entryKind (entryAlone f)
+  alone-kind = go (f .entry)
+    where
+      go : (e : Entry) → entryKind (entryOf b (record { entry = e; visit = f .visit })) ≡ entryKind (entryAlone (record { entry = e; visit = f .visit }))
+      go (Run i) = refl
+      go (Loop i) = refl
+
+  pub alone-visit : toVisit (entryOf b f) ≡ toVisit (entryAlone f)
+  alone-visit = go (f .entry)
+    where
+      go : (e : Entry) → toVisit (entryOf b (record { entry = e; visit = f .visit })) ≡ toVisit (entryAlone (record { entry = e; visit = f .visit }))
+      go (Run i) = refl
+      go (Loop i) = refl
+
+  pub alone-node : entryNode (entryOf b f) ≡ entryNode (entryAlone f)
+  alone-node = entry-node-in b f ∙ sym (entry-node-in (record { vars = []; relations = [] }) f)
+
+pub node-alone : (f : Frame) → nodeIn (f .entry) ≡ entryNode (entryAlone f)
+node-alone f = sym (entry-node-in (record { vars = []; relations = [] }) f)
 
 -- ── the rows still to visit ──
 
 -- the flag of a loop's frame
-pub flag-here : (f : Frame) (k i r : ℕ) → f .entry ≡ Loop k → r ≡ bit (getD (f .visit) i false) → r ≡ bit (among i (toVisit (entryOf f)))
+pub flag-here : (f : Frame) (k i r : ℕ) → f .entry ≡ Loop k → r ≡ bit (getD (f .visit) i false) → r ≡ bit (among i (toVisit (entryAlone f)))
 flag-here f k i r e h = rw e (h ∙ ap bit (sym (marked-among (f .visit) 0 i i (omega arith))))
 
 -- those of the places passed
@@ -50,13 +76,13 @@ visited-length : (v : List ℕ) (n : ℕ) → length (visited v n) ≡ n
 unfolding visited
 visited-length v n = places-length (λ (i : ℕ). bit (among i v)) 0 n
 
-pub visit-more : (f : Frame) (o out : List ℕ) (i b : ℕ) → i < 16 → length o ≡ 16 → out ≡ visited (toVisit (entryOf f)) i ++ drop i o → b ≡ bit (among i (toVisit (entryOf f))) →
-    set out i b ≡ visited (toVisit (entryOf f)) (i + 1) ++ drop (i + 1) o
+pub visit-more : (f : Frame) (o out : List ℕ) (i b : ℕ) → i < 16 → length o ≡ 16 → out ≡ visited (toVisit (entryAlone f)) i ++ drop i o → b ≡ bit (among i (toVisit (entryAlone f))) →
+    set out i b ≡ visited (toVisit (entryAlone f)) (i + 1) ++ drop (i + 1) o
 visit-more f o out i b h l e q =
-    let v = toVisit (entryOf f) in
+    let v = toVisit (entryAlone f) in
     rw (e, drop-cons o i 0 (omega arith), set-at (visited v i) (getD o i 0) (drop (suc i) o) b i (visited-length v i), visited-next v i, append-assoc, add-one, q) refl
 
-pub visit-over : (f : Frame) (o out : List ℕ) (i : ℕ) → 16 ≤ i → i ≤ 16 → length o ≡ 16 → out ≡ visited (toVisit (entryOf f)) i ++ drop i o → out ≡ visitBytes (toVisit (entryOf f))
+pub visit-over : (f : Frame) (o out : List ℕ) (i : ℕ) → 16 ≤ i → i ≤ 16 → length o ≡ 16 → out ≡ visited (toVisit (entryAlone f)) i ++ drop i o → out ≡ visitBytes (toVisit (entryAlone f))
 unfolding visited visitBytes
 visit-over f o out i a b l e =
     let q : i ≡ 16 = omega arith in
@@ -64,9 +90,9 @@ visit-over f o out i a b l e =
 
 -- ── one thread ──
 
-pub head-is : (s d k n : ℕ) (e : M.Entry) (out : List ℕ) → out ≡ s ∷ d ∷ k ∷ n ∷ 0 ∷ 0 ∷ 0 ∷ 0 ∷ [] → k ≡ entryKind e → n ≡ entryNode e → out ≡ headBytes s d e
+pub head-is : (s d k n : ℕ) (f : Frame) (out : List ℕ) → out ≡ s ∷ d ∷ k ∷ n ∷ 0 ∷ 0 ∷ 0 ∷ 0 ∷ [] → k ≡ entryKind (entryAlone f) → n ≡ nodeIn (f .entry) → out ≡ headBytes s d (entryAlone f)
 unfolding headBytes
-head-is s d k n e out h hk hn = rw (h, hk, hn)
+head-is s d k n f out h hk hn = rw (h, hk, hn, node-alone f)
 
 head-length : (s d : ℕ) (e : M.Entry) → length (headBytes s d e) ≡ 8
 unfolding headBytes
@@ -75,28 +101,44 @@ head-length s d e = refl
 two-parts : (o h v : List ℕ) → length o ≡ 24 → length h ≡ 8 → putMid 8 16 (h ++ drop 8 o) v ≡ h ++ v
 two-parts o h v l lh = rw (part-written h o v 8 16 lh, drop-of-length-le o {i = 24} (omega arith), append-nil)
 
-pub thread-parts : (t : Thread) (f : Frame) (o h v : List ℕ) → length o ≡ 24 → entryOf f ≡ top (threadOf t .stack) → h ≡ headBytes (t .site .0) (t .depth) (entryOf f) →
-    v ≡ visitBytes (toVisit (entryOf f)) → putMid 8 16 (h ++ drop 8 o) v ≡ threadBytes (threadOf t)
+pub thread-parts : (t : Thread) (f : Frame) (o h v : List ℕ) → 1 ≤ t .depth → length o ≡ 24 → f ≡ getD (t .stack) (t .depth - 1) noFrame → h ≡ headBytes (t .site .0) (t .depth) (entryAlone f) →
+    v ≡ visitBytes (toVisit (entryAlone f)) → putMid 8 16 (h ++ drop 8 o) v ≡ threadBytes (threadAlone t)
 unfolding threadBytes
-thread-parts t f o h v l e hh hv =
-    two-parts o h v l (ap length hh ∙ head-length (t .site .0) (t .depth) (entryOf f)) ∙ rw (hh, hv, e, length-stack (t .depth) (t .stack))
+thread-parts t f o h v some l e hh hv =
+    two-parts o h v l (ap length hh ∙ head-length (t .site .0) (t .depth) (entryAlone f))
+    ∙ rw (hh, hv, e, length-stack _ (t .depth) (t .stack), stack-cons _ (t .depth) (t .stack) (omega arith)) refl
 
 -- ── all threads ──
 
-abbrev pub bytesOf : Thread → List ℕ
-bytesOf t = threadBytes (threadOf t)
+-- those of the thread at a place
+abbrev pub bytesAt : List Thread → ℕ → List ℕ
+bytesAt ts i = threadBytes (threadAlone (getD ts i noThread))
 
-pub thread-length : (t : Thread) → length (bytesOf t) ≡ 24
+pub bytes-length : (ts : List Thread) (i : ℕ) → length (bytesAt ts i) ≡ 24
 unfolding threadBytes headBytes visitBytes
-thread-length t = refl
+bytes-length ts i = refl
 
-pub thread-more : (ts : List Thread) (i : ℕ) (o out ys : List ℕ) → out ≡ endToEnd (firsts bytesOf noThread i ts) ++ drop (i * 24) o → ys ≡ threadBytes (threadOf (getD ts i noThread)) →
-    putMid (i * 24) (i * 24 + 24 - i * 24) out ys ≡ endToEnd (firsts bytesOf noThread (i + 1) ts) ++ drop ((i + 1) * 24) o
-thread-more ts i o out ys e q = ends-more bytesOf noThread 24 thread-length ts i o out ys e q
+-- what entries hold is no matter
+bytes-same : (bs : ℕ → M.Bindings) (t : Thread) → threadBytes (threadAlone t) ≡ threadBytes (threadOf bs t)
+unfolding threadBytes headBytes
+bytes-same bs t = go (t .depth)
+  where
+    go : (n : ℕ) →
+        let u : Thread = record { site = t .site; vars = t .vars; relations = t .relations; stack = t .stack; depth = n } in
+        threadBytes (threadAlone u) ≡ threadBytes (threadOf bs u)
+    go zero = refl
+    go (suc n) =
+        let f = getD (t .stack) n noFrame in
+        rw (length-stack bs n (t .stack), length-stack _ n (t .stack), alone-kind (bs n) f, alone-node (bs n) f, alone-visit (bs n) f) refl
 
-pub threads-are : (ts : List Thread) (n : ℕ) → endToEnd (firsts bytesOf noThread n ts) ≡ endToEnd (map threadBytes (threadsOf n ts))
-threads-are ts n = ap endToEnd (sym (map-firsts threadBytes threadOf noThread n ts))
+module _ (ds : List M.Node) (saved : List Saved) (ts : List Thread) where
+  bytes-from : (i n : ℕ) → map (bytesAt ts) (places i n) ≡ map threadBytes (map (threadAt ds saved ts) (places i n))
+  bytes-from i zero = refl
+  bytes-from i (suc n) = ap₂ _∷_ (bytes-same _ (getD ts i noThread)) (bytes-from (suc i) n)
 
-pub threads-over : (ts : List Thread) (n i : ℕ) (o out : List ℕ) → i ≤ n → n ≤ i → length o ≡ n * 24 → out ≡ endToEnd (firsts bytesOf noThread i ts) ++ drop (i * 24) o →
-    out ≡ endToEnd (map threadBytes (threadsOf n ts))
-threads-over ts n i o out a b l e = ends-all bytesOf noThread 24 n i ts o out a b l e ∙ threads-are ts n
+  pub threads-are : (n : ℕ) → endToEnd (map (bytesAt ts) (places 0 n)) ≡ endToEnd (map threadBytes (threadsOf ds saved n ts))
+  threads-are n = ap endToEnd (bytes-from 0 n)
+
+  pub threads-long : (n : ℕ) → length (endToEnd (map threadBytes (threadsOf ds saved n ts))) ≡ n * 24
+  unfolding along
+  threads-long n = ap length (sym (threads-are n)) ∙ along-length (bytesAt ts) 24 (bytes-length ts) n

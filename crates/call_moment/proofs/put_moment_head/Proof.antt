@@ -11,7 +11,7 @@ use borrow.Author.Needs.{needs}
 use Rattle.call_moment.proofs.put_moment_head.Statement.{statement}
 use Rattle.call_moment.proofs.put_moment_head.Tie as tie
 
-filled : (a b n : ℕ) (o h z : List ℕ) → length o ≡ 104 → n ≤ 609 → h ≡ 64 ∷ a ∷ b ∷ 0 ∷ n % 256 ∷ n / 256 % 256 ∷ 0 ∷ 0 ∷ [] → z ≡ replicate 96 0 → putMid 8 96 (h ++ drop 8 o) z ≡ momentHead a b n
+filled : (a b n : ℕ) (o h z : List ℕ) → length o ≡ 104 → n ≤ 3809 → h ≡ 64 ∷ a ∷ b ∷ 0 ∷ n % 256 ∷ n / 256 % 256 ∷ 0 ∷ 0 ∷ [] → z ≡ replicate 96 0 → putMid 8 96 (h ++ drop 8 o) z ≡ momentHead a b n
 unfolding momentHead
 filled a b n o h z l few hh hz =
     let e : n / 2 ^ 16 % 256 ≡ 0 = omega arith in

@@ -5,14 +5,14 @@ use mathlib.Core.List.{_++_}
 use native.Mathlib.Omega.{arith}
 use lib.ListN.{length, drop, length-set}
 use borrow.Author.Needs.{needs}
-use Rattle.nets.specs.View.{entryOf}
 use Rattle.call_rules.specs.Layouts.{toVisit}
+use Rattle.call_rules.specs.Openings.{entryAlone}
 use Rattle.call_thread.proofs.ThreadLaws.{visited, visit-more, visit-over}
 use Rattle.call_thread.proofs.put_visit.Statement.{statement}
 use Rattle.call_thread.proofs.put_visit.Tie as tie
 
 abbrev Inv-loop : tie.InvT-loop
-Inv-loop out₀ f i₀ out i = (i ≤ 16) × (length out ≡ 16) × (length out₀ ≡ 16) × (out ≡ visited (toVisit (entryOf f)) i ++ drop i out₀)
+Inv-loop out₀ f i₀ out i = (i ≤ 16) × (length out ≡ 16) × (length out₀ ≡ 16) × (out ≡ visited (toVisit (entryAlone f)) i ++ drop i out₀)
 
 abbrev μ-loop : tie.MeasureT-loop
 μ-loop out₀ f i₀ out i = 16 - i

@@ -11,5 +11,6 @@ count-records-spec =
     (tie.spec
     (λ c κs. search needs)
     (λ c. search needs)
+    (λ c κs. search needs)
     (λ c. search needs)
-    (λ c. let h = thread-count (c .before .before .before .args .t) in (omega (arith, h), omega arith)))
+    (λ c. let a = c .before .before .before .args in let h = thread-count (a .holds) (a .saved) (a .t) in (omega (arith, h), omega arith)))

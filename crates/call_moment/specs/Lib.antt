@@ -1,2 +1,0 @@
--- What the functions on a moment require.
-pub mod Shapes
