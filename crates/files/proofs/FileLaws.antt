@@ -18,6 +18,7 @@ use Rattle.nets.proofs.RunLaws.{demand3}
 use Rattle.record_bytes.specs.Decoding.{wholeRecords, recordsIn}
 use Rattle.files.specs.Loading.{LoadAnswer, rejected, accepted, load, loadBytes, isAccepted, netLoaded}
 use Rattle.files.specs.FileTables.{loadedCount}
+use Rattle.files.specs.Rounds.{roundsEnded}
 use Rattle.files.specs.FileDemand3.{fileNet, fileAdded, FileLoaded, EveryFile}
 use Rattle.files.proofs.RecordLaws.{records-ok}
 use Rattle.files.proofs.LoadLaws.{Accepted, load-accepted}
@@ -43,6 +44,10 @@ module _ (file : List ℕ) (h : T (isAccepted (loadBytes file))) where
   -- what loading accepts is sound, with the file's tables
   pub file-loaded : FileLoaded file
   file-loaded = let a = file-accepted file h in record { isSound = a .isSound; tables = a .tables }
+
+  -- and its threads are in no round
+  pub file-starts : roundsEnded (fileNet file .nodes) (fileNet file .threads)
+  file-starts = file-accepted file h .starts (fileNet file .nodes)
 
   -- and every net after it is sound: no pick is refused by 10
   pub file-sound : (ps : List Pick) → T (sound (after (fileNet file) ps))

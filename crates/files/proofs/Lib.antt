@@ -7,6 +7,7 @@ pub mod LoadLaws
 pub mod PutLaws
 pub mod ReadBack
 pub mod RecordLaws
+pub mod RoundLaws
 pub mod RoundTrip
 pub mod RowBack
 pub mod TableBack

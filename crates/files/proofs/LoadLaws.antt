@@ -20,6 +20,7 @@ use Rattle.nets.specs.Steps.{Check}
 use Rattle.nets.proofs.StepLaws.{Passed}
 use Rattle.nets.proofs.SoundLaws.{whole}
 use Rattle.record_bytes.specs.Decoding.{Record, aliasRecord, tableRecord, rowRecord, nodeRecord, startRecord, pickRecord, Decoded, good, bad}
+use Rattle.files.specs.Rounds.{roundsEnded}
 use Rattle.files.specs.Loading.{Progress, emptyNet, nothingRead, isNew, rowFits, hasRoom, loadChecks, fresh, put, advance, failed, failing, Reading, stopped, finished, proceed, readAll, badLink, firstBadLink, LoadAnswer, rejected, accepted, linked, finish, load}
 use Rattle.files.specs.FileTables.{rowsFor1, rowsFor, columnsFor1, columnsFor, orLater, tableWith}
 use Rattle.files.proofs.RecordLaws.{recordOk, decodedOk}
@@ -168,6 +169,17 @@ links-nodes n i j (good (pickRecord p) ∷ xs) h e = links-nodes n (suc i) j xs 
 fresh-ok : (ds : List Node) (s : Site) (k : ℕ) → T (siteOk s) → T (ltb k (length ds)) → T (threadOk ds (fresh s k))
 fresh-ok ds s k h l = search and-in depth 10
 
+-- a thread that starts is in no round
+starts-ended : (ds : List Node) (xs : List Decoded) → roundsEnded ds (threadsIn xs)
+starts-ended ds [] = tt
+starts-ended ds (bad k ∷ xs) = starts-ended ds xs
+starts-ended ds (good (aliasRecord a) ∷ xs) = starts-ended ds xs
+starts-ended ds (good (tableRecord s m cs) ∷ xs) = starts-ended ds xs
+starts-ended ds (good (rowRecord s m r) ∷ xs) = starts-ended ds xs
+starts-ended ds (good (nodeRecord d) ∷ xs) = starts-ended ds xs
+starts-ended ds (good (startRecord s k) ∷ xs) = (tt, starts-ended ds xs)
+starts-ended ds (good (pickRecord p) ∷ xs) = starts-ended ds xs
+
 links-threads : (ds : List Node) (i j : ℕ) (xs : List Decoded) → T (all decodedOk xs) → firstBadLink (length ds) i j xs ≡ none → T (all (threadOk ds) (threadsIn xs))
 unfolding firstBadLink
 links-threads ds i j [] h e = tt
@@ -207,6 +219,7 @@ pub record Accepted (xs : List Decoded) (net : Net) : Type 0 where
   pub isSound : T (sound net)
   pub rows : (s : Site) (n : ℕ) → rowsOf (tableAt s n (net .tables)) ≡ rowsFor s n xs
   pub tables : (s : Site) (n : ℕ) → tableAt s n (net .tables) ≡ tableWith s n (columnsFor s n xs) (rowsFor s n xs)
+  pub starts : (ds : List Node) → roundsEnded ds (net .threads)
 
 abbrev Accepts : List Decoded → LoadAnswer → Type 0
 Accepts xs (rejected k i) = Unit {0}
@@ -232,6 +245,7 @@ accepts xs four = ends (readAll 0 nothingRead xs) (read 0 nothingRead xs four no
               isSound = good-sound (m .net) (h .fine) (subst (λ (ds : List Node). T (nodesOk (length (m .net .nodes)) 0 ds)) (sym (h .nodes)) (links-nodes (length (m .net .nodes)) 0 0 xs four e)) (subst (λ (ts : List Thread). T (all (threadOk (m .net .nodes)) ts)) (sym (h .threads)) (links-threads (m .net .nodes) 0 0 xs four e));
               rows = h .rows;
               tables = λ s n. rw (← h .columns s n, ← h .rows s n) (table-is s n (m .net .tables));
+              starts = λ ds. subst (roundsEnded ds) (sym (h .threads)) (starts-ended ds xs);
             }
 
 pub load-accepted : (xs : List Decoded) → T (all decodedOk xs) → (net : Net) (ps : List Pick) → load xs ≡ accepted net ps → Accepted xs net

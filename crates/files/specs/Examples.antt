@@ -18,11 +18,12 @@ use Rattle.row_change.specs.Aggregates.{aggregated}
 use Rattle.nets.specs.Nets.{Table, code, Node, Net, Outcome}
 use Rattle.nets.specs.Tables.{distinct, change}
 use Rattle.nets.specs.Sound.{isEmpty, fieldsOkAs, linksOkAs, sound}
-use Rattle.nets.specs.Scenes.{sceneOf, siteOfL, site, table, relation, source, anyReady, opens}
-use Rattle.nets.specs.Steps.{readsOk, check12, check13, check14, check15, check16, check17, check18, check19, check20, rowsBy, tablesBy, addedBy, takenBy, boundBy, varsBy, bindingsBy, threadsAfter, netAfter, performed, firstRefusal, checks, step}
+use Rattle.nets.specs.Scenes.{sceneOf, siteOfL, site, table, relation, source, anyReady, opens, visit, rowAt, ready, pickReady}
+use Rattle.nets.specs.Steps.{readsOk, check12, check13, check14, check15, check16, check17, check18, check19, roomForRound, check20, rowsBy, tablesBy, addedBy, takenBy, boundBy, varsBy, bindingsBy, threadsAfter, netAfter, performed, firstRefusal, checks, step}
 use Rattle.nets.specs.Accounts.{nextNet, after, answers}
 use Rattle.nets.specs.View.{kindAt}
 use Rattle.nets.specs.Examples as Nets
+use Rattle.nets.specs.RoundExamples as Rounds
 use Rattle.nets.specs.Examples.{CARD, isRefused, isDoneWith}
 use Rattle.record_bytes.specs.Bytes.{operandForm, operandIn, operandsForm, operandsIn}
 use Rattle.record_bytes.specs.Decoding.{nodeIn, aliasForm, tableForm, rowForm, nodeBytes, startForm, pickForm, recordIn, recordsIn}
@@ -121,8 +122,8 @@ examples =
     -- (k) the printed run: both answers, and the one table's site, name, rows and row
     ∷ answersAre (isDoneWith 1 1 ∷ isRefused 11 ∷ []) (loadBytes file)
     ∷ tablesAre (tableIs 1 CARD (2 ∷ 1 ∷ []) (rigs 38) ∷ []) (loadBytes file)
-    -- (c) to (j)
-    ∷ Nets.examples
+    -- (c) to (j), and what a round binds
+    ∷ (Nets.examples ++ Rounds.examples)
 
 -- ── faults, and what is written ──
 
@@ -242,7 +243,7 @@ faults =
 
 -- all definitions that a test computes with: to unfold this is to unfold them all
 opened : Unit {0}
-unfolding bind textOrder matches hits draft tupleFor changes selectedColumns aggregated distinct change fieldsOkAs linksOkAs sound sceneOf siteOfL site table relation source anyReady opens readsOk check12 check13 check14 check15 check16 check17 check18 check19 check20 rowsBy tablesBy addedBy takenBy boundBy varsBy bindingsBy threadsAfter netAfter performed firstRefusal checks step nextNet after answers kindAt operandForm operandIn operandsForm operandsIn nodeIn aliasForm tableForm rowForm nodeBytes startForm pickForm recordIn recordsIn loadChecks put advance readAll firstBadLink load loadBytes tupleBytes tableBytes rowBytes written write
+unfolding bind textOrder matches hits draft tupleFor changes selectedColumns aggregated distinct change fieldsOkAs linksOkAs sound sceneOf siteOfL site table relation source visit rowAt ready anyReady pickReady opens readsOk check12 check13 check14 check15 check16 check17 check18 check19 roomForRound check20 rowsBy tablesBy addedBy takenBy boundBy varsBy bindingsBy threadsAfter netAfter performed firstRefusal checks step nextNet after answers kindAt operandForm operandIn operandsForm operandsIn nodeIn aliasForm tableForm rowForm nodeBytes startForm pickForm recordIn recordsIn loadChecks put advance readAll firstBadLink load loadBytes tupleBytes tableBytes rowBytes written write
 opened = tt
 
 pub examples-hold : T (all (λ b. b) examples)

@@ -6,4 +6,5 @@ pub mod FileDemand3
 pub mod FileTables
 pub mod Loading
 pub mod RoundTrip
+pub mod Rounds
 pub mod Writing
