@@ -3,6 +3,7 @@ use files::Loaded;
 use files::Verdict;
 use load_groups::aliases::aliases_from;
 use load_groups::blanks::blank_net;
+use load_groups::blanks::blank_saved;
 use load_groups::contents::rows_from;
 use load_groups::ending::reach_end;
 use load_groups::nodes::nodes_from;
@@ -82,6 +83,7 @@ fn read_all(file: &[u8]) -> FileRead
     let nodes = n.nodes;
     let threads = s.threads;
     let picks = p.picks;
+    let saved = blank_saved();
     FileRead {
         net: Net {
             aliases,
@@ -92,6 +94,7 @@ fn read_all(file: &[u8]) -> FileRead
             nodecount: n.count,
             threads,
             threadcount: s.count,
+            saved: [saved; 64],
         },
         picks,
         pickcount: p.count,

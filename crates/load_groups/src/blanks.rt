@@ -6,6 +6,7 @@ use nets::Entry;
 use nets::Frame;
 use nets::Net;
 use nets::Node;
+use nets::Saved;
 use nets::TableVariable;
 use nets::Thread;
 use rows::Field;
@@ -20,7 +21,7 @@ use values::Site;
 use values::Slot;
 ghost use mathlib.Core.Path.{_≡_};
 ghost use Rattle.nets.specs.View.{noAlias};
-ghost use Rattle.files.specs.Empty.{blankOperands, blankNode, blankThread, blankNet};
+ghost use Rattle.files.specs.Empty.{blankOperands, blankNode, blankVariable, blankThread, blankSaved, blankNet};
 
 pub fn blank_alias() -> Alias
     ensures { λ r. ⌜ r ≡ noAlias ⌝ }
@@ -71,14 +72,20 @@ pub fn blank_node() -> Node
     }
 }
 
+fn blank_variable() -> TableVariable
+    ensures { λ r. ⌜ r ≡ blankVariable ⌝ }
+{
+    TableVariable {
+        bound: false,
+        content: blank_relation(),
+    }
+}
+
 pub fn blank_thread() -> Thread
     ensures { λ r. ⌜ r ≡ blankThread ⌝ }
 {
     let slot = Slot { held: Got::Nothing };
-    let variable = TableVariable {
-        bound: false,
-        content: blank_relation(),
-    };
+    let variable = blank_variable();
     let frame = Frame {
         entry: Entry::Run(0),
         visit: [false; 16],
@@ -92,6 +99,17 @@ pub fn blank_thread() -> Thread
     }
 }
 
+pub fn blank_saved() -> Saved
+    ensures { λ r. ⌜ r ≡ blankSaved ⌝ }
+{
+    let slot = Slot { held: Got::Nothing };
+    let other = blank_variable();
+    Saved {
+        vars: [slot; 16],
+        other,
+    }
+}
+
 pub fn blank_net() -> Net
     ensures { λ r. ⌜ r ≡ blankNet ⌝ }
 {
@@ -99,6 +117,7 @@ pub fn blank_net() -> Net
     let table = blank_table();
     let node = blank_node();
     let thread = blank_thread();
+    let saved = blank_saved();
     Net {
         aliases: [alias; 56],
         aliascount: 0,
@@ -108,5 +127,6 @@ pub fn blank_net() -> Net
         nodecount: 0,
         threads: [thread; 8],
         threadcount: 0,
+        saved: [saved; 64],
     }
 }

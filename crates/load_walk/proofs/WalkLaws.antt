@@ -186,12 +186,10 @@ went-by k file r n e h g =
 abbrev pub listChecks : Bool → Bool → List Check
 listChecks new room = check 6 new ∷ check 8 room ∷ []
 
--- an element of the code is seen as one of the net; a record says `said`, adds `element`, and passes check 4 by `form`, check 6 by `new` and check 8 by `room`
-pub record Group (A B : Type 0) : Type 0 where
+-- a record says `said`, adds `element`, and passes check 4 by `form`, check 6 by `new` and check 8 by `room`
+pub record Group (B : Type 0) : Type 0 where
   pub number : ℕ
   pub some : 1 ≤ number
-  pub seen : A → B
-  pub blank : A
   pub put : List B → Progress → Progress
   pub form : List ℕ → Bool
   pub new : List B → List ℕ → Bool
@@ -202,38 +200,47 @@ pub record Group (A B : Type 0) : Type 0 where
   pub checks : (g c : ℕ) (xs : List B) (bs : List ℕ) (l : Progress) → g ≤ number → length xs ≡ c → failing (loadChecks (withGroup g (put xs l)) (said bs)) ≡ failing (listChecks (new xs bs) (room c))
   pub added : (g : ℕ) (xs : List B) (bs : List ℕ) (l : Progress) → advance (withGroup g (put xs l)) (said bs) ≡ withGroup number (put (xs ++ (element bs ∷ [])) l)
 
--- the first `c` elements are what the records between two reaches gave
-abbrev pub Listed : {A B : Type 0} → Group A B → List ℕ → Reach → Reach → ℕ → List A → Type 0
-Listed G file from r c xs = Leads file from r (G .put []) (G .put (firsts (G .seen) (G .blank) c xs))
+-- `list`, of `c` elements, is what the records between two reaches gave
+module _ {B : Type 0} (G : Group B) (file : List ℕ) (from r : Reach) (n : ℕ) (e : n ≡ groupNext file r) (c : ℕ) (list : List B) (size : length list ≡ c)
+    (h : Leads file from r (G .put []) (G .put list)) (g : Going file (G .number) r)
+    (e′ : n ≡ G .number) (bs : List ℕ) (eb : bs ≡ recordAt file (r .place)) (form new : Bool) (hf : form ≡ G .form bs) (hn : new ≡ G .new list bs)
+    (f : ℕ) (w : f ≡ formThen form (listChecks new (G .room c))) where
+  abbrev bytes : List ℕ
+  bytes = recordAt file (r .place)
 
-module _ {A B : Type 0} (G : Group A B) (file : List ℕ) (from r : Reach) (n : ℕ) (e : n ≡ groupNext file r) (c : ℕ) (xs : List A) (h : Listed G file from r c xs) (g : Going file (G .number) r) where
-  abbrev list : List B
-  list = firsts (G .seen) (G .blank) c xs
+  fault : f ≡ formThen (G .form bytes) (listChecks (G .new list bytes) (G .room c))
+  fault = w ∙ ap₂ (λ (a b : Bool). formThen a (listChecks b (G .room c))) (hf ∙ ap (G .form) eb) (hn ∙ ap (G .new list) eb)
 
-  module _ (e′ : n ≡ G .number) (bs : List ℕ) (eb : bs ≡ recordAt file (r .place)) (form new : Bool) (hf : form ≡ G .form bs) (hn : new ≡ G .new list bs)
-      (f : ℕ) (w : f ≡ formThen form (listChecks new (G .room c))) where
-    abbrev bytes : List ℕ
-    bytes = recordAt file (r .place)
+  judging : (l : Progress) → failing (loadChecks (withGroup (r .group) (G .put list l)) (G .said bytes)) ≡ failing (listChecks (G .new list bytes) (G .room c))
+  judging l = G .checks (r .group) c list bytes l (g .group) size
 
-    fault : f ≡ formThen (G .form bytes) (listChecks (G .new list bytes) (G .room c))
-    fault = w ∙ ap₂ (λ (a b : Bool). formThen a (listChecks b (G .room c))) (hf ∙ ap (G .form) eb) (hn ∙ ap (G .new list) eb)
+  pub group-stops : (f ≡ 0 → ⊥) → Leads file from (stop r (G .number) f) (G .put []) (G .put list)
+  group-stops y =
+      leads-trans file from r (stop r (G .number) f) (G .put []) (G .put list) (G .put list) h
+      (leads-off (G .number) (G .some) file r n e e′ g (G .put list) (G .form bytes) (G .said bytes) (listChecks (G .new list bytes) (G .room c)) (G .same bytes) judging (G .put list) f fault y)
 
-    judging : (l : Progress) → failing (loadChecks (withGroup (r .group) (G .put list l)) (G .said bytes)) ≡ failing (listChecks (G .new list bytes) (G .room c))
-    judging l = G .checks (r .group) c list bytes l (g .group) (length-firsts (G .seen) (G .blank) c xs)
+  pub group-grows : (more : List B) → f ≡ 0 → more ≡ list ++ (G .element bs ∷ []) → Leads file from (past r (G .number)) (G .put []) (G .put more)
+  group-grows more y q =
+      leads-trans file from r (past r (G .number)) (G .put []) (G .put list) (G .put more) h
+      (leads-on (G .number) (G .some) file r n e e′ g (G .put list) (G .form bytes) (G .said bytes) (listChecks (G .new list bytes) (G .room c)) (G .same bytes) judging
+      (G .put more) tt (sym y ∙ fault)
+      (λ l. G .added (r .group) list bytes l ∙ ap (λ (us : List B). withGroup (G .number) (G .put us l)) (ap (λ (b : List ℕ). list ++ (G .element b ∷ [])) (sym eb) ∙ sym q)))
 
-    pub list-stops : (f ≡ 0 → ⊥) → Listed G file from (stop r (G .number) f) c xs
-    list-stops y =
-        leads-trans file from r (stop r (G .number) f) (G .put []) (G .put list) (G .put list) h
-        (leads-off (G .number) (G .some) file r n e e′ g (G .put list) (G .form bytes) (G .said bytes) (listChecks (G .new list bytes) (G .room c)) (G .same bytes) judging (G .put list) f fault y)
+-- the first `c` elements of an array, each seen as one of the net, are what the records between two reaches gave
+abbrev pub Listed : {A B : Type 0} → Group B → (A → B) → A → List ℕ → Reach → Reach → ℕ → List A → Type 0
+Listed G seen blank file from r c xs = Leads file from r (G .put []) (G .put (firsts seen blank c xs))
 
-    pub list-grows : (m : ℕ) (x : A) → f ≡ 0 → length xs ≡ m → c < m → G .seen x ≡ G .element bs →
-        Listed G file from (past r (G .number)) (c + 1) (set xs c x)
-    list-grows m x y long room q =
-        leads-trans file from r (past r (G .number)) (G .put []) (G .put list) (G .put (firsts (G .seen) (G .blank) (c + 1) (set xs c x))) h
-        (leads-on (G .number) (G .some) file r n e e′ g (G .put list) (G .form bytes) (G .said bytes) (listChecks (G .new list bytes) (G .room c)) (G .same bytes) judging
-        (G .put (firsts (G .seen) (G .blank) (c + 1) (set xs c x))) tt (sym y ∙ fault)
-        (λ l. G .added (r .group) list bytes l
-        ∙ ap (λ (us : List B). withGroup (G .number) (G .put us l)) (ap (λ (d : B). list ++ (d ∷ [])) (sym (q ∙ ap (G .element) eb)) ∙ sym (firsts-push (G .seen) (G .blank) c xs x (omega (arith, long, room))))))
+module _ {A B : Type 0} (G : Group B) (seen : A → B) (blank : A) (file : List ℕ) (from r : Reach) (n : ℕ) (e : n ≡ groupNext file r) (c : ℕ) (xs : List A)
+    (h : Listed G seen blank file from r c xs) (g : Going file (G .number) r)
+    (e′ : n ≡ G .number) (bs : List ℕ) (eb : bs ≡ recordAt file (r .place)) (form new : Bool) (hf : form ≡ G .form bs) (hn : new ≡ G .new (firsts seen blank c xs) bs)
+    (f : ℕ) (w : f ≡ formThen form (listChecks new (G .room c))) where
+  pub list-stops : (f ≡ 0 → ⊥) → Listed G seen blank file from (stop r (G .number) f) c xs
+  list-stops = group-stops G file from r n e c (firsts seen blank c xs) (length-firsts seen blank c xs) h g e′ bs eb form new hf hn f w
+
+  pub list-grows : (m : ℕ) (x : A) → f ≡ 0 → length xs ≡ m → c < m → seen x ≡ G .element bs → Listed G seen blank file from (past r (G .number)) (c + 1) (set xs c x)
+  list-grows m x y long room q =
+      group-grows G file from r n e c (firsts seen blank c xs) (length-firsts seen blank c xs) h g e′ bs eb form new hf hn f w (firsts seen blank (c + 1) (set xs c x)) y
+      (firsts-push seen blank c xs x (omega (arith, long, room)) ∙ ap (λ (d : B). firsts seen blank c xs ++ (d ∷ [])) q)
 
 -- a record without a fault passed its checks
 pub passed : (f : ℕ) (form new room : Bool) → f ≡ 0 → f ≡ formThen form (listChecks new room) → T form × T new × T room

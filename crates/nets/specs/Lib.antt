@@ -3,6 +3,7 @@ pub mod Answers
 pub mod Demand3
 pub mod Examples
 pub mod Nets
+pub mod RoundExamples
 pub mod Scenes
 pub mod Sound
 pub mod Steps

@@ -16,6 +16,7 @@ pub fn run_bytes(net: Net, picks: &[u8]) -> Ran
     let tables = net.tables;
     let nodes = net.nodes;
     let threads = net.threads;
+    let saved = net.saved;
     let sound = sound_parts(
         aliases,
         net.aliascount,
@@ -25,6 +26,7 @@ pub fn run_bytes(net: Net, picks: &[u8]) -> Ran
         net.nodecount,
         threads,
         net.threadcount,
+        saved,
     );
     let length = count_if(sound, picks.len());
     let mut unused = [0u8; 0];

@@ -2,7 +2,7 @@
 use Rattle.nets.specs.declared.Net.{Net}
 use Rattle.step_left.specs.declared.Carried.{Carried}
 
--- a net with other tables and threads
+-- a net with other tables and threads, and what the entries of their loops hold
 abbrev pub leftBy : Net → Carried → Net
 leftBy net g =
     record {
@@ -14,4 +14,5 @@ leftBy net g =
       nodecount = net .nodecount;
       threads = g .threads;
       threadcount = g .threadcount;
+      saved = g .saved;
     }

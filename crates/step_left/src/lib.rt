@@ -1,18 +1,20 @@
-// What picks leave of a net. Aliases and nodes stay as they are, so that only tables and threads are handed on.
+// What picks leave of a net. Aliases and nodes stay as they are, so that only tables, threads and what the entries of loops hold are handed on.
 use nets::Answer;
 use nets::Net;
+use nets::Saved;
 use nets::Table;
 use nets::Thread;
 use value_totals::Total;
 ghost use mathlib.Core.Path.{_≡_};
 ghost use Rattle.step_left.specs.Leaving.{leftBy};
 
-// Tables and threads after some picks, the answer to the last of them, and the sums of rows added and taken.
+// Tables, threads and what the entries of loops hold after some picks, the answer to the last of them, and the sums of rows added and taken.
 pub struct Carried {
     pub tables: [Table; 8],
     pub tablecount: usize,
     pub threads: [Thread; 8],
     pub threadcount: usize,
+    pub saved: [Saved; 64],
     pub answer: Answer,
     pub added: Total,
     pub taken: Total,
@@ -26,6 +28,7 @@ pub fn left_by(net: Net, g: Carried) -> Net
     let nodes = net.nodes;
     let tables = g.tables;
     let threads = g.threads;
+    let saved = g.saved;
     Net {
         aliases,
         aliascount: net.aliascount,
@@ -35,5 +38,6 @@ pub fn left_by(net: Net, g: Carried) -> Net
         nodecount: net.nodecount,
         threads,
         threadcount: g.threadcount,
+        saved,
     }
 }

@@ -56,7 +56,7 @@ changedTo s q r x a b =
 module _ (c : Scene) where
   -- a refusal changes nothing
   pub refused-at : (s : Situation) (q : Code.Relation) (r : Decided) (why : Refusal) → r .answer ≡ Refused why → saidOf (Refused why) ≡ answerOf (outcomeAt c) → DecidedAt s q c r
-  refused-at s q r why e a = record { answer = ap saidOf e ∙ a; change = λ h. absurd (never-done r why e h) }
+  refused-at s q r why e a = record { answer = ap saidOf e ∙ a; change = λ h. absurd (never-done r why e h); framed = λ h. absurd (never-done r why e h) }
 
   pub change-as :
       (s : Situation) (q : Code.Relation) (r : Decided) (x : Made s q r) {a : Answer} {b : Bool} → r .answer ≡ a → r .forks ≡ b →

@@ -9,6 +9,7 @@ use lib.Dec.{ltb}
 use lib.ListN.{length}
 use Rattle.values.specs.Operands.{varsOf}
 use Rattle.rows.specs.declared.Relation as Code
+use Rattle.nets.specs.declared.Entry.the-variants.{Loop}
 use Rattle.nets.specs.declared.Answer.the-variants.{Done}
 use Rattle.nets.specs.Nets.{isParallel, toRun, visiting, Bindings, Thread}
 use Rattle.nets.specs.Scenes.{Scene, below}
@@ -22,7 +23,7 @@ use Rattle.step_meets.specs.declared.Decided.{Decided}
 use Rattle.step_meets.specs.Situations.{Situation, moved, savedAfter, Onward}
 use Rattle.step_meets.specs.Contracts.{Made, DecidedAt}
 use Rattle.step_meets.proofs.DecideLaws.{change-as}
-use Rattle.step_meets.proofs.MovedLaws.{moved-top, moved-over, goes-on, saved-below}
+use Rattle.step_meets.proofs.MovedLaws.{moved-top, moved-over, goes-on, saved-below, onward-framed, round-framed}
 use Rattle.step_meets.proofs.LoopChangeLaws.{loop-relations, same-bindings, RoundAt, round-says, round-over, round-runs, round-forks}
 
 module _ (s : Situation) (q : Code.Relation) (c : Scene) (o : Round) (at : RoundAt s c o) (ok : Stacked (s .thread)) (eight : length (s .thread .stack) ≡ 8) (r : Decided) (done : r .answer ≡ Done 0 0) where
@@ -35,11 +36,12 @@ module _ (s : Situation) (q : Code.Relation) (c : Scene) (o : Round) (at : Round
             change-as c s q r x done f
             (round-over s c o at q r x e
             (goes-on (s .thread) (s .saved) (savedAfter s r) r (x .above) (x .over) (x .body) (x .relations) ok eight (saved-below s r) (c .net .nodes) (s .node .next) g ∙ same-bindings s q r x (at .loop) v (c .net .nodes)));
+        framed = λ h. onward-framed s r (s .node .next) (ok .some) f g;
       }
 
   module _
       (e : o .answer ≡ Opened) (first : r .saves ≡ isRun (s .frame .entry)) {i : ℕ} (number : i ≡ nodeIn (s .frame .entry))
-      (waits : (b : Bindings) → entryOf b (r .frame) ≡ visiting i (marked 0 (o .visit)) b) where
+      (loops : r .frame .entry ≡ Loop i) (waits : (b : Bindings) → entryOf b (r .frame) ≡ visiting i (marked 0 (o .visit)) b) where
     abbrev saved : Bindings
     saved = savedAfter s r (s .thread .depth - 1)
 
@@ -66,6 +68,7 @@ module _ (s : Situation) (q : Code.Relation) (c : Scene) (o : Round) (at : Round
                 bindings = record { vars = varsOf (v j); relations = loop-relations s q r x (at .loop) j };
                 stack = entryWith (savedAfter s r (s .thread .depth)) (x .body .visit) (x .runs j) ∷ waiting j ∷ below (threadOf (s .saved) (s .thread) .stack);
               })));
+          framed = λ h. round-framed s r (omega (arith, d)) (omega (arith, d)) loops number (at .loop) first;
         }
       where
         backBy : Bool → Made s q r → Thread
@@ -90,6 +93,7 @@ module _ (s : Situation) (q : Code.Relation) (c : Scene) (o : Round) (at : Round
                 stack = waiting j ∷ below (threadOf (s .saved) (s .thread) .stack);
               }))
               (λ j. record { site = s .thread .site; bindings = record { vars = varsOf (n j); relations = loop-relations s q r x (at .loop) j }; stack = toRun (s .node .body) ∷ [] }));
+          framed = λ h. round-framed s r (omega (arith, d)) (omega (arith, d)) loops number (at .loop) first;
         }
       where
         backBy : Bool → Made s q r → Thread

@@ -15,16 +15,17 @@ use Rattle.nets.specs.declared.Frame.{Frame}
 use Rattle.nets.specs.declared.TableVariable.{TableVariable}
 use Rattle.nets.specs.declared.Thread.{Thread}
 use Rattle.nets.specs.Nets as M
-use Rattle.nets.specs.Nets.{toRun, visiting, isSequential}
+use Rattle.nets.specs.Nets.{toRun, visiting, isLoop, isSequential}
 use Rattle.nets.specs.Sound.{noNode}
 use Rattle.nets.specs.Scenes.{below}
 use Rattle.nets.specs.Steps.{withStack, withBindings, keepThread, restored, goOn, firstMet}
-use Rattle.nets.specs.View.{noFrame, entryWith, entryOf, stackOf, bindingsOf, threadOf}
+use Rattle.nets.specs.View.{noFrame, kindAt, nodeIn, entryWith, entryOf, stackOf, bindingsOf, threadOf}
 use Rattle.nets.proofs.StackView.{stack-same}
 use Rattle.step_thread.specs.Contracts.{isRun, Stacked, goesOn}
 use Rattle.step_thread.proofs.ThreadLaws.{stack-past, stack-set, goes-on-with}
 use Rattle.step_meets.specs.declared.Decided.{Decided}
 use Rattle.step_meets.specs.Situations.{Situation, overOf, moved, savedAfter, Onward}
+use Rattle.step_meets.specs.Contracts.{Framed}
 
 -- ── stacks ──
 
@@ -159,6 +160,24 @@ saved-top s r e = rw (e, eq-eqb (s .thread .depth - 1) (s .thread .depth - 1) re
     go : (x : Entry) → firstMet (threadOf (s .saved) (s .thread)) (entryWith (s .saved (s .thread .depth - 1)) (s .frame .visit) x) ≡ cond (isRun x && true) (bindingsOf (s .thread .vars) (s .thread .relations)) (s .saved (s .thread .depth - 1))
     go (Run i) = refl
     go (Loop i) = refl
+
+-- ── the frame on top ──
+
+run-or-loop : {n i : ℕ} → Run n ≡ Loop i → ⊥
+run-or-loop e = subst (λ (x : Entry). T (isRun x)) e tt
+
+-- going on leaves no loop's frame there
+pub onward-framed : (s : Situation) (r : Decided) (next : ℕ) → 1 ≤ s .thread .depth → r .forks ≡ false → Onward (s .thread .depth) next r → Framed s r
+onward-framed s r next deep f o = go (eqb next 255) refl
+  where
+    go : (b : Bool) → eqb next 255 ≡ b → Framed s r
+    go true e = record { height = omega (arith, o .ends e); low = omega (arith, o .ends e); fork = λ h. absurd (subst T f h); loop = λ i h x. absurd (omega (arith, o .ends e)) }
+    go false e = record { height = omega (arith, o .stays e); low = omega (arith, o .stays e); fork = λ h. absurd (subst T f h); loop = λ i h x. absurd (run-or-loop (sym (o .goes e) ∙ x)) }
+
+-- a round leaves that of its loop
+pub round-framed :
+    (s : Situation) (r : Decided) {i : ℕ} → r .depth ≤ s .thread .depth + 1 → s .thread .depth ≤ r .depth → r .frame .entry ≡ Loop i → i ≡ nodeIn (s .frame .entry) → T (isLoop (kindAt (s .node .kind))) → r .saves ≡ isRun (s .frame .entry) → Framed s r
+round-framed s r h g e n l f = record { height = h; low = omega arith; fork = λ x. g; loop = λ j k x. (ap nodeIn (sym x ∙ e) ∙ n, l, f) }
 
 -- ── what going on stores ──
 

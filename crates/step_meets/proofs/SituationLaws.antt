@@ -80,7 +80,7 @@ module _ (k : Kind) (d : M.Node) (h : T (fieldsOkAs k d)) where
   unfolding fieldsOkAs
   bound-below = below-two (bindsRelation k) (d .bound) (search (and-l, and-r) depth 14)
 
-  read-below : d .read < 2
+  pub read-below : d .read < 2
   unfolding fieldsOkAs
   read-below = below-two (readsRelation k) (d .read) (search (and-l, and-r) depth 14)
 

@@ -1,5 +1,5 @@
 -- What the functions that decide on a step require and give back, part by part.
-use Prim.Native.Nat.{ℕ, _-_, _≤_, _<_}
+use Prim.Native.Nat.{ℕ, _+_, _-_, _≤_, _<_}
 use mathlib.Core.Path.{_≡_}
 use mathlib.Core.Bool.{Bool, false, cond}
 use mathlib.Core.List.{List, [], _∷_, _++_, map}
@@ -14,7 +14,7 @@ use Rattle.rows.specs.View.{relationOf, Shaped}
 use Rattle.row_change.specs.Contracts.{Holds}
 use Rattle.step_meets.specs.declared.Located.{Located}
 use Rattle.step_meets.specs.declared.Located.the-variants.{Nowhere, At}
-use Rattle.nets.specs.declared.Entry.the-variants.{Run}
+use Rattle.nets.specs.declared.Entry.the-variants.{Run, Loop}
 use Rattle.nets.specs.declared.Frame.{Frame}
 use Rattle.nets.specs.declared.TableVariable.{TableVariable}
 use Rattle.step_meets.specs.declared.Decided.{Decided}
@@ -25,11 +25,11 @@ use Rattle.nets.specs.Tables.{tableAt, contentOf, rowsOf, columnsOf}
 use Rattle.nets.specs.Sound.{nodeOkAs, bindingsOk}
 use Rattle.nets.specs.Scenes.{Scene, Parts, site, siteOfL, table}
 use Rattle.nets.specs.Steps.{isBound, isBoundTable, readsOk, held, rowsBy, tablesBy, boundBy, restored, settle, threadsAfter, performed, Check, firstRefusal, checks}
-use Rattle.nets.specs.View.{kindAt, nodeOf, entryOf, variableOf, bindingsOf, threadOf}
+use Rattle.nets.specs.View.{kindAt, nodeOf, nodeIn, entryOf, variableOf, bindingsOf, threadOf}
 use Rattle.nets.specs.Answers.{isDoing, answerOf, saidOf}
 use Rattle.step_reads.specs.Contracts.{flagAt}
 use Rattle.step_effect.specs.Contracts.{isStep, putsRows, partsOf, Doing}
-use Rattle.step_thread.specs.Contracts.{visitOf, Stacked, goesOn, forksOf}
+use Rattle.step_thread.specs.Contracts.{visitOf, isRun, Stacked, goesOn, forksOf}
 
 -- ── where L leads ──
 
@@ -146,10 +146,20 @@ changed s q r m =
       fork = newThread s r (m .relations);
     }
 
+-- the height of the stack, and the frame on top of it
+pub record Framed (s : Situation) (r : Decided) : Type 0 where
+  -- at most a body goes above the top, at most the top is removed, and a fork removes no entry
+  pub height : r .depth ≤ s .thread .depth + 1
+  pub low : s .thread .depth ≤ r .depth + 1
+  pub fork : T (r .forks) → s .thread .depth ≤ r .depth
+  -- a loop's frame is that of the loop met, whose entry holds the bindings from its first round on
+  pub loop : (i : ℕ) → s .thread .depth ≤ r .depth → r .frame .entry ≡ Loop i → (i ≡ nodeIn (s .frame .entry)) × T (isLoop (kindAt (s .node .kind))) × (r .saves ≡ isRun (s .frame .entry))
+
 -- what is decided, beside the rule at a scene that the situation meets
 pub record DecidedAt (s : Situation) (q : Code.Relation) (c : Scene) (r : Decided) : Type 0 where
   pub answer : saidOf (r .answer) ≡ answerOf (outcomeAt c)
   pub change : T (isDoing (saidOf (r .answer))) → (m : Made s q r) → ChangeIs c (changed s q r m)
+  pub framed : T (isDoing (saidOf (r .answer))) → Framed s r
 
 pub record DecidedIs (s : Situation) (q : Code.Relation) (r : Decided) : Type 0 where
   pub at : (c : Scene) → Meets s c → DecidedAt s q c r

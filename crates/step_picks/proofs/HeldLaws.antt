@@ -27,29 +27,29 @@ or-comm true false = refl
 or-comm false true = refl
 or-comm false false = refl
 
-module _ (q : M.Entry → Bool) (l : List Frame) where
-  any-more : (i : ℕ) {held b : Bool} → held ≡ any q (stackOf i l) → q (entryOf (getD l i noFrame)) ≡ b → (held || b) ≡ any q (stackOf (i + 1) l)
+module _ (bs : ℕ → M.Bindings) (q : M.Entry → Bool) (l : List Frame) where
+  any-more : (i : ℕ) {held b : Bool} → held ≡ any q (stackOf bs i l) → q (entryOf (bs i) (getD l i noFrame)) ≡ b → (held || b) ≡ any q (stackOf bs (i + 1) l)
   any-more i {held} {b} e f = or-comm held b ∙ ap (λ (a : Bool). b || a) e ∙ rw (add-one, f) refl
 
-  any-skip : (i : ℕ) {held : Bool} → held ≡ any q (stackOf i l) → q (entryOf (getD l i noFrame)) ≡ false → held ≡ any q (stackOf (i + 1) l)
+  any-skip : (i : ℕ) {held : Bool} → held ≡ any q (stackOf bs i l) → q (entryOf (bs i) (getD l i noFrame)) ≡ false → held ≡ any q (stackOf bs (i + 1) l)
   any-skip i e f = rw (add-one, f) e
 
 -- ── a frame that holds a table variable ──
 
-module _ (count v : ℕ) (nodes : List Node) (l : List Frame) (i : ℕ) {held : Bool} (so-far : held ≡ any (holds (nodesOf count nodes) v) (stackOf i l)) {k : ℕ} where
+module _ (bs : ℕ → M.Bindings) (count v : ℕ) (nodes : List Node) (l : List Frame) (i : ℕ) {held : Bool} (so-far : held ≡ any (holds (nodesOf count nodes) v) (stackOf bs i l)) {k : ℕ} where
   -- an entry to run holds none
-  pub run-skips : getD l i noFrame .entry ≡ Run k → held ≡ any (holds (nodesOf count nodes) v) (stackOf (i + 1) l)
-  run-skips e = any-skip (holds (nodesOf count nodes) v) l i so-far (ap (λ (x : Entry). holds (nodesOf count nodes) v (entryWith (getD l i noFrame .visit) x)) e)
+  pub run-skips : getD l i noFrame .entry ≡ Run k → held ≡ any (holds (nodesOf count nodes) v) (stackOf bs (i + 1) l)
+  run-skips e = any-skip bs (holds (nodesOf count nodes) v) l i so-far (ap (λ (x : Entry). holds (nodesOf count nodes) v (entryWith (bs i) (getD l i noFrame .visit) x)) e)
 
   -- a loop entry holds the one that its node reads
-  pub loop-counts : getD l i noFrame .entry ≡ Loop k → k < count → (held || eqb v (getD nodes k noNode .read)) ≡ any (holds (nodesOf count nodes) v) (stackOf (i + 1) l)
+  pub loop-counts : getD l i noFrame .entry ≡ Loop k → k < count → (held || eqb v (getD nodes k noNode .read)) ≡ any (holds (nodesOf count nodes) v) (stackOf bs (i + 1) l)
   loop-counts e h =
-      any-more (holds (nodesOf count nodes) v) l i so-far
-      (ap (λ (x : Entry). holds (nodesOf count nodes) v (entryWith (getD l i noFrame .visit) x)) e
+      any-more bs (holds (nodesOf count nodes) v) l i so-far
+      (ap (λ (x : Entry). holds (nodesOf count nodes) v (entryWith (bs i) (getD l i noFrame .visit) x)) e
       ∙ ap (λ (d : M.Node). eqb v (d .read)) (firsts-at nodeOf noNode count nodes k S.noNode h))
 
 -- the node of a loop frame is there
-pub loop-there : {count n i k : ℕ} (l : List Frame) → T (all (λ x. ltb (entryNode x) count) (stackOf n l)) → i < n → getD l i noFrame .entry ≡ Loop k → k < count
-loop-there {count} {n} {i} l h b e =
+pub loop-there : (bs : ℕ → M.Bindings) {count n i k : ℕ} (l : List Frame) → T (all (λ x. ltb (entryNode x) count) (stackOf bs n l)) → i < n → getD l i noFrame .entry ≡ Loop k → k < count
+loop-there bs {count} {n} {i} l h b e =
     ltb→lt _ count
-    (subst (λ (x : Entry). T (ltb (entryNode (entryWith (getD l i noFrame .visit) x)) count)) e (stack-all (λ x. ltb (entryNode x) count) n l h i b))
+    (subst (λ (x : Entry). T (ltb (entryNode (entryWith (bs i) (getD l i noFrame .visit) x)) count)) e (stack-all bs (λ x. ltb (entryNode x) count) n l h i b))

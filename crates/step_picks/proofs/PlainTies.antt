@@ -1,12 +1,12 @@
--- Tables and threads stored at their places: one gives way to another, a new one goes last, a removed one closes up. Assumes nothing.
+-- Tables stored at their places: one gives way to another, a new one goes last, a removed one closes up. Assumes nothing.
 use Prim.Native.Nat.{ℕ, _+_, _-_, _<_, _≤_}
 use mathlib.Core.Path.{_≡_, refl, ap, sym, _∙_}
 use mathlib.Core.Bool.{Bool, true, false, not, cond, _&&_}
-use mathlib.Core.List.{List, [], _∷_, _++_, map, append-nil}
+use mathlib.Core.List.{List, [], _∷_, map}
 use mathlib.Core.Option.{Option, some}
 use native.Mathlib.Omega.{arith}
 use lib.Dec.{T, eqb, ltb}
-use lib.ListN.{length, getD, set, length-set}
+use lib.ListN.{length, getD, set}
 use borrow.Author.Tests.{lt-ltb}
 use Rattle.values.specs.declared.Site.{Site}
 use Rattle.values.proofs.Arrays.{map-set}
@@ -23,11 +23,8 @@ use Rattle.nets.specs.declared.TableVariable.{TableVariable}
 use Rattle.nets.specs.declared.Thread.{Thread}
 use Rattle.nets.specs.Nets as M
 use Rattle.nets.specs.Nets.{Kind, code, needsTable, bindsRelation, isCreate}
-use Rattle.nets.specs.Steps.{settle}
-use Rattle.nets.specs.View.{noTable, noThread, kindAt, tableOf, variableOf, threadOf, tablesOf, threadsOf}
+use Rattle.nets.specs.View.{noTable, kindAt, tableOf, variableOf, tablesOf}
 use Rattle.step_effect.specs.Contracts.{isStep, putsRows}
-use Rattle.step_thread.specs.Contracts.{goesOn, forksOf}
-use Rattle.step_thread.proofs.ThreadLaws.{goes-on-gone, goes-on-there, settle-none, settle-one}
 use Rattle.step_effect.specs.TableContracts.{withContent, putContent, tablesWith}
 use Rattle.step_effect.proofs.KindTies.{puts-needs, with-create, with-drop}
 use Rattle.nets.proofs.KindClasses.{_▸_, class-in, of-class}
@@ -91,37 +88,6 @@ pub table-dropped :
     (n : ℕ) (l : List Table) (at b : ℕ) (s : Site) (d : M.Node) (q : Relation) {new : List Table} {x : ℕ} → b ≡ 24 → at < n → Closing noTable l at x new → n - 1 ≤ x →
     tablesOf (n - 1) new ≡ tablesWith (kindAt b) at (tablesOf n l) s d q
 table-dropped n l at b s d q e low c h = closing-ends tableOf noTable n c low h ∙ sym (with-drop at (tablesOf n l) s d q e)
-
--- ── threads ──
-
-module _ (n : ℕ) (l : List Thread) (at : ℕ) (t fork : Thread) (low : at < n) where
-  -- without an entry it is removed
-  pub thread-gone :
-      {new : List Thread} {x : ℕ} → Closing noThread l at x new → n - 1 ≤ x → t .depth ≡ 0 → (f : Bool) → (T f → 1 ≤ t .depth) →
-      threadsOf (n - 1) new ≡ settle at (goesOn (threadOf t)) (threadsOf n l) ++ forksOf f fork
-  thread-gone c h e true k = absurd (omega (arith, k tt))
-  thread-gone c h e false k =
-      closing-ends threadOf noThread n c low h
-      ∙ sym (append-nil _ ∙ ap (λ (us : List M.Thread). settle at us (threadsOf n l)) (goes-on-gone t e) ∙ settle-none at (threadsOf n l))
-
-  module _ (eight : length l ≡ 8) (few : n ≤ 8) (deep : 1 ≤ t .depth) where
-    put : threadsOf n (set l at t) ≡ settle at (goesOn (threadOf t)) (threadsOf n l)
-    put =
-        firsts-set threadOf noThread n l at t (omega (arith, eight, low, few))
-        ∙ sym (settle-one at (threadOf t) (threadsOf n l))
-        ∙ ap (λ (us : List M.Thread). settle at us (threadsOf n l)) (sym (goes-on-there t deep))
-
-    pub thread-stays : {f : Bool} → f ≡ false → threadsOf n (set l at t) ≡ settle at (goesOn (threadOf t)) (threadsOf n l) ++ forksOf f fork
-    thread-stays e =
-        put ∙ sym (append-nil (settle at (goesOn (threadOf t)) (threadsOf n l)))
-        ∙ ap (λ (b : Bool). settle at (goesOn (threadOf t)) (threadsOf n l) ++ forksOf b fork) (sym e)
-
-    -- and a fork goes last
-    pub thread-forks : {f : Bool} → f ≡ true → n < 8 → threadsOf (n + 1) (set (set l at t) n fork) ≡ settle at (goesOn (threadOf t)) (threadsOf n l) ++ forksOf f fork
-    thread-forks e room =
-        firsts-push threadOf noThread n (set l at t) fork (omega (arith, length-set l at t, eight, room))
-        ∙ ap (_++ (threadOf fork ∷ [])) put
-        ∙ ap (λ (b : Bool). settle at (goesOn (threadOf t)) (threadsOf n l) ++ forksOf b fork) (sym e)
 
 -- ── what is stored in the thread ──
 

@@ -12,6 +12,7 @@ use Rattle.values.specs.declared.Got.{Got}
 use Rattle.values.specs.Lists.{all, any, isSome, orElse}
 use Rattle.values.specs.Operands.{varsOf, eval}
 use Rattle.values.proofs.ListLaws.{all-weaken}
+use Rattle.values.proofs.ByPlace.{length-by}
 use Rattle.values.proofs.Firsts.{length-firsts, firsts-at}
 use Rattle.rows.specs.declared.Relation as Code
 use Rattle.rows.specs.Relations.{noRelation}
@@ -30,25 +31,29 @@ use Rattle.nets.specs.Sound as S
 use Rattle.nets.specs.Sound.{sound, entryNode, entryOk}
 use Rattle.nets.specs.Scenes.{sceneOf, top, siteOfGot, siteOfL, site, table}
 use Rattle.nets.specs.Steps.{holds}
-use Rattle.nets.specs.View.{noSite, noTable, noFrame, noNode, noVariable, variableOf, kindAt, nodeOf, tableOf, entryOf, threadOf, aliasesOf, tablesOf, nodesOf, noThread, view}
+use Rattle.nets.specs.View.{noSite, noTable, noFrame, noNode, noVariable, variableOf, kindAt, nodeOf, tableOf, nodeIn, entryOf, threadOf, aliasesOf, tablesOf, nodesOf, threadAt, view}
 use Rattle.step_meets.specs.Contracts.{locatedOf, Meets, Fine, relationRead}
 use Rattle.step_thread.specs.Contracts.{Stacked}
-use Rattle.step_thread.proofs.ThreadLaws.{stack-top}
+use Rattle.nets.proofs.StackView.{stack-cons, entry-node-in}
 use Rattle.nets.proofs.SureLaws.{entry-node}
 use Rattle.nets.proofs.TablePlaces.{placeAt}
-use Rattle.step_picks.proofs.SceneTies.{threadAt, few-nodes, few-threads, node-below, pick-there, scene-thread, thread-ok, thread-entries, situation-fine, table-found, table-read}
+use Rattle.step_picks.proofs.SceneTies.{threadIn, savedIn, threadSeen, few-nodes, few-threads, node-below, pick-there, scene-thread, thread-ok, thread-entries, situation-fine, table-found, table-read}
 
 abbrev pub nodeRead : Net → ℕ → Node
 nodeRead net k = getD (net .nodes) k noNode
 
+-- the entry of the top frame `f`
+abbrev pub topEntry : Net → Pick → Frame → M.Entry
+topEntry net p f = entryOf (savedIn net (p .thread) (threadIn net (p .thread) .depth - 1)) f
+
 -- the top frame `f`, its node's number `k`, whether a loop entry holds the table variable that the node binds, what L gives and where it leads, and
 -- the place and content of the table there
 pub record Read (net : Net) (p : Pick) (f : Frame) (k : ℕ) (h : Bool) (g : Got) (l : Located) (s : Site) (at : ℕ) (q : Code.Relation) : Type 0 where
-  pub frame : entryOf f ≡ top (threadOf (threadAt net (p .thread)) .stack)
-  pub number : k ≡ entryNode (entryOf f)
-  pub held : T (bindsRelation (kindAt (nodeRead net k .kind))) → h ≡ any (holds (nodesOf (net .nodecount) (net .nodes)) (nodeRead net k .bound)) (threadOf (threadAt net (p .thread)) .stack)
-  pub got : g ≡ eval (varsOf (threadAt net (p .thread) .vars)) (nodeRead net k .locality)
-  pub located : locatedOf l ≡ siteOfGot (aliasesOf (net .aliascount) (net .aliases)) (threadAt net (p .thread) .site) g
+  pub frame : topEntry net p f ≡ top (threadSeen net (p .thread) .stack)
+  pub number : k ≡ nodeIn (f .entry)
+  pub held : T (bindsRelation (kindAt (nodeRead net k .kind))) → h ≡ any (holds (nodesOf (net .nodecount) (net .nodes)) (nodeRead net k .bound)) (threadSeen net (p .thread) .stack)
+  pub got : g ≡ eval (varsOf (threadIn net (p .thread) .vars)) (nodeRead net k .locality)
+  pub located : locatedOf l ≡ siteOfGot (aliasesOf (net .aliascount) (net .aliases)) (threadIn net (p .thread) .site) g
   pub site : s ≡ orElse noSite (locatedOf l)
   pub place : at ≡ placeAt s (nodeRead net k .name) (tablesOf (net .tablecount) (net .tables))
   pub content : relationOf q ≡ contentOf (cond (ltb at (net .tablecount)) (some (getD (tablesOf (net .tablecount) (net .tables)) at (tableOf noTable))) none)
@@ -56,7 +61,7 @@ pub record Read (net : Net) (p : Pick) (f : Frame) (k : ℕ) (h : Bool) (g : Got
 -- the situation made of it
 abbrev pub situationIn : Net → Pick → Frame → ℕ → Bool → Located → ℕ → Code.Relation → Situation
 situationIn net p f k h l at q =
-    situation (threadAt net (p .thread)) f (nodeRead net k) q
+    situation (threadIn net (p .thread)) (savedIn net (p .thread)) f (nodeRead net k) q
     (record { located = l; found = ltb at (net .tablecount); held = h; tables = net .tablecount; threads = net .threadcount; row = p .row })
 
 -- the content of the table at a place, or none
@@ -76,18 +81,18 @@ module _ (net : Net) (p : Pick) (ok : T (sound (view net))) (there : p .thread <
   thread-below = omega (arith, few-threads net ok)
 
   -- the entries of the stack name nodes
-  pub entries-there : T (all (λ x. ltb (entryNode x) (net .nodecount)) (threadOf (threadAt net (p .thread)) .stack))
+  pub entries-there : T (all (λ x. ltb (entryNode x) (net .nodecount)) (threadSeen net (p .thread) .stack))
   unfolding view
   entries-there =
-      all-weaken (entryOk (view net .nodes) (threadOf (threadAt net (p .thread)) .bindings .relations)) (λ x. ltb (entryNode x) (net .nodecount)) (threadOf (threadAt net (p .thread)) .stack)
+      all-weaken (entryOk (view net .nodes) (threadSeen net (p .thread) .bindings .relations)) (λ x. ltb (entryNode x) (net .nodecount)) (threadSeen net (p .thread) .stack)
       (λ x h.
       lt→ltb (entryNode x) (net .nodecount)
-      (subst (λ (n : ℕ). entryNode x < n) (length-firsts nodeOf noNode (net .nodecount) (net .nodes)) (entry-node (view net .nodes) (threadOf (threadAt net (p .thread)) .bindings .relations) x h)))
-      (thread-entries (view net .nodes) (threadOf (threadAt net (p .thread))) (thread-ok net p ok there))
+      (subst (λ (n : ℕ). entryNode x < n) (length-firsts nodeOf noNode (net .nodecount) (net .nodes)) (entry-node (view net .nodes) (threadSeen net (p .thread) .bindings .relations) x h)))
+      (thread-entries (view net .nodes) (threadSeen net (p .thread)) (thread-ok net p ok there))
 
   -- ── the node ──
 
-  module _ {x : M.Entry} (top-is : x ≡ top (threadOf (threadAt net (p .thread)) .stack)) where
+  module _ {x : M.Entry} (top-is : x ≡ top (threadSeen net (p .thread) .stack)) where
     scene-entry : sceneOf (view net) p .entry ≡ x
     unfolding sceneOf
     scene-entry = ap (λ (t : M.Thread). top (t .stack)) (scene-thread net p ok there) ∙ sym top-is
@@ -105,6 +110,9 @@ module _ (net : Net) (p : Pick) (ok : T (sound (view net))) (there : p .thread <
       pub number-below : k < 128
       number-below = omega (arith, node-there, few-nodes net ok)
 
+      pub own-there : getD (nodesOf (net .nodecount) (net .nodes)) k S.noNode ≡ nodeOf (nodeRead net k)
+      own-there = firsts-at nodeOf noNode (net .nodecount) (net .nodes) k S.noNode node-there
+
       scene-node : sceneOf (view net) p .node ≡ nodeOf (nodeRead net k)
       unfolding sceneOf view
       scene-node =
@@ -115,13 +123,13 @@ module _ (net : Net) (p : Pick) (ok : T (sound (view net))) (there : p .thread <
 
   module _ {f : Frame} {k : ℕ} {h : Bool} {g : Got} {l : Located} {s : Site} {at : ℕ} {q : Code.Relation} (r : Read net p f k h g l s at q) where
     pub node-read : sceneOf (view net) p .node ≡ nodeOf (nodeRead net k)
-    node-read = scene-node (r .frame) (r .number)
+    node-read = scene-node (r .frame) (r .number ∙ sym (entry-node-in (savedIn net (p .thread) (threadIn net (p .thread) .depth - 1)) f))
 
     located-read : siteOfL (sceneOf (view net) p) ≡ locatedOf l
     unfolding siteOfL sceneOf view
     located-read =
         ap₂ (λ (t : M.Thread) (d : M.Node). siteOfGot (aliasesOf (net .aliascount) (net .aliases)) (t .site) (eval (t .bindings .vars) (d .locality))) (scene-thread net p ok there) node-read
-        ∙ ap (siteOfGot (aliasesOf (net .aliascount) (net .aliases)) (threadAt net (p .thread) .site)) (sym (r .got))
+        ∙ ap (siteOfGot (aliasesOf (net .aliascount) (net .aliases)) (threadIn net (p .thread) .site)) (sym (r .got))
         ∙ sym (r .located)
 
     pub site-read : site (sceneOf (view net) p) ≡ s
@@ -153,7 +161,7 @@ module _ (net : Net) (p : Pick) (ok : T (sound (view net))) (there : p .thread <
               ∙ ap contentOf (table-read s (nodeRead net k .name) (net .tablecount) (net .tables) ∙ sym found-read);
           held = held-read;
           tables = sym (length-firsts tableOf noTable (net .tablecount) (net .tables));
-          threads = sym (length-firsts threadOf noThread (net .threadcount) (net .threads));
+          threads = sym (length-by (threadAt (nodesOf (net .nodecount) (net .nodes)) (net .saved) (net .threads)) 0 (net .threadcount));
           row = refl;
         }
 
@@ -163,8 +171,8 @@ module _ (net : Net) (p : Pick) (ok : T (sound (view net))) (there : p .thread <
 -- ── places that are read ──
 
 -- the frame that is read is the top
-pub frame-top : (t : Thread) → 1 ≤ t .depth → entryOf (getD (t .stack) (t .depth - 1) noFrame) ≡ top (threadOf t .stack)
-frame-top t h = sym (ap top (stack-top (t .depth) (t .stack) h))
+pub frame-top : (bs : ℕ → M.Bindings) (t : Thread) → 1 ≤ t .depth → entryOf (bs (t .depth - 1)) (getD (t .stack) (t .depth - 1) noFrame) ≡ top (threadOf bs t .stack)
+frame-top bs t h = sym (ap top (stack-cons bs (t .depth) (t .stack) h))
 
 -- the table variable that is read
 pub variable-read : (s : Situation) → variableOf (getD (s .thread .relations) (s .node .read) noVariable) ≡ relationRead s

@@ -1,5 +1,5 @@
 -- The scene of a pick in a sound net: its thread, entry and node are there and sound, in the model and in the code's structs. Assumes nothing.
-use Prim.Native.Nat.{ℕ, zero, suc, _<_, _≤_}
+use Prim.Native.Nat.{ℕ, zero, suc, _-_, _<_, _≤_}
 use mathlib.Core.Path.{_≡_, refl, ap, ap₂, sym, subst, _∙_}
 use mathlib.Core.Bool.{Bool, true, false, cond}
 use mathlib.Core.List.{List}
@@ -12,6 +12,7 @@ use Rattle.values.specs.declared.Site.{Site}
 use Rattle.values.specs.Lists.{isSome, all}
 use Rattle.values.proofs.Bools.{and-l, and-r, is-true}
 use Rattle.values.proofs.ListLaws.{all-at, find-all}
+use Rattle.values.proofs.ByPlace.{length-by, by-at}
 use Rattle.values.proofs.Firsts.{length-firsts, firsts-at}
 use Rattle.rows.specs.Relations.{Relation}
 use Rattle.step_meets.specs.Situations.{Situation}
@@ -28,13 +29,14 @@ use Rattle.nets.specs.Sound.{sound, aliasOk, tableOk, threadOk, entryOk, entryN
 use Rattle.nets.specs.Tables.{isAt, tableAt, contentOf}
 use Rattle.nets.specs.Scenes.{Scene, sceneOf, site, table, stillToVisit}
 use Rattle.nets.specs.Steps.{firstRefusal, checks, step}
-use Rattle.nets.specs.View.{noAlias, noTable, noFrame, noNode, noThread, nodeOf, tableOf, entryOf, stackOf, threadOf, tablesOf, view}
+use Rattle.nets.specs.View.{noAlias, noTable, noFrame, noNode, noThread, nodeOf, tableOf, entryOf, stackOf, threadOf, savedAt, tablesOf, nodesOf, threadAt, view}
 use Rattle.step_thread.specs.Contracts.{Stacked}
 use Rattle.step_meets.specs.Contracts.{outcomeAt, Meets, relationRead, Fine}
 use Rattle.nets.proofs.SoundLaws.{clauses}
 use Rattle.nets.proofs.SureLaws.{StackFacts, stack-facts, entry-node, node-at}
 use Rattle.nets.proofs.RoundLaws.{visits-ok}
-use Rattle.step_thread.proofs.ThreadLaws.{length-stack}
+use Rattle.nets.proofs.StackView.{length-stack}
+use Rattle.step_thread.proofs.ThreadLaws.{visit-any}
 use Rattle.step_meets.proofs.SituationLaws.{Within, shaped}
 use Rattle.nets.proofs.TablePlaces.{placeAt, table-there, table-at}
 
@@ -60,10 +62,10 @@ content-within (some t) h =
 
 -- ── counts of the code's structs ──
 
-stack-within : (t : Thread) (ds : List M.Node) → T (threadOk ds (threadOf t)) → Stacked t
-stack-within t ds h =
-    let k = thread-stack ds (threadOf t) h in
-    let n = length-stack (t .depth) (t .stack) in
+stack-within : (bs : ℕ → M.Bindings) (t : Thread) (ds : List M.Node) → T (threadOk ds (threadOf bs t)) → Stacked t
+stack-within bs t ds h =
+    let k = thread-stack ds (threadOf bs t) h in
+    let n = length-stack bs (t .depth) (t .stack) in
     record { some = omega (arith, k .sLength); few = omega (arith, k .sLength, k .sDepth) }
 
 -- ── the scene ──
@@ -108,10 +110,10 @@ module _ (m : M.Net) (p : Pick) (ok : T (sound m)) (there : p .thread < length (
         count = length (m .nodes);
         node = subst (λ (d : M.Node). T (nodeOkAs (d .kind) (length (m .nodes)) (node-fine .0) d)) (q .node) (node-fine .1);
         bindings = subst (λ (t : M.Thread). T (bindingsOk (t .bindings))) (q .thread) (thread-bindings (m .nodes) (c .thread) thread-fine);
-        stacked = stack-within (s .thread) (m .nodes) (subst (λ (t : M.Thread). T (threadOk (m .nodes) t)) (q .thread) thread-fine);
+        stacked = stack-within (s .saved) (s .thread) (m .nodes) (subst (λ (t : M.Thread). T (threadOk (m .nodes) t)) (q .thread) thread-fine);
         content = shaped (s .content) (subst Within (sym (q .content)) table-fine);
         visits = λ l r e.
-            subst (λ (x : M.Entry). T (all (λ i. ltb i (length (r .rows))) (stillToVisit x (length (r .rows))))) (q .entry)
+            subst (λ (v : List ℕ). T (all (λ i. ltb i (length (r .rows))) v)) (ap (λ (x : M.Entry). stillToVisit x (length (r .rows))) (q .entry) ∙ visit-any (s .saved (s .thread .depth - 1)) (s .frame) (length (r .rows)))
             (visits-ok (m .nodes) (c .thread .bindings .relations) (c .entry) (c .node) r refl (read r e) entry-fine);
       }
     where
@@ -124,16 +126,24 @@ module _ (m : M.Net) (p : Pick) (ok : T (sound m)) (there : p .thread < length (
 -- ── in the code's structs ──
 
 -- what a test of every entry says of each frame in use
-pub stack-all : (q : M.Entry → Bool) (n : ℕ) (l : List Frame) → T (all q (stackOf n l)) → (j : ℕ) → j < n → T (q (entryOf (getD l j noFrame)))
-stack-all q zero l h j k = absurd (omega arith)
-stack-all q (suc n) l h j k = go (eqb j n) refl (stack-all q n l (and-r (q (entryOf (getD l n noFrame))) (all q (stackOf n l)) h) j)
+pub stack-all : (bs : ℕ → M.Bindings) (q : M.Entry → Bool) (n : ℕ) (l : List Frame) → T (all q (stackOf bs n l)) → (j : ℕ) → j < n → T (q (entryOf (bs j) (getD l j noFrame)))
+stack-all bs q zero l h j k = absurd (omega arith)
+stack-all bs q (suc n) l h j k = go (eqb j n) refl (stack-all bs q n l (and-r (q (entryOf (bs n) (getD l n noFrame))) (all q (stackOf bs n l)) h) j)
   where
-    go : (b : Bool) → eqb j n ≡ b → (j < n → T (q (entryOf (getD l j noFrame)))) → T (q (entryOf (getD l j noFrame)))
-    go true e ih = subst (λ (i : ℕ). T (q (entryOf (getD l i noFrame)))) (sym (eqb-true j n e)) (and-l (q (entryOf (getD l n noFrame))) (all q (stackOf n l)) h)
+    go : (b : Bool) → eqb j n ≡ b → (j < n → T (q (entryOf (bs j) (getD l j noFrame)))) → T (q (entryOf (bs j) (getD l j noFrame)))
+    go true e ih = subst (λ (i : ℕ). T (q (entryOf (bs i) (getD l i noFrame)))) (sym (eqb-true j n e)) (and-l (q (entryOf (bs n) (getD l n noFrame))) (all q (stackOf bs n l)) h)
     go false e ih = let d : j ≡ n → ⊥ = eqb-false j n e in ih (omega arith)
 
-abbrev pub threadAt : Net → ℕ → Thread
-threadAt net i = getD (net .threads) i noThread
+abbrev pub threadIn : Net → ℕ → Thread
+threadIn net i = getD (net .threads) i noThread
+
+-- what the entries of its stack hold
+abbrev pub savedIn : Net → ℕ → ℕ → M.Bindings
+savedIn net i = savedAt (nodesOf (net .nodecount) (net .nodes)) (net .saved) i (threadIn net i)
+
+-- the thread that it stands for
+abbrev pub threadSeen : Net → ℕ → M.Thread
+threadSeen net i = threadOf (savedIn net i) (threadIn net i)
 
 -- counts
 module _ (net : Net) (ok : T (sound (view net))) where
@@ -147,7 +157,7 @@ module _ (net : Net) (ok : T (sound (view net))) where
 
   pub few-threads : net .threadcount ≤ 8
   unfolding view
-  few-threads = subst (λ (n : ℕ). n ≤ 8) (length-firsts threadOf noThread (net .threadcount) (net .threads)) (leb→le (length (view net .threads)) 8 (clauses (view net) ok .fewThreads))
+  few-threads = subst (λ (n : ℕ). n ≤ 8) (length-by (threadAt (nodesOf (net .nodecount) (net .nodes)) (net .saved) (net .threads)) 0 (net .threadcount)) (leb→le (length (view net .threads)) 8 (clauses (view net) ok .fewThreads))
 
   -- past the array's end stands an alias of locality 0, which is not sound
   pub few-aliases : length (net .aliases) ≡ 56 → net .aliascount ≤ 56
@@ -167,17 +177,17 @@ module _ (net : Net) (ok : T (sound (view net))) where
 module _ (net : Net) (p : Pick) (ok : T (sound (view net))) (there : p .thread < net .threadcount) where
   pub pick-there : p .thread < length (view net .threads)
   unfolding view
-  pick-there = rw length-firsts there
+  pick-there = subst (λ (n : ℕ). p .thread < n) (sym (length-by (threadAt (nodesOf (net .nodecount) (net .nodes)) (net .saved) (net .threads)) 0 (net .threadcount))) there
 
-  pub scene-thread : sceneOf (view net) p .thread ≡ threadOf (threadAt net (p .thread))
+  pub scene-thread : sceneOf (view net) p .thread ≡ threadSeen net (p .thread)
   unfolding sceneOf view
-  scene-thread = firsts-at threadOf noThread (net .threadcount) (net .threads) (p .thread) S.noThread there
+  scene-thread = by-at (threadAt (nodesOf (net .nodecount) (net .nodes)) (net .saved) (net .threads)) (net .threadcount) (p .thread) S.noThread there
 
-  pub thread-ok : T (threadOk (view net .nodes) (threadOf (threadAt net (p .thread))))
+  pub thread-ok : T (threadOk (view net .nodes) (threadSeen net (p .thread)))
   thread-ok = subst (λ (t : M.Thread). T (threadOk (view net .nodes) t)) scene-thread (thread-fine (view net) p ok pick-there)
 
-  pub thread-stacked : Stacked (threadAt net (p .thread))
-  thread-stacked = stack-within (threadAt net (p .thread)) (view net .nodes) thread-ok
+  pub thread-stacked : Stacked (threadIn net (p .thread))
+  thread-stacked = stack-within (savedIn net (p .thread)) (threadIn net (p .thread)) (view net .nodes) thread-ok
 
   -- checks 10 and 11 pass
   pub step-is : step (view net) p ≡ outcomeAt (sceneOf (view net) p)

@@ -3,13 +3,14 @@ use Prim.Native.Nat.{ℕ, _<_, _≤_}
 use mathlib.Core.Path.{_≡_, refl, ap, ap₂, sym, subst, _∙_}
 use mathlib.Core.Bool.{Bool}
 use mathlib.Core.List.{List, _++_}
-use lib.Dec.{T, ltb→lt}
+use lib.Dec.{T, ltb, ltb→lt, lt→ltb}
 use lib.ListN.{length}
 use Rattle.values.specs.declared.Site.{Site}
 use Rattle.values.specs.declared.Got.{Got}
 use Rattle.values.specs.Lists.{isSome}
 use borrow.Author.Tests.{le-ltb}
 use Rattle.values.proofs.Bools.{and-l, is-true}
+use Rattle.values.proofs.ByPlace.{length-by}
 use Rattle.values.proofs.Firsts.{length-firsts}
 use Rattle.rows.specs.declared.Relation as Code
 use Rattle.rows.specs.Relations.{Relation}
@@ -22,6 +23,7 @@ use Rattle.nets.specs.declared.Answer.the-variants.{Done, Refused}
 use Rattle.nets.specs.declared.Frame.{Frame}
 use Rattle.step_meets.specs.declared.Located.{Located}
 use Rattle.step_meets.specs.Situations.{Change}
+use Rattle.nets.specs.declared.Saved.{Saved}
 use Rattle.nets.specs.declared.Table.{Table}
 use Rattle.nets.specs.declared.Thread.{Thread}
 use Rattle.nets.specs.declared.Net.{Net}
@@ -32,18 +34,18 @@ use Rattle.nets.specs.Sound.{sound}
 use Rattle.nets.specs.Scenes.{Scene, sceneOf, Parts, parts, site, table}
 use Rattle.nets.specs.Steps.{check14, roomBy, check20, settle, tablesBy, threadsAfter, performed, checks, step}
 use Rattle.nets.specs.Accounts.{netLeft}
-use Rattle.nets.specs.View.{noTable, noThread, kindAt, tableOf, nodeOf, threadOf, tablesOf, threadsOf, view}
+use Rattle.nets.specs.View.{noTable, kindAt, tableOf, nodeOf, tablesOf, nodesOf, threadAt, threadsOf, view}
 use Rattle.nets.specs.Answers.{Said, isDoing, answerOf, saidOf, isRefused, StepIs}
 use Rattle.step_effect.specs.Contracts.{putsRows}
 use Rattle.step_thread.specs.Contracts.{goesOn, forksOf}
-use Rattle.step_meets.specs.Contracts.{laterChecks, outcomeAt, ChangeIs}
+use Rattle.step_meets.specs.Contracts.{laterChecks, outcomeAt, becomes, ChangeIs}
 use Rattle.step_effect.specs.TableContracts.{putContent, tablesWith}
 use Rattle.nets.proofs.KindClasses.{_▸_, of-class}
-use Rattle.nets.proofs.StepLaws.{Passed, given}
+use Rattle.nets.proofs.StepLaws.{Passed, Pass, pass, given}
 use Rattle.nets.proofs.AnswerLaws.{judge-said, said-passed, refuses-11}
 use Rattle.nets.proofs.TablePlaces.{placeAt, place-below}
 use Rattle.step_picks.proofs.ListTies.{tablePlace, tables-put, drop-tables, net-after, done-left}
-use Rattle.step_picks.proofs.SceneTies.{few-tables, few-threads, step-is}
+use Rattle.step_picks.proofs.SceneTies.{few-tables, few-threads, pick-there, step-is}
 use Rattle.step_picks.proofs.ReadTies.{nodeRead, Read, node-read, site-read}
 
 -- ── a refused step ──
@@ -52,7 +54,9 @@ use Rattle.step_picks.proofs.ReadTies.{nodeRead, Read, node-read, site-
 pub past-refused : (net : Net) (p : Pick) → T (sound (view net)) → net .threadcount ≤ p .thread → answerOf (step (view net) p) ≡ saidOf (Refused NoThread)
 unfolding view
 past-refused net p ok h =
-    ap answerOf (refuses-11 (view net) p (is-true (sound (view net)) ok) (rw length-firsts (le-ltb (p .thread) (net .threadcount) h)))
+    ap answerOf
+    (refuses-11 (view net) p (is-true (sound (view net)) ok)
+    (ap (ltb (p .thread)) (length-by (threadAt (nodesOf (net .nodecount) (net .nodes)) (net .saved) (net .threads)) 0 (net .threadcount)) ∙ le-ltb (p .thread) (net .threadcount) h))
 
 -- refused by a later check
 pub change-refused :
@@ -91,10 +95,10 @@ tables-as (other o) c q e h = refl
 
 -- ── a done step ──
 
--- the net with other tables and threads, and with these numbers of them
-abbrev pub netWith : Net → List Table → ℕ → List Thread → ℕ → Net
-netWith net ts n hs m =
-    record { aliases = net .aliases; aliascount = net .aliascount; tables = ts; tablecount = n; nodes = net .nodes; nodecount = net .nodecount; threads = hs; threadcount = m }
+-- the net with other tables and threads, with these numbers of them, and with other saved bindings
+abbrev pub netWith : Net → List Table → ℕ → List Thread → ℕ → List Saved → Net
+netWith net ts n hs m given =
+    record { aliases = net .aliases; aliascount = net .aliascount; tables = ts; tablecount = n; nodes = net .nodes; nodecount = net .nodecount; threads = hs; threadcount = m; saved = given }
 
 module _
     (net : Net) (p : Pick) (ok : T (sound (view net))) (there : p .thread < net .threadcount)
@@ -115,6 +119,11 @@ module _
     table-needed : T (needsTable (sceneOf (view net) p .node .kind)) → T (isSome (table (sceneOf (view net) p)))
     unfolding check14 checks
     table-needed n = given (needsTable (sceneOf (view net) p .node .kind)) (isSome (table (sceneOf (view net) p))) n (passed .1 .1 .0)
+
+    -- all checks
+    pub all-passed : Pass (sceneOf (view net) p)
+    unfolding checks sceneOf
+    all-passed = pass (sceneOf (view net) p) (ok, (lt→ltb (p .thread) (length (view net .threads)) (pick-there net p ok there), passed))
 
     place-as : tablePlace (sceneOf (view net) p) ≡ at
     unfolding sceneOf view
@@ -145,12 +154,13 @@ module _
     threads-ready = (there, few-threads net ok, forks)
       where
         forks : T (d .forks) → (net .threadcount < 8) × (1 ≤ d .thread .depth)
-        forks n = (subst (λ (i : ℕ). i < 8) (length-firsts threadOf noThread (net .threadcount) (net .threads)) (is .room n .0), is .room n .1)
+        forks n = (subst (λ (i : ℕ). i < 8) (length-by (threadAt (nodesOf (net .nodecount) (net .nodes)) (net .saved) (net .threads)) 0 (net .threadcount)) (is .room n .0), is .room n .1)
 
     module _
-        (ts : List Table) (n : ℕ) (hs : List Thread) (m : ℕ)
+        (ts : List Table) (n : ℕ) (hs : List Thread) (m : ℕ) (given : List Saved)
         (tables : tablesOf n ts ≡ tablesWith (kindAt (nodeRead net k .kind)) at (tablesOf (net .tablecount) (net .tables)) s (nodeOf (nodeRead net k)) (relationOf (d .content)))
-        (threads : threadsOf m hs ≡ settle (p .thread) (goesOn (threadOf (d .thread))) (threadsOf (net .threadcount) (net .threads)) ++ forksOf (d .forks) (d .fork)) where
+        (threads : threadsOf (nodesOf (net .nodecount) (net .nodes)) given m hs
+        ≡ settle (p .thread) (goesOn (becomes (nodesOf (net .nodecount) (net .nodes)) d)) (threadsOf (nodesOf (net .nodecount) (net .nodes)) (net .saved) (net .threadcount) (net .threads)) ++ forksOf (d .forks) (d .fork)) where
       tables-stored : tablesOf n ts ≡ tablesBy (sceneOf (view net) p .node .kind) (sceneOf (view net) p)
       unfolding sceneOf view
       tables-stored =
@@ -159,11 +169,11 @@ module _
           ∙ sym (ap (λ (i : ℕ). tablesWith (sceneOf (view net) p .node .kind) i (view net .tables) (site (sceneOf (view net) p)) (sceneOf (view net) p .node) (relationOf (d .content))) place-as)
           ∙ tables-as (sceneOf (view net) p .node .kind) (sceneOf (view net) p) (relationOf (d .content)) (λ n. let c = is .content is-doing n in λ j. record { columns = c .columns j; rows = c .rows j }) table-needed
 
-      threads-stored : threadsOf m hs ≡ threadsAfter (sceneOf (view net) p)
+      threads-stored : threadsOf (nodesOf (net .nodecount) (net .nodes)) given m hs ≡ threadsAfter (sceneOf (view net) p)
       unfolding sceneOf view
       threads-stored = threads ∙ sym (is .threads is-doing)
 
-      pub done-is : StepIs net p (record { answer = d .answer; net = netWith net ts n hs m })
+      pub done-is : StepIs net p (record { answer = d .answer; net = netWith net ts n hs m given })
       unfolding view sceneOf
       done-is =
           record {

@@ -3,6 +3,7 @@ use nets::Answer;
 use nets::Entry;
 use nets::Net;
 use nets::Refusal;
+use nets::Saved;
 use nets::Table;
 use nets::TableVariable;
 use nets::kinds::binds_relation;
@@ -25,6 +26,7 @@ use step_meets::parts::bound_tables;
 use step_meets::parts::source_of;
 use step_meets::sites::site_of;
 use step_rows::judged;
+use step_thread::ends_round;
 use step_thread::forked;
 use step_thread::node_of;
 use step_thread::run_frame;
@@ -190,7 +192,26 @@ pub fn carry_out(from: Net, picks: &[u8], out: &mut [u8]) -> Carried
             }
         }
 
-        // ---- the threads: one without entries is removed, and the list closes up; a fork goes last
+        // ---- what entries of loops hold: at the first round the bindings before it; where the entry above a sequential loop's is removed, they come back
+        if decided.saves {
+            let other = thread.relations[1 - read];
+            net.saved[thread_place * 8 + top] = Saved { vars, other };
+        }
+        if (decided.depth < depth) & (1 < depth) {
+            let under = depth - 2;
+            let outer = thread.stack[under];
+            let outer_number = node_of(outer) as usize;
+            if ends_round(outer, net.nodes[outer_number].kind) {
+                let held_there = net.saved[thread_place * 8 + under];
+                let vars_back = held_there.vars;
+                let other_back = held_there.other;
+                let other_number = 1 - net.nodes[outer_number].read as usize;
+                thread.vars = vars_back;
+                thread.relations[other_number] = other_back;
+            }
+        }
+
+        // ---- the threads: one without entries is removed, and the list closes up, with what entries of its threads hold; a fork goes last
         if decided.depth == 0 {
             let last = threadcount - 1;
             let mut gap = thread_place;
@@ -201,6 +222,16 @@ pub fn carry_out(from: Net, picks: &[u8], out: &mut [u8]) -> Carried
                 gap = next;
             }
             net.threadcount = last;
+            let end = last * 8;
+            let mut hole = thread_place * 8;
+            while hole < end {
+                let owner = hole / 8;
+                if hole % 8 < net.threads[owner].depth {
+                    let kept = net.saved[hole + 8];
+                    net.saved[hole] = kept;
+                }
+                hole += 1;
+            }
             continue;
         }
         net.threads[thread_place] = thread;
@@ -212,11 +243,13 @@ pub fn carry_out(from: Net, picks: &[u8], out: &mut [u8]) -> Carried
     }
     let contents = net.tables;
     let processes = net.threads;
+    let saved = net.saved;
     Carried {
         tables: contents,
         tablecount: net.tablecount,
         threads: processes,
         threadcount: net.threadcount,
+        saved,
         answer,
         added,
         taken,

@@ -3,14 +3,16 @@ use nets::Entry;
 use nets::Frame;
 use nets::Refusal;
 use nets::Thread;
+use nets::kinds::is_sequential;
 use values::Slot;
 ghost use mathlib.Core.Path.{_≡_};
+ghost use mathlib.Core.Bool.{not, _&&_};
 ghost use mathlib.Core.List.{[], _∷_};
 ghost use Prim.Native.Nat.{ℕ, _-_};
 ghost use lib.ListN.{getD};
 ghost use Rattle.nets.specs.Nets as M;
-ghost use Rattle.nets.specs.Nets.{toRun};
-ghost use Rattle.nets.specs.View.{noFrame, nodeIn, threadOf, bindingsOf};
+ghost use Rattle.nets.specs.Nets.{isSequential, toRun};
+ghost use Rattle.nets.specs.View.{noFrame, kindAt, nodeIn, threadOf, bindingsOf};
 ghost use Rattle.step_thread.specs.Contracts.{isRun, Stacked};
 
 // What a loop's pick comes to: over, a round opened, or refused.
@@ -57,6 +59,13 @@ pub fn is_run(f: Frame) -> bool
         Entry::Run(_) => true,
         Entry::Loop(_) => false,
     }
+}
+
+// Whether the frame is that of a sequential loop, so that a round ends where the entry above it is removed.
+pub fn ends_round(f: Frame, kind: u8) -> bool
+    ensures { λ r. ⌜ r ≡ (not (isRun (f .entry)) && isSequential (kindAt kind)) ⌝ }
+{
+    !is_run(f) & is_sequential(kind)
 }
 
 // ---- stacks

@@ -44,6 +44,7 @@ pub fn step(net: Net, pick: Pick) -> Stepped
     let tables = net.tables;
     let nodes = net.nodes;
     let threads = net.threads;
+    let saved = net.saved;
     let sure = sound_parts(
         aliases,
         net.aliascount,
@@ -53,6 +54,7 @@ pub fn step(net: Net, pick: Pick) -> Stepped
         net.nodecount,
         threads,
         net.threadcount,
+        saved,
     );
     let picks = [pick.thread, pick.row];
     let length = count_if(sure, 2);

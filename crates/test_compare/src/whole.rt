@@ -11,6 +11,7 @@ use nets::Entry;
 use nets::Frame;
 use nets::Net;
 use nets::Node;
+use nets::Saved;
 use nets::Table;
 use nets::TableVariable;
 use nets::Thread;
@@ -186,6 +187,30 @@ fn same_threads(a: [Thread; 8], b: [Thread; 8]) -> bool {
     true
 }
 
+// ---- what the entries of loops hold
+
+fn same_bindings(a: Saved, b: Saved) -> bool {
+    let v = a.vars;
+    let w = b.vars;
+    let o = a.other;
+    let p = b.other;
+    same_vars(v, w) & same_variable(o, p)
+}
+
+fn same_saved(a: [Saved; 64], b: [Saved; 64]) -> bool {
+    let mut i: usize = 0;
+    while i < 64 {
+        let x = a[i];
+        let y = b[i];
+        if same_bindings(x, y) {
+            i += 1;
+        } else {
+            return false;
+        }
+    }
+    true
+}
+
 // ---- the net
 
 pub fn same_net(a: Net, b: Net) -> bool {
@@ -193,10 +218,12 @@ pub fn same_net(a: Net, b: Net) -> bool {
     let tables = a.tables;
     let nodes = a.nodes;
     let threads = a.threads;
+    let saved = a.saved;
     let other_aliases = b.aliases;
     let other_tables = b.tables;
     let other_nodes = b.nodes;
     let other_threads = b.threads;
+    let other_saved = b.saved;
     (a.aliascount == b.aliascount)
         & (a.tablecount == b.tablecount)
         & (a.nodecount == b.nodecount)
@@ -205,4 +232,5 @@ pub fn same_net(a: Net, b: Net) -> bool {
         & same_tables(tables, other_tables)
         & same_nodes(nodes, other_nodes)
         & same_threads(threads, other_threads)
+        & same_saved(saved, other_saved)
 }

@@ -63,6 +63,20 @@ pub fn cards() -> Relation {
     }
 }
 
+// The same two rows in the other order.
+pub fn turned() -> Relation {
+    let none = no_row();
+    let mut rows = [none; 16];
+    rows[0] = pair(RIG2, -40);
+    rows[1] = pair(RIG1, 36);
+    Relation {
+        columns: 2,
+        kinds: [2, 1, 0, 9],
+        rows,
+        count: 2,
+    }
+}
+
 // A value of each kind.
 pub fn logs() -> Relation {
     let none = no_row();
@@ -93,7 +107,8 @@ fn sixteen_rows() -> Relation {
 
 // ---- by bytes
 
-// Rows with a value of the wrong kind, a text out of range, or a locality out of range.
+// Rows with a value of the wrong kind, a text out of range, or a locality out of range; then that of `turned` with another number, with a letter in the other case, and with
+// other values past its two columns.
 fn first_row(which: u8) -> Row {
     let none = Value::Int(0);
     let one = Value::Int(1);
@@ -103,7 +118,10 @@ fn first_row(which: u8) -> Row {
         2 => row(Value::Text(0x5249471f), one, none, none),
         3 => row(none, rig, Value::Loc(Locality(8)), none),
         4 => row(one, one, none, none),
-        _ => row(Value::Text(RIG1 + 0x80), one, none, none),
+        5 => row(Value::Text(RIG1 + 0x80), one, none, none),
+        6 => row(Value::Text(RIG2), Value::Int(-41), none, none),
+        7 => row(Value::Text(RIG2 + 0x2000), Value::Int(-40), none, none),
+        _ => row(Value::Text(RIG2), Value::Int(-40), none, none),
     }
 }
 
@@ -111,7 +129,8 @@ fn relation_of(which: u8) -> Relation {
     match which {
         0 => cards(),
         1 => logs(),
-        _ => sixteen_rows(),
+        2 => sixteen_rows(),
+        _ => turned(),
     }
 }
 

@@ -1,6 +1,8 @@
 // Nets by bytes: one net with one part exchanged for another. Of 24 bytes, byte 2 says which net, byte 3 which part, and the others its place and what it becomes. Operands are as in records.
-// Nets: 0 the sound one with two aliases, two tables, a node of each kind and two threads; 1 to 5 eight tables, all aliases, all nodes, eight threads, eight entries; 6 a loop past the nodes.
-// Parts: 1 counts, 2 an alias, 3 a table, 4 to 13 a node, 14 to 17 a thread. What lies past a count is out of every range.
+// Nets: 0 the sound one with two aliases, two tables, a node of each kind and two threads; 1 to 5 eight tables, all aliases, all nodes, eight threads, eight entries; 6 a loop past the nodes; 7 loops over both
+// table variables, node 7 a sequential and node 8 a parallel one over table variable 1, and a stack by bytes.
+// Parts: 1 counts, 2 an alias, 3 a table, 4 to 13 a node, 14 to 17 a thread, 18 what a loop's entry holds. What lies past a count is out of every range, and so is what is saved for
+// an entry that holds nothing.
 use crate::contents::CARD;
 use crate::contents::cards;
 use crate::contents::content_of;
@@ -9,7 +11,10 @@ use crate::contents::no_relation;
 use crate::nodes::node_of;
 use crate::programs::looping;
 use crate::programs::nodes;
+use crate::programs::over_second;
 use crate::programs::placed;
+use crate::saved::saved_of;
+use crate::stacks::nested;
 use crate::stacks::thread_of;
 use crate::threads::busy_thread;
 use crate::threads::eight_entries;
@@ -117,6 +122,10 @@ fn nodes_of(e: [u8; 24]) -> [Node; 128] {
     if e[2] == 6 {
         nodes[12] = looping(25, 255);
     }
+    if e[2] == 7 {
+        nodes[7] = over_second(looping(25, 8));
+        nodes[8] = over_second(looping(26, 9));
+    }
     if (3 < e[3]) & (e[3] < 14) {
         let at = (e[4] % 128) as usize;
         nodes[at] = node_of(nodes[at], e);
@@ -126,13 +135,21 @@ fn nodes_of(e: [u8; 24]) -> [Node; 128] {
 
 // ---- threads
 
-fn first_thread(e: [u8; 24]) -> Thread {
-    let mut thread = busy_thread();
+fn whole_thread(e: [u8; 24]) -> Thread {
+    let thread = busy_thread();
     if e[2] == 5 {
-        thread = eight_entries(thread);
+        return eight_entries(thread);
     }
-    if 13 < e[3] {
-        thread = thread_of(thread, e);
+    if e[2] == 7 {
+        return nested(thread, e);
+    }
+    thread
+}
+
+fn first_thread(e: [u8; 24]) -> Thread {
+    let thread = whole_thread(e);
+    if (13 < e[3]) & (e[3] < 18) {
+        return thread_of(thread, e);
     }
     thread
 }
@@ -167,6 +184,7 @@ pub fn exchanged(e: [u8; 24]) -> Net {
     let tables = tables_of(e);
     let nodes = nodes_of(e);
     let threads = threads_of(e);
+    let saved = saved_of(whole_thread(e), threads, e);
     Net {
         aliases,
         aliascount: count_of(told, e[4], e[2] == 2, 56, 2),
@@ -176,5 +194,6 @@ pub fn exchanged(e: [u8; 24]) -> Net {
         nodecount: count_of(told, e[6], e[2] == 3, 128, 12),
         threads,
         threadcount: count_of(told, e[7], e[2] == 4, 8, 2),
+        saved,
     }
 }

@@ -166,6 +166,13 @@ pub fn looping(kind: u8, next: u8) -> Node {
     d
 }
 
+// The same loop over table variable 1.
+pub fn over_second(node: Node) -> Node {
+    let mut d = node;
+    d.read = 1;
+    d
+}
+
 // ---- all of them
 
 pub fn nodes() -> [Node; 128] {

@@ -1,5 +1,6 @@
 // Threads with some fields exchanged, by bytes.
 use crate::contents::content_of;
+use crate::contents::turned;
 use crate::threads::to_run;
 use crate::threads::visiting;
 use nets::Entry;
@@ -33,7 +34,7 @@ fn holding(thread: Thread, value: Value) -> Thread {
 }
 
 // A Text, or a Loc.
-fn value_of(kind: u8, text: u32, locality: u8) -> Value {
+pub fn value_of(kind: u8, text: u32, locality: u8) -> Value {
     if kind == 2 {
         return Value::Text(text);
     }
@@ -68,6 +69,38 @@ fn stacked(thread: Thread, e: [u8; 24]) -> Thread {
     let mut t = thread;
     t.stack[below] = frame_of(e[5], e[6], e[7]);
     t.stack[above] = frame_of(e[9], e[10], e[11]);
+    t
+}
+
+// An entry to run, 64 more for a loop entry with row 0 still to visit, 128 more for one with none.
+fn coded(entry: u8) -> Frame {
+    frame_of(entry / 64, entry % 64, 0)
+}
+
+// The lowest entry by byte 9, the top, at the place that byte 19 says, by byte 11, and those between by byte 10.
+fn entries_of(old: [Frame; 8], e: [u8; 24]) -> [Frame; 8] {
+    let between = coded(e[10]);
+    let top = (e[19] % 8) as usize;
+    let mut stack = old;
+    let mut i: usize = 0;
+    while i < top {
+        stack[i] = between;
+        i += 1;
+    }
+    stack[0] = coded(e[9]);
+    stack[top] = coded(e[11]);
+    stack
+}
+
+// Table variable 1 is bound, with as many of its rows as byte 18 says.
+pub fn nested(thread: Thread, e: [u8; 24]) -> Thread {
+    let mut content = turned();
+    content.count = e[18] as usize;
+    let mut t = binding(thread, 1, true, content);
+    let old = t.stack;
+    let stack = entries_of(old, e);
+    t.stack = stack;
+    t.depth = (e[19] % 8) as usize + 1;
     t
 }
 

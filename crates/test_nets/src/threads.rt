@@ -82,21 +82,29 @@ pub fn eight_entries(thread: Thread) -> Thread {
     t
 }
 
-pub fn no_thread() -> Thread {
+pub fn no_vars() -> [Slot; 16] {
     let slot = Slot {
         held: Got::One(Value::Text(3)),
     };
-    let variable = TableVariable {
+    [slot; 16]
+}
+
+pub fn no_variable() -> TableVariable {
+    TableVariable {
         bound: true,
         content: no_relation(),
-    };
+    }
+}
+
+pub fn no_thread() -> Thread {
+    let variable = no_variable();
     let none = Frame {
         entry: Entry::Loop(200),
         visit: [true; 16],
     };
     Thread {
         site: Site(9),
-        vars: [slot; 16],
+        vars: no_vars(),
         relations: [variable; 2],
         stack: [none; 8],
         depth: 0,

@@ -69,20 +69,20 @@ module _ {B : Type 0} (f g : ℕ → B) where
   pub by-same : (n : ℕ) → ((j : ℕ) → j < n → f j ≡ g j) → map f (places 0 n) ≡ map g (places 0 n)
   by-same n h = same-from 0 n (λ j p q. h j (omega arith))
 
-  put-from : (i n k : ℕ) (b : B) → g (i + k) ≡ b → ((j : ℕ) → (j ≡ i + k → ⊥) → f j ≡ g j) → set (map f (places i n)) k b ≡ map g (places i n)
+  put-from : (i n k : ℕ) (b : B) → g (i + k) ≡ b → ((j : ℕ) → j < i + n → (j ≡ i + k → ⊥) → f j ≡ g j) → set (map f (places i n)) k b ≡ map g (places i n)
   put-from i zero k b e h = refl
   put-from i (suc n) zero b e h =
       let z : i + 0 ≡ i = omega arith in
-      ap₂ _∷_ (sym e ∙ ap g z) (same-from (suc i) n (λ j p q. h j (λ d. omega arith)))
+      ap₂ _∷_ (sym e ∙ ap g z) (same-from (suc i) n (λ j p q. h j (omega arith) (λ d. omega arith)))
   put-from i (suc n) (suc k) b e h =
       let z : i + suc k ≡ suc i + k = omega arith in
-      ap₂ _∷_ (h i (λ d. omega arith)) (put-from (suc i) n k b (ap g (sym z) ∙ e) (λ j d. h j (λ x. d (x ∙ z))))
+      ap₂ _∷_ (h i (omega arith) (λ d. omega arith)) (put-from (suc i) n k b (ap g (sym z) ∙ e) (λ j q d. h j (omega arith) (λ x. d (x ∙ z))))
 
   -- one changed at its place
-  pub by-set : (n k : ℕ) (b : B) → g k ≡ b → ((j : ℕ) → (j ≡ k → ⊥) → f j ≡ g j) → set (map f (places 0 n)) k b ≡ map g (places 0 n)
+  pub by-set : (n k : ℕ) (b : B) → g k ≡ b → ((j : ℕ) → j < n → (j ≡ k → ⊥) → f j ≡ g j) → set (map f (places 0 n)) k b ≡ map g (places 0 n)
   by-set n k b e h =
       let z : 0 + k ≡ k = omega arith in
-      put-from 0 n k b (ap g z ∙ e) (λ j d. h j (λ x. d (x ∙ sym z)))
+      put-from 0 n k b (ap g z ∙ e) (λ j q d. h j (omega arith) (λ x. d (x ∙ sym z)))
 
   shift-from : (i n : ℕ) → ((j : ℕ) → i ≤ j → j < i + n → g j ≡ f (suc j)) → map g (places i n) ≡ map f (places (suc i) n)
   shift-from i zero h = refl

@@ -2,10 +2,11 @@
 use Prim.Native.Nat.{ℕ}
 use mathlib.Core.Path.{_≡_, _∙_}
 use mathlib.Core.List.{List, []}
+use lib.ListN.{replicate}
 use Rattle.nets.specs.declared.Alias.{Alias}
 use Rattle.nets.specs.declared.Pick.{Pick}
 use Rattle.nets.specs.Nets.{Table, Node, Thread}
-use Rattle.nets.specs.View.{view}
+use Rattle.nets.specs.View.{nodesOf, view}
 use Rattle.record_bytes.specs.Decoding.{recordsIn}
 use Rattle.load_walk.specs.declared.Reach.{Reach}
 use Rattle.files.specs.Loading.{nothingRead, readAll}
@@ -32,13 +33,21 @@ joined file a t r d h p e ls ts us ds hs ps q1 q2 q3 q4 q5 q6 q7 =
 returns : tie.Need-returns
 unfolding view
 returns c =
-    joined _ _ _ _ _ _ _ _ _ _ _ _ _ _ (c .before .before .before .before .before .before .before .before .before .before .before .aliases-from .ensures .0) (c .before .before .before .before .before .before .before .before .before .before .tables-from .ensures .0) (c .before .before .before .before .before .before .before .before .before .rows-from .ensures .0) (c .before .before .before .before .before .before .before .before .nodes-from .ensures .0)
-    (c .before .before .before .before .before .before .before .starts-from .ensures .0) (c .before .before .before .before .before .before .picks-from .ensures .0) (c .before .before .before .before .before .reach-end .ensures)
+    let p = c .before .before .before .before .before .before in
+    let s = p .before in
+    let h = s .before in
+    let d = h .before in
+    let r = d .before in
+    let t = r .before in
+    let n = d .nodes-from .result in
+    joined _ _ _ _ _ _ _ _ _ _ _ _ _ _ (t .before .aliases-from .ensures .0) (t .tables-from .ensures .0) (r .rows-from .ensures .0) (d .nodes-from .ensures .0)
+    (h .starts-from .ensures .0 (nodesOf (n .count) (n .nodes)) (replicate 64 (c .blank-saved .result))) (s .picks-from .ensures .0) (p .reach-end .ensures)
 
 pub read-all-spec : {M : Type 1} → statement M
 read-all-spec =
     tie.close
     (tie.spec
+    (λ c κs. search needs)
     (λ c κs. search needs)
     (λ c κs. search needs)
     (λ c κs. search needs)

@@ -56,7 +56,7 @@ returns c w fine known source n m =
     let o = k .before .before .before in
     let r = o .before .before in
     let s = start r in
-    forks-at (met r w) (s .args .source) n (r .round .result) (round-at r w known source n m) (fine .stacked) (w .long) _ refl (o .enum-told2 .given .1) (i .is-run .ensures) (k .node-of .ensures) (λ b. refl) (sym (r .before .before .is-parallel .ensures) ∙ c .if1 .taken) refl refl refl refl
+    forks-at (met r w) (s .args .source) n (r .round .result) (round-at r w known source n m) (fine .stacked) (w .long) _ refl (o .enum-told2 .given .1) (i .is-run .ensures) (k .node-of .ensures) refl (λ b. refl) (sym (r .before .before .is-parallel .ensures) ∙ c .if1 .taken) refl refl refl refl
 
 -- refused
 returns-2 : tie.Need-returns-2
@@ -85,7 +85,7 @@ returns-4 c w fine known source n m =
     let deep : s .args .depth < 8 =
     ltb-true (s .args .depth) 8
     (sym (ap (λ (b : Bool). cond b (ltb (s .args .s .threads) 8) (ltb (s .args .depth) 8)) (c .if1 .left)) ∙ sym (r .before .room-for-round .ensures) ∙ round-room (r .round .ensures) e) in
-    runs-at (met r w) (s .args .source) n (r .round .result) (round-at r w known source n m) (fine .stacked) (w .long) _ refl e (i .is-run .ensures) (k .node-of .ensures) (λ b. refl) (sym (r .before .before .is-parallel .ensures) ∙ c .if1 .left) deep refl refl refl
+    runs-at (met r w) (s .args .source) n (r .round .result) (round-at r w known source n m) (fine .stacked) (w .long) _ refl e (i .is-run .ensures) (k .node-of .ensures) refl (λ b. refl) (sym (r .before .before .is-parallel .ensures) ∙ c .if1 .left) deep refl refl refl
 
 pub decide-loop-spec : {M : Type 1} → statement M
 decide-loop-spec =

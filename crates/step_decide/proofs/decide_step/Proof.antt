@@ -8,7 +8,7 @@ use Rattle.step_effect.specs.Contracts.{partsOf, Doing, StepReady}
 use Rattle.step_meets.specs.Situations.{Situation, situation, Rest, whole, savedAfter}
 use Rattle.step_meets.proofs.SituationLaws.{source-met, known-12, step-ready}
 use Rattle.step_meets.proofs.DecideLaws.{never-done, refused-at, done-parts, act-answers, act-change}
-use Rattle.step_meets.proofs.MovedLaws.{goes-on, saved-below}
+use Rattle.step_meets.proofs.MovedLaws.{goes-on, saved-below, onward-framed}
 use Rattle.step_decide.proofs.decide_step.Statement.{statement}
 use Rattle.step_decide.proofs.decide_step.Tie as tie
 
@@ -68,6 +68,7 @@ returns-2 c =
                 act-change (met s w) n m (s .pre .0) (s .args .source) (source-met (met s w) (s .args .source) source n m) (known-12 (met s w) n m known) thirteen fourteen fifteen (o .result) x (o .ensures .0) said
                 (o .ensures .1) (ap varsOf (o .ensures .2) ∙ v .vars-after .ensures)
                 (goes-on (met s w .thread) (w .saved) (savedAfter (met s w) (o .result)) (o .result) (x .above) (x .over) (x .body) (x .relations) (fine .stacked) (w .long) (saved-below (met s w) (o .result)) (n .net .nodes) (s .args .node .next) (o .ensures .3));
+            framed = λ h. onward-framed (met s w) (o .result) (s .args .node .next) (fine .stacked .some) (o .ensures .1) (o .ensures .3);
           },
       λ h. does (v .before),
     )

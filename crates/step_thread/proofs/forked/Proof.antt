@@ -16,10 +16,12 @@ returns : tie.Need-returns
 returns c =
     let t = c .before .args .t in
     let f = c .run-frame .result in
-    let n : length (t .stack) ≡ 8 = search (long, needs) in
-    (λ bs.
-    ap (λ (s : List M.Entry). record { site = t .site; bindings = bindingsOf (c .before .args .vars) (t .relations); stack = s })
-    (stack-push bs 0 (t .stack) f (omega (arith, n)) ∙ ap (λ (e : Entry). entryWith (bs 0) (f .visit) e ∷ []) (c .run-frame .ensures)), refl)
+    let n : length (t .stack) ≡ 8 = search (long, needs) in (
+      λ bs.
+          ap (λ (s : List M.Entry). record { site = t .site; bindings = bindingsOf (c .before .args .vars) (t .relations); stack = s })
+          (stack-push bs 0 (t .stack) f (omega (arith, n)) ∙ ap (λ (e : Entry). entryWith (bs 0) (f .visit) e ∷ []) (c .run-frame .ensures)),
+      refl,
+    )
 
 pub forked-spec : {M : Type 1} → statement M
 forked-spec = tie.close (tie.spec (λ c κs. search needs) (λ c. search needs) returns)

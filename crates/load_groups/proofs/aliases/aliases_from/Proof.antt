@@ -44,13 +44,11 @@ added : (g : ℕ) (xs : List Alias) (bs : List ℕ) (l : Progress) → advance (
 unfolding advance put
 added g xs bs l = rw (append-nil (l .picks))
 
-abbrev group : Group Alias Alias
+abbrev group : Group Alias
 group =
     record {
       number = 1;
       some = pos;
-      seen = λ (a : Alias). a;
-      blank = noAlias;
       put = putAliases;
       form = aliasForm;
       new = new;
@@ -108,7 +106,7 @@ loop-again c =
     let l = t .before .before .loop in (
       search length-set,
       one-more (l .aliases) (l .count) _ _ _ _ (i .if2 .left) (f .ensures) (m .ensures) (n .ensures) (l .inv .1) (l .inv .0) _ (c .before .alias-in .ensures),
-      list-grows group _ _ _ _ (t .before .next-group .ensures) (l .count) (l .aliases) (l .inv .2) (l .inv .3) (t .if1 .taken) _ (b .record-at .ensures .0) _ _ (m .ensures) (n .ensures) _ (f .ensures) _ _ (i .if2 .left) (l .inv .0)
+      list-grows group (λ (a : Alias). a) noAlias _ _ _ _ (t .before .next-group .ensures) (l .count) (l .aliases) (l .inv .2) (l .inv .3) (t .if1 .taken) _ (b .record-at .ensures .0) _ _ (m .ensures) (n .ensures) _ (f .ensures) _ _ (i .if2 .left) (l .inv .0)
           (one-left (l .aliases) (l .count) _ _ _ _ (i .if2 .left) (f .ensures) (m .ensures) (n .ensures) (l .inv .1)) (c .before .alias-in .ensures),
       search (went-on 1 pos),
     )
@@ -126,7 +124,7 @@ aliases-from-spec =
     (λ c κs. search needs)
     (λ c κs. search needs)
     (λ c κs. search needs)
-    (λ c. search (list-stops group, went-off 1 pos))
+    (λ c. search (list-stops group (λ (a : Alias). a) noAlias, went-off 1 pos))
     (λ c κs. search needs)
     (λ c. omega arith)
     (λ c. search one-left)

@@ -6,7 +6,7 @@ use Rattle.load_groups.proofs.blanks.blank_net.Tie as tie
 
 returns : tie.Need-returns
 unfolding blankNet
-returns c = rw (c .before .before .before .blank-alias .ensures, c .before .before .blank-table .ensures, c .before .blank-node .ensures, c .blank-thread .ensures)
+returns c = rw (c .before .before .before .before .blank-alias .ensures, c .before .before .before .blank-table .ensures, c .before .before .blank-node .ensures, c .before .blank-thread .ensures, c .blank-saved .ensures)
 
 pub blank-net-spec : {M : Type 1} → statement M
-blank-net-spec = tie.close (tie.spec (λ c κs. search needs) (λ c κs. search needs) (λ c κs. search needs) (λ c κs. search needs) returns)
+blank-net-spec = tie.close (tie.spec (λ c κs. search needs) (λ c κs. search needs) (λ c κs. search needs) (λ c κs. search needs) (λ c κs. search needs) returns)

@@ -34,13 +34,11 @@ added : (g : ℕ) (xs : List M.Node) (bs : List ℕ) (l : Progress) → advance 
 unfolding advance put
 added g xs bs l = rw (append-nil (l .picks))
 
-abbrev group : Group Node M.Node
+abbrev group : Group M.Node
 group =
     record {
       number = 4;
       some = pos;
-      seen = nodeOf;
-      blank = noNode;
       put = putNodes;
       form = nodeForm;
       new = λ xs bs. true;
@@ -68,7 +66,7 @@ loop-again c =
     let l = t .before .before .loop in (
       search length-set,
       search room-after,
-      list-grows group _ _ _ _ (t .before .next-group .ensures) (l .count) (l .nodes) (l .inv .2) (l .inv .3) (t .if1 .taken) _ (b .record-at .ensures .0) _ _ (d .ensures .0) refl _ (f .ensures) _ _ (i .if2 .left) (l .inv .0)
+      list-grows group nodeOf noNode _ _ _ _ (t .before .next-group .ensures) (l .count) (l .nodes) (l .inv .2) (l .inv .3) (t .if1 .taken) _ (b .record-at .ensures .0) _ _ (d .ensures .0) refl _ (f .ensures) _ _ (i .if2 .left) (l .inv .0)
           (room-left _ _ _ _ _ (i .if2 .left) (f .ensures)) (d .ensures .1),
       search (went-on 4 pos),
     )
@@ -85,7 +83,7 @@ nodes-from-spec =
     (λ c κs. search (next-in 4 pos))
     (λ c κs. search needs)
     (λ c κs. search needs)
-    (λ c. search (list-stops group, went-off 4 pos))
+    (λ c. search (list-stops group nodeOf noNode, went-off 4 pos))
     (λ c. omega arith)
     (λ c. search room-left)
     (λ c. omega arith)

@@ -34,13 +34,11 @@ added : (g : ℕ) (xs : List Pick) (bs : List ℕ) (l : Progress) → advance (w
 unfolding advance put
 added g xs bs l = refl
 
-abbrev group : Group Pick Pick
+abbrev group : Group Pick
 group =
     record {
       number = 6;
       some = pos;
-      seen = λ (p : Pick). p;
-      blank = noPick;
       put = putPicks;
       form = pickForm;
       new = λ xs bs. true;
@@ -71,7 +69,7 @@ loop-again c =
     let l = t .before .before .loop in (
       search length-set,
       omega (arith, l .inv .1),
-      list-grows group _ _ _ _ (t .before .next-group .ensures) (l .count) (l .picks) (l .inv .2) (l .inv .3) (t .if1 .taken) _ (b .record-at .ensures .0) _ _ (i .before .before .pick-form .ensures) refl _ (f .ensures) _ _ (i .if2 .left) (l .inv .0)
+      list-grows group (λ (p : Pick). p) noPick _ _ _ _ (t .before .next-group .ensures) (l .count) (l .picks) (l .inv .2) (l .inv .3) (t .if1 .taken) _ (b .record-at .ensures .0) _ _ (i .before .before .pick-form .ensures) refl _ (f .ensures) _ _ (i .if2 .left) (l .inv .0)
           (below-256 _ _ _ _ (t .before .next-group .ensures) (t .if1 .taken) (l .inv .3) (l .inv .1)) (c .before .pick-in .ensures),
       search (went-on 6 pos),
     )
@@ -87,7 +85,7 @@ picks-from-spec =
     (λ c κs. search (next-in 6 pos))
     (λ c κs. search needs)
     (λ c κs. search needs)
-    (λ c. search (list-stops group, went-off 6 pos))
+    (λ c. search (list-stops group (λ (p : Pick). p) noPick, went-off 6 pos))
     (λ c κs. search needs)
     (λ c. omega arith)
     (λ c. search below-256)

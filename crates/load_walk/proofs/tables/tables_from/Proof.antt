@@ -42,13 +42,11 @@ added : (g : ℕ) (xs : List M.Table) (bs : List ℕ) (l : Progress) → advance
 unfolding advance put
 added g xs bs l = rw (append-nil (l .picks))
 
-abbrev tables : Group Table M.Table
+abbrev tables : Group M.Table
 tables =
     record {
       number = 2;
       some = pos;
-      seen = tableOf;
-      blank = noTable;
       put = putTables;
       form = tableForm;
       new = new;
@@ -76,7 +74,7 @@ loop-again c =
     let room : l .count < 8 = room-left _ _ _ _ _ (i .if2 .left) (f .ensures) in (
       search length-set,
       more-shaped (l .tables) (l .count) _ (omega (arith, l .inv .0, room)) (c .before .table-in .ensures .1) room (l .inv .1),
-      list-grows tables _ _ _ _ (t .before .next-group .ensures) (l .count) (l .tables) (l .inv .2) (l .inv .3) (t .if1 .taken) _ (b .record-at .ensures .0) _ _
+      list-grows tables tableOf noTable _ _ _ _ (t .before .next-group .ensures) (l .count) (l .tables) (l .inv .2) (l .inv .3) (t .if1 .taken) _ (b .record-at .ensures .0) _ _
           (i .before .before .before .table-form .ensures) (i .before .before .table-new .ensures) _ (f .ensures) _ _ (i .if2 .left) (l .inv .0) room (c .before .table-in .ensures .0),
       search (went-on 2 pos),
     )
@@ -94,7 +92,7 @@ tables-from-spec =
     (λ c κs. search needs)
     (λ c κs. search needs)
     (λ c κs. search needs)
-    (λ c. search (list-stops tables, went-off 2 pos))
+    (λ c. search (list-stops tables tableOf noTable, went-off 2 pos))
     (λ c κs. search needs)
     (λ c. omega arith)
     (λ c. search room-left)
