@@ -19,9 +19,16 @@ pub const TABLES_BYTES: usize = RECORD_BYTES * (8 + 8 * 16);
 /// The most that `tivgeral_threads` puts out: 8 threads.
 pub const THREADS_BYTES: usize = Thread::SIZE * 8;
 
-/// The most that a moment of a trace has: itself, the tables with their rows, and 8 threads, each
-/// with 16 variables, 2 table variables of 16 rows and 8 stack entries.
-pub const MOMENT_BYTES: usize = RECORD_BYTES * (1 + 8 + 8 * 16 + 8 * (1 + 16 + 2 + 2 * 16 + 8));
+/// The most that bindings take up in a moment: 16 variables, and 2 table variables of 16 rows.
+const BINDINGS_BYTES: usize = RECORD_BYTES * (16 + 2 + 2 * 16);
+
+/// The most that a thread takes up in a moment: itself, what it has bound, and 8 stack entries, each
+/// with the bindings that it holds.
+const THREAD_STATE_BYTES: usize =
+    RECORD_BYTES + BINDINGS_BYTES + 8 * (RECORD_BYTES + BINDINGS_BYTES);
+
+/// The most that a moment of a trace has: itself, the tables with their rows, and 8 threads.
+pub const MOMENT_BYTES: usize = RECORD_BYTES + TABLES_BYTES + 8 * THREAD_STATE_BYTES;
 
 /// The most that `tivgeral_page` puts out: a line for each of 16 rows, and one with the sums.
 pub const PAGE_BYTES: usize = LINE_BYTES * (16 + 1);

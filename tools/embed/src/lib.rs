@@ -9,6 +9,7 @@
 #![deny(unsafe_code)]
 
 mod answer;
+mod bindings;
 #[cfg(feature = "proved")]
 mod calls;
 mod lengths;
@@ -19,6 +20,7 @@ mod value;
 mod variable;
 
 pub use answer::{Answer, Refused};
+pub use bindings::Bindings;
 #[cfg(feature = "proved")]
 pub use calls::{answers, page, page_into, picks, picks_into, tables, threads, trace, Call};
 pub use lengths::{

@@ -1,18 +1,17 @@
 //! The net between two picks, as `tivgeral_trace` puts it out.
 
-use crate::value::{Kind, Relation, Value};
+use crate::bindings::{bind, columns, values, Bindings};
+use crate::bindings::{TABLE_VARIABLE_ROW, VARIABLE};
+use crate::value::{Relation, Value};
 use crate::{Variable, RECORD_BYTES};
 
-type Record = [u8; RECORD_BYTES];
+pub(crate) type Record = [u8; RECORD_BYTES];
 
-// The kinds of a moment's records.
+// The kinds of a moment's records, but for those of bindings.
 const TABLE: u8 = 2;
 const ROW: u8 = 3;
 const MOMENT: u8 = 64;
 const THREAD: u8 = 65;
-const VARIABLE: u8 = 66;
-const TABLE_VARIABLE: u8 = 67;
-const TABLE_VARIABLE_ROW: u8 = 68;
 const ENTRY: u8 = 69;
 
 /// The tables and threads, each at its place.
@@ -30,7 +29,8 @@ pub struct Table {
     pub content: Relation,
 }
 
-/// All that a thread holds; a table variable that is unbound is none.
+/// All that a thread holds; a table variable that is unbound is none. Its variables and table
+/// variables are what it has bound itself, not what its loops hold.
 #[derive(Clone, PartialEq, Eq, Debug, Default)]
 #[non_exhaustive]
 pub struct ThreadState {
@@ -47,9 +47,11 @@ pub enum Entry {
     /// A node to run.
     #[non_exhaustive]
     Run { node: u8 },
-    /// A loop that has begun, with the row places still to visit.
+    /// A loop that has begun, with the row places still to visit. A sequential loop's entry holds
+    /// the bindings of the moment when the loop was first met, which come back at the end of each
+    /// round. A parallel loop's holds none.
     #[non_exhaustive]
-    Loop { node: u8, left: Vec<u8> },
+    Loop { node: u8, left: Vec<u8>, held: Option<Box<Bindings>> },
 }
 
 impl Moment {
@@ -80,7 +82,7 @@ impl Moment {
                 TABLE => moment.tables.push(Table::read(record)),
                 ROW => moment.add_row(record),
                 THREAD => moment.threads.push(ThreadState::at(record[1])),
-                VARIABLE..=ENTRY => moment.add_part(record),
+                VARIABLE..=TABLE_VARIABLE_ROW | ENTRY => moment.add_part(record),
                 _ => {}
             }
         }
@@ -109,16 +111,6 @@ fn length(first: &Record) -> usize {
     (u32::from_le_bytes([a, b, c, d]) as usize).max(1)
 }
 
-/// Where a record has its values, four operands.
-fn values(record: &Record) -> &[[u8; 8]] {
-    record[56..88].as_chunks().0
-}
-
-/// Where a record has its columns.
-fn columns(record: &Record) -> Vec<Kind> {
-    Kind::read_columns(&record[8..12])
-}
-
 impl Table {
     fn read(record: &Record) -> Table {
         let [_, site, _, _, a, b, c, d, ..] = *record;
@@ -134,32 +126,10 @@ impl ThreadState {
     /// Takes in a record that follows the thread's own. Bindings after a stack entry are those
     /// that the entry holds, not the thread's.
     fn add(&mut self, record: &Record) {
-        let number = usize::from(record[1]);
-        match record[0] {
-            ENTRY => self.stack.push(Entry::read(record)),
-            _ if !self.stack.is_empty() => {}
-            VARIABLE => self.bind(number, record),
-            TABLE_VARIABLE => self.bind_table(number, record),
-            TABLE_VARIABLE_ROW => self.add_row(number, record),
-            _ => {}
-        }
-    }
-
-    fn bind(&mut self, number: usize, record: &Record) {
-        if let Some(variable) = self.variables.get_mut(number) {
-            *variable = Variable::read(&values(record)[0]);
-        }
-    }
-
-    fn bind_table(&mut self, number: usize, record: &Record) {
-        if let Some(variable) = self.table_variables.get_mut(number) {
-            *variable = (record[2] == 1).then(|| Relation::new(columns(record)));
-        }
-    }
-
-    fn add_row(&mut self, number: usize, record: &Record) {
-        if let Some(Some(relation)) = self.table_variables.get_mut(number) {
-            relation.rows.push(Value::read_row(values(record)));
+        match (record[0], self.stack.last_mut()) {
+            (ENTRY, _) => self.stack.push(Entry::read(record)),
+            (_, Some(entry)) => entry.hold(record),
+            (_, None) => bind(&mut self.variables, &mut self.table_variables, record),
         }
     }
 }
@@ -175,115 +145,22 @@ impl Entry {
         let left = (0..16).zip(&record[8..24]).filter(|(_, flag)| **flag == 1);
         match record[1] {
             0 => Entry::Run { node: record[2] },
-            _ => Entry::Loop { node: record[2], left: left.map(|(place, _)| place).collect() },
+            _ => {
+                let left = left.map(|(place, _)| place).collect();
+                Entry::Loop { node: record[2], left, held: None }
+            }
+        }
+    }
+
+    /// Takes in a record of the bindings that the entry holds. No version has a node to run hold
+    /// any: such records are skipped.
+    fn hold(&mut self, record: &Record) {
+        if let Entry::Loop { held, .. } = self {
+            let Bindings { variables, table_variables } = &mut **held.get_or_insert_default();
+            bind(variables, table_variables, record);
         }
     }
 }
 
 #[cfg(test)]
-mod tests {
-    use super::*;
-
-    /// A record of zeros but for these bytes, from the first on, and an Int among its values.
-    fn record(head: &[u8], int: Option<i32>) -> Record {
-        let mut record = [0; RECORD_BYTES];
-        record[..head.len()].copy_from_slice(head);
-        if let Some(int) = int {
-            record[56] = 1;
-            record[60..64].copy_from_slice(&int.to_le_bytes());
-        }
-        record
-    }
-
-    /// A moment with one table and one thread, and what follows the thread.
-    fn moment(parts: &[Record]) -> Vec<u8> {
-        let count = 4 + parts.len() as u8;
-        let head = [
-            record(&[MOMENT, 1, 1, 0, count], None),
-            record(&[TABLE, 3, 0, 0, b'C', b'A', b'R', b'D', 1], None),
-            record(&[ROW, 3, 0, 0, b'C', b'A', b'R', b'D'], Some(-7)),
-            record(&[THREAD, 5, 2], None),
-        ];
-        [&head, parts].concat().concat()
-    }
-
-    #[test]
-    fn what_a_thread_holds() {
-        let bytes = moment(&[
-            record(&[VARIABLE, 0], None),
-            record(&[VARIABLE, 15], Some(38)),
-            record(&[TABLE_VARIABLE, 0, 1, 0, 0, 0, 0, 0, 1], None),
-            record(&[TABLE_VARIABLE_ROW, 0], Some(1)),
-            record(&[TABLE_VARIABLE_ROW, 0], Some(1)),
-            record(&[TABLE_VARIABLE, 1], None),
-            record(&[ENTRY, 0, 9], None),
-            record(&[ENTRY, 1, 4, 0, 0, 0, 0, 0, 0, 1, 0, 1], None),
-        ]);
-        let moments: Vec<Moment> = Moment::all(&bytes).collect();
-        assert_eq!(moments.len(), 1);
-        let thread = &moments[0].threads[0];
-        assert_eq!((thread.site, thread.variables[0]), (5, Variable::Unbound));
-        assert_eq!(thread.variables[15], Variable::Known(Value::Int(38)));
-        let rows = vec![vec![Value::Int(1)]; 2];
-        assert_eq!(
-            thread.table_variables,
-            [Some(Relation { columns: vec![Kind::Int], rows }), None]
-        );
-        assert_eq!(
-            thread.stack,
-            [Entry::Run { node: 9 }, Entry::Loop { node: 4, left: vec![1, 3] }]
-        );
-        let table = &moments[0].tables[0];
-        assert_eq!(
-            (table.site, &table.name, &table.content.columns[..]),
-            (3, b"CARD", &[Kind::Int][..])
-        );
-        assert_eq!(table.content.rows, [[Value::Int(-7)]]);
-    }
-
-    /// A later library adds kinds, also outside of moments, and bindings after a stack entry, which
-    /// are the entry's.
-    #[test]
-    fn what_is_not_known_is_skipped() {
-        let known = moment(&[record(&[VARIABLE, 2], Some(1)), record(&[ENTRY, 0, 9], None)]);
-        let later = moment(&[
-            record(&[70, 1], None),
-            record(&[VARIABLE, 2], Some(1)),
-            record(&[ENTRY, 0, 9], None),
-            record(&[VARIABLE, 2], Some(5)),
-            record(&[TABLE_VARIABLE, 0, 1, 0, 0, 0, 0, 0, 1], None),
-            record(&[99], None),
-        ]);
-        let outside = record(&[70, 2], None).to_vec();
-        let bytes = [&outside, &known, &outside, &outside, &later, &outside].map(|part| &part[..]);
-        let moments: Vec<Moment> = Moment::all(&bytes.concat()).collect();
-        assert_eq!(moments.len(), 2);
-        assert_eq!(moments[0], moments[1]);
-        let (_, length) = Moment::first(&bytes.concat()).expect("a moment");
-        assert_eq!(length, RECORD_BYTES + known.len());
-    }
-
-    /// A later library has values of more kinds.
-    #[test]
-    fn a_value_that_is_not_known_is_bound() {
-        let tagged = |number: u8, tag: u8| {
-            let mut record = record(&[VARIABLE, number], Some(7));
-            record[56] = tag;
-            record
-        };
-        let bytes = moment(&[tagged(3, 4), tagged(4, 255), tagged(5, 1), tagged(6, 0)]);
-        let (moment, _) = Moment::first(&bytes).expect("a moment");
-        let variables = &moment.threads[0].variables[3..7];
-        let known = Variable::Known(Value::Int(7));
-        let expected = [Variable::Unknown, Variable::Unknown, known, Variable::Unbound];
-        assert_eq!(variables, expected);
-        assert_eq!(variables.iter().filter(|variable| variable.is_bound()).count(), 3);
-    }
-
-    #[test]
-    fn a_moment_that_is_cut_off_is_none() {
-        let bytes = moment(&[]);
-        assert_eq!(Moment::all(&bytes[..bytes.len() - 1]).count(), 0);
-        assert_eq!(Moment::all(&[]).count(), 0);
-    }
-}
+mod tests;

@@ -16,9 +16,13 @@ fn refused(call: Call, file: &[u8], picks: &[u8], room: usize) -> (u8, usize) {
     given
 }
 
+fn stored(name: &str) -> Vec<u8> {
+    let examples = concat!(env!("CARGO_MANIFEST_DIR"), "/../../examples");
+    fs::read(format!("{examples}/{name}.net")).expect("a stored example")
+}
+
 fn file() -> Vec<u8> {
-    let path = concat!(env!("CARGO_MANIFEST_DIR"), "/../../examples/update.net");
-    fs::read(path).expect("a stored example")
+    stored("update")
 }
 
 #[test]
@@ -56,6 +60,18 @@ fn a_buffer_too_short_for_a_moment_is_21() {
     assert_eq!(trace(&file(), &[], 0, &mut out), refused);
     assert!(out.iter().all(|byte| *byte == 7), "the buffer was touched");
     assert_eq!(trace(&file(), &[], 0, &mut vec![7; needed]), Ok(needed));
+}
+
+/// What an entry holds counts: two tables and two rows, then a thread within a round, whose loop
+/// holds variables and table variables as the thread does, each with two rows in one of the tables.
+#[test]
+fn a_moment_within_a_round_has_what_the_loop_holds() {
+    let file = stored("sequential-loop");
+    let bindings = 16 + 2 + 2;
+    let needed = 104 * (1 + 2 + 2 + 1 + bindings + 2 + bindings);
+    let picks = [0, 1].map(|row| Pick { thread: 0, row });
+    assert_eq!(trace(&file, &picks, 2, &mut []), Err(Refused { number: 21, place: needed }));
+    assert_eq!(trace(&file, &picks, 2, &mut vec![7; needed]), Ok(needed));
 }
 
 /// The place tells of the first moment, however many come after it: here the net before a pick

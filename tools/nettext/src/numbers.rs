@@ -101,7 +101,8 @@ static NUMBERS: &[Number] = &[
         "a variable read in the predicate or in t is unbound and no formal of T, one read \
          in L, T or T' is unbound, or the table variable read is",
         "make it a formal of T, or bind it first: variables by a loop or an aggregate, \
-         table variables by a select or a delete",
+         table variables by a select or a delete; what a round of a loop binds ends with that \
+         round",
     ),
     entry(
         13,

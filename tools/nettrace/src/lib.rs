@@ -18,6 +18,7 @@ mod picks;
 mod progress;
 mod reading;
 mod refusal;
+mod rounds;
 mod run;
 mod scene;
 mod source;

@@ -2,6 +2,7 @@
 
 use crate::fitting::fitted;
 use crate::judging::judge;
+use crate::rounds::ends_round;
 use crate::run::Turn;
 use crate::scene::Scene;
 use crate::words;
@@ -50,7 +51,7 @@ impl Listing {
         let table = scene.table()?;
         let mut listing = Listing::of("table", words::table(table));
         for row in table.relation.rows.iter() {
-            let judged = judge(&scene.parts, &scene.thread.variables, row);
+            let judged = judge(&scene.parts, &scene.thread.bound.variables, row);
             let bindings = scene.own().with(scene.parts.template, row);
             let new = fitted(scene.parts.tuple, bindings, &table.relation.columns);
             listing.matched += usize::from(judged.taken);
@@ -85,7 +86,7 @@ impl Listing {
     /// All rows, those with the mark that match.
     fn judging(mut self, scene: &Scene, rows: &[Row], mark: char) -> Listing {
         for row in rows {
-            let judged = judge(&scene.parts, &scene.thread.variables, row);
+            let judged = judge(&scene.parts, &scene.thread.bound.variables, row);
             self.matched += usize::from(judged.taken);
             self.add(if judged.taken { mark } else { STAYS }, row, judged.tests);
         }
@@ -115,11 +116,12 @@ impl Listing {
         after.is_some_and(|after| left.eq(after.relation.rows.iter()))
     }
 
-    /// What the step bound, unless its thread has ended.
+    /// What the step bound, unless its thread or a round of it has ended.
     fn binds<'a>(&self, turn: &Turn<'a>, scene: &Scene) -> Option<&'a Relation> {
         let stands = turn.before.threads.len() == turn.after.threads.len();
         let thread = turn.after.threads.get(usize::from(turn.pick.thread)).filter(|_| stands)?;
-        thread.tables.get(usize::from(scene.parts.bound?))?.as_ref()
+        let bound = (!ends_round(scene.thread, thread)).then_some(&thread.bound)?;
+        bound.tables.get(usize::from(scene.parts.bound?))?.as_ref()
     }
 
     /// A step that reads every row of its source has judged none of them.

@@ -13,9 +13,17 @@ pub struct Moment {
 #[derive(PartialEq, Eq, Debug)]
 pub struct Thread {
     pub site: Site,
+    pub bound: Bound,
+    pub stack: List<Entry, 8>,
+    /// For each entry of the stack the bindings that it holds: only loops hold some.
+    pub held: Vec<Option<Bound>>,
+}
+
+/// The variables and table variables of a thread, or those that a loop's entry holds.
+#[derive(PartialEq, Eq, Debug)]
+pub struct Bound {
     pub variables: Variables,
     pub tables: [Option<Relation>; 2],
-    pub stack: List<Entry, 8>,
 }
 
 pub type Variables = [Variable; 16];
@@ -46,9 +54,23 @@ fn table(table: &embed::Table) -> Table {
 fn thread(thread: &embed::ThreadState) -> Thread {
     Thread {
         site: Site(thread.site),
-        variables: thread.variables.map(variable),
-        tables: thread.table_variables.each_ref().map(|held| held.as_ref().map(relation)),
+        bound: bound(&thread.variables, &thread.table_variables),
         stack: list(thread.stack.iter().rev().map(entry)),
+        held: thread.stack.iter().rev().map(held).collect(),
+    }
+}
+
+fn bound(variables: &[embed::Variable; 16], tables: &[Option<embed::Relation>; 2]) -> Bound {
+    let tables = tables.each_ref().map(|table| table.as_ref().map(relation));
+    Bound { variables: variables.map(variable), tables }
+}
+
+fn held(entry: &embed::Entry) -> Option<Bound> {
+    match entry {
+        embed::Entry::Loop { held: Some(held), .. } => {
+            Some(bound(&held.variables, &held.table_variables))
+        }
+        _ => None,
     }
 }
 

@@ -1,7 +1,8 @@
-//! Where threads stand after a pick, with the round that it opened and what it bound.
+//! Where threads stand after a pick, with the round that it opened or ended and what it bound.
 
-use crate::bindings::bound;
+use crate::bindings::Change;
 use crate::moment::Thread;
+use crate::rounds::came_back;
 use crate::run::Turn;
 use crate::scene::Scene;
 use crate::steps::row_places;
@@ -40,7 +41,10 @@ fn stays(now: &Thread, scene: &Scene, picked: &str) -> Vec<String> {
         true => (Some(round(scene)), parts.template),
         false => (no_round(scene), parts.result.as_slice()),
     };
-    let bound = bound(formals, parts.bound, scene.thread, now);
+    let bound = came_back(now, scene).unwrap_or_else(|| {
+        let (before, after) = (&scene.thread.bound, &now.bound);
+        Change { formals, table: parts.bound, before, after }.lines()
+    });
     round.into_iter().chain(bound).chain([goes_on(picked, now, scene)]).collect()
 }
 
@@ -50,7 +54,8 @@ fn goes_on(picked: &str, now: &Thread, scene: &Scene) -> String {
 
 fn forked(fork: &Thread, scene: &Scene, new: &str, parent: &str) -> Vec<String> {
     let heading = format!("{new} is new, a fork of {parent}: {}", scene.steps.stands(fork));
-    let bound = bound(scene.parts.template, None, scene.thread, fork);
+    let (formals, before, after) = (scene.parts.template, &scene.thread.bound, &fork.bound);
+    let bound = Change { formals, table: None, before, after }.lines();
     [heading].into_iter().chain(bound.iter().map(|line| format!("    {line}"))).collect()
 }
 

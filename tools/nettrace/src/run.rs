@@ -5,7 +5,7 @@ use crate::calls::Calls;
 use crate::moment::Moment;
 use embed::{Answer, Pick, Refused};
 
-/// Room for a piece: some 500 of the largest nets, or 10,000 of a small one.
+/// Room for a piece: some 80 of the largest nets, or 10,000 of a small one.
 const ROOM: usize = 1 << 25;
 /// Picks of a piece at most.
 const PICKS: usize = 1 << 14;

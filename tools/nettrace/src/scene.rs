@@ -29,7 +29,7 @@ impl<'a> Scene<'a> {
     }
 
     pub fn own(&self) -> Bindings<'a> {
-        Bindings::own(&self.thread.variables)
+        Bindings::own(&self.thread.bound.variables)
     }
 
     /// What L gives.
@@ -53,7 +53,7 @@ impl<'a> Scene<'a> {
 
     /// The table variable read, if it is bound.
     pub fn read(&self) -> Option<&'a Relation> {
-        self.thread.tables.get(usize::from(self.parts.read?))?.as_ref()
+        self.thread.bound.tables.get(usize::from(self.parts.read?))?.as_ref()
     }
 
     /// The rows that the template speaks of: those of the table variable read, or of the table.

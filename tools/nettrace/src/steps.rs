@@ -28,7 +28,7 @@ impl Steps {
     }
 
     /// Where the step is written.
-    fn place(&self, node: u8) -> String {
+    pub fn place(&self, node: u8) -> String {
         self.step(node).map_or_else(|| format!("node {node}"), |step| step.place.clone())
     }
 

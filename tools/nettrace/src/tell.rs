@@ -1,9 +1,10 @@
 //! A run as text: the net before it, each pick, the net after it.
 
-use crate::bindings::held;
+use crate::bindings;
 use crate::moment::{Moment, Thread};
 use crate::outcome::outcome;
 use crate::progress::Around;
+use crate::rounds::to_come;
 use crate::run::Turn;
 use crate::scene::Scene;
 use crate::steps::Steps;
@@ -35,8 +36,9 @@ impl Teller {
     }
 
     fn thread_with_bindings(&self, place: usize, thread: &Thread) -> Vec<String> {
-        let held = held(thread).into_iter().map(|line| format!("    {line}"));
-        [self.thread(place, thread)].into_iter().chain(held).collect()
+        let bound = bindings::all(&thread.bound).into_iter().chain(to_come(thread, &self.steps));
+        let bound = bound.map(|line| format!("    {line}"));
+        [self.thread(place, thread)].into_iter().chain(bound).collect()
     }
 
     fn thread(&self, place: usize, thread: &Thread) -> String {

@@ -25,7 +25,7 @@ impl Example {
 }
 
 /// The few that stand in the repository's `examples`: the name there, and the example's own.
-const SHOWN: [(&str, &str); 15] = [
+const SHOWN: [(&str, &str); 16] = [
     ("printed-run", "k-printed-run"),
     ("insert", "16-insert"),
     ("insert-table", "17-insert-table"),
@@ -37,6 +37,7 @@ const SHOWN: [(&str, &str); 15] = [
     ("create", "23-create"),
     ("drop", "24-drop"),
     ("sequential-loop", "25-sequential"),
+    ("round-bindings", "25-template-bound-anew"),
     ("parallel-loop", "26-parallel"),
     ("refused-steps", "refused-steps"),
     ("refused-file", "07-kind"),

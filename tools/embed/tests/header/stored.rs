@@ -12,6 +12,6 @@ pub fn nets() -> Vec<Vec<u8>> {
     let paths = entries.map(|entry| entry.expect("an example").path());
     let paths = paths.filter(|path| path.extension() == Some(OsStr::new("net")));
     let nets: Vec<Vec<u8>> = paths.map(|path| fs::read(path).expect("a net")).collect();
-    assert!(nets.len() >= 19);
+    assert!(nets.len() >= 21);
     nets
 }

@@ -1,5 +1,5 @@
 /* Reads a net from standard input and traces its own picks, by the names of the header alone. For each moment it prints how many threads stand,
- * how many variables and table variables they have bound, and how many entries are on their stacks. */
+ * how many variables and table variables they have bound, how many entries are on their stacks, and how many bindings these entries hold. */
 #include <stdio.h>
 
 #include "tivgeral.h"
@@ -15,7 +15,7 @@ static size_t moment_length(const uint8_t *moment) {
 }
 
 static void print_moment(const uint8_t *moment) {
-    unsigned threads = 0, variables = 0, tables = 0, entries = 0;
+    unsigned threads = 0, variables = 0, tables = 0, entries = 0, held = 0;
     int of_thread = 0; /* and not of a stack entry */
     const uint8_t *end = moment + moment_length(moment);
     for (const uint8_t *record = moment; record < end; record += TIVGERAL_RECORD_BYTES) {
@@ -25,10 +25,10 @@ static void print_moment(const uint8_t *moment) {
             of_thread = 1;
             break;
         case TIVGERAL_KIND_VARIABLE:
-            variables += of_thread && record[56] != 0;
+            *(of_thread ? &variables : &held) += record[56] != 0;
             break;
         case TIVGERAL_KIND_TABLE_VARIABLE:
-            tables += of_thread && record[2] == 1;
+            *(of_thread ? &tables : &held) += record[2] == 1;
             break;
         case TIVGERAL_KIND_ENTRY:
             entries++;
@@ -38,7 +38,7 @@ static void print_moment(const uint8_t *moment) {
             break;
         }
     }
-    printf("%u %u %u %u\n", threads, variables, tables, entries);
+    printf("%u %u %u %u %u\n", threads, variables, tables, entries, held);
 }
 
 /* Prints the moments in so many bytes of `out`, and gives back how many they are. */

@@ -1,12 +1,12 @@
 //! A moment's bytes, made from a net of the second engine.
 
-use engine::{Entry, Net, Relation, Thread, Value};
+use engine::{Act, Bindings, Entry, Loop, Net, Relation, Thread, Value};
 
 type Record = [u8; 104];
 
 pub fn bytes(net: &Net) -> Vec<u8> {
     let mut records: Vec<Record> = super::written(net).as_chunks().0.to_vec();
-    records.extend(net.threads.iter().flat_map(thread));
+    records.extend(net.threads.iter().flat_map(|one| thread(one, net)));
     let count = (1 + records.len() as u32).to_le_bytes();
     let mut first = record(&[64, net.tables.len() as u8, net.threads.len() as u8]);
     first[4..8].copy_from_slice(&count);
@@ -19,13 +19,31 @@ fn record(head: &[u8]) -> Record {
     record
 }
 
-fn thread(thread: &Thread) -> Vec<Record> {
+fn thread(thread: &Thread, net: &Net) -> Vec<Record> {
     let mut records = vec![record(&[65, thread.site.0, thread.stack.len() as u8])];
-    records.extend((0..).zip(&thread.variables).map(|(number, value)| variable(number, *value)));
-    let tables = (0..).zip(&thread.tables);
-    records.extend(tables.flat_map(|(number, table)| table_variable(number, table.as_ref())));
-    records.extend(thread.stack.iter().rev().map(|top| entry(*top)));
+    records.extend(bindings(&thread.bindings()));
+    // The top comes first, and so does what its entries keep.
+    let mut kept = thread.kept.iter().rev();
+    for top in thread.stack.iter().rev() {
+        records.push(entry(*top));
+        let held = kept.by_ref().take(usize::from(is_sequential(*top, net)));
+        records.extend(held.flat_map(bindings));
+    }
     records
+}
+
+/// Whether this is a sequential loop's entry: only such a one keeps bindings.
+fn is_sequential(entry: Entry, net: &Net) -> bool {
+    let act = &net.nodes[usize::from(entry.node())].act;
+    let sequential = matches!(act, Act::Loop(Loop { parallel: false, .. }));
+    matches!(entry, Entry::Loop { .. }) && sequential
+}
+
+fn bindings(bound: &Bindings) -> Vec<Record> {
+    let variables = (0..).zip(&bound.variables).map(|(number, value)| variable(number, *value));
+    let tables = (0..).zip(&bound.tables);
+    let tables = tables.flat_map(|(number, table)| table_variable(number, table.as_ref()));
+    variables.chain(tables).collect()
 }
 
 fn variable(number: u8, value: Option<Value>) -> Record {

@@ -18,7 +18,7 @@ pub fn case(scene: &Scene) -> Option<String> {
         return None;
     };
     let (relation, source) = scene.source()?;
-    let matches = |row: &&Row| judge(&scene.parts, &scene.thread.variables, row).taken;
+    let matches = |row: &&Row| judge(&scene.parts, &scene.thread.bound.variables, row).taken;
     let taken: Vec<&Row> = relation.rows.iter().filter(matches).collect();
     let Outcome { name, rows, result: found } = outcome(*function, &taken);
     let Some(found) = found else {

@@ -28,7 +28,7 @@ pub fn not_ready(scene: &Scene) -> Option<String> {
     let left = scene.left();
     let judged = |place: u8| {
         let row = relation.rows.get(usize::from(place))?;
-        Some(judge(&scene.parts, &scene.thread.variables, row))
+        Some(judge(&scene.parts, &scene.thread.bound.variables, row))
     };
     let ready = |place: &u8| judged(*place).is_some_and(|judged| judged.taken);
     let ready: Vec<u8> = left.iter().filter(ready).collect();

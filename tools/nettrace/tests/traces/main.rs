@@ -10,4 +10,5 @@ mod page;
 mod pages;
 mod pieces;
 mod refusals;
+mod rounds;
 mod telling;

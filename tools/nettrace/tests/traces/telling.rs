@@ -70,6 +70,7 @@ fn a_dropped_table_goes_with_its_rows() {
         - (7)
         - (8)
         - (8)
+    the round ends: x1 is unbound again
     thread 0 (A) goes on: line 6 of visit with row 0 still to visit";
     assert_eq!(parts(LOOP)[4], dropped);
 }
