@@ -124,7 +124,7 @@ pub record Bindings : Type 0 where
   pub vars : Vars
   pub relations : List (Option Relation)
 
--- a node to run, or a loop node with the rows still to visit and the bindings of the moment when it was first met. Those of a sequential loop come back after each round; those of a parallel loop are never looked at
+-- a node to run, or a loop node with the rows still to visit and the bindings of the moment when it was first met, which its entry keeps. Those of a sequential loop come back after each round; those of a parallel loop are never looked at
 pub data Entry : Type 0 where
   toRun : ℕ → Entry
   visiting : ℕ → List ℕ → Bindings → Entry

@@ -191,7 +191,7 @@ abbrev pub hasPlaces : List ℕ → Option Relation → Bool
 hasPlaces v none = false
 hasPlaces v (some r) = all (λ i. ltb i (length (r .rows))) v
 
--- an entry to run names a node; a loop entry a loop node whose table variable is bound and has the places. What a sequential loop's entry holds is under the limits and ranges of a thread's own bindings
+-- an entry to run names a node; a loop entry a loop node whose table variable is bound and has the places. What a sequential loop's entry keeps is under the limits and ranges of a thread's own bindings
 abbrev pub entryOk : List Node → List (Option Relation) → Entry → Bool
 entryOk ds rs (toRun i) = ltb i (length ds)
 entryOk ds rs (visiting i v b) =
@@ -212,12 +212,12 @@ abbrev pub agreeOn : List Node → List (Option Relation) → List (Option Relat
 agreeOn ds rs qs (toRun i) = true
 agreeOn ds rs qs (visiting i v b) = sameRelation (getD rs (getD ds i noNode .read) none) (getD qs (getD ds i noNode .read) none)
 
--- what a sequential loop's entry `x` holds agrees with the thread's own table variables `rs` on each that one of the entries `s` holds
+-- the bindings that a sequential loop's entry keeps agree with the thread's own table variables `rs` on each that one of the entries `s` holds (as in check 17)
 abbrev pub savedAgrees : List Node → List (Option Relation) → List Entry → Entry → Bool
 savedAgrees ds rs s (toRun i) = true
 savedAgrees ds rs s (visiting i v b) = not (isSequential (getD ds i noNode .kind)) || all (agreeOn ds rs (b .relations)) s
 
--- of each entry, on what that entry or a loop entry below it holds
+-- for each entry, on the table variables that it or a loop entry below it holds
 abbrev pub allSavedAgree : List Node → List (Option Relation) → List Entry → Bool
 allSavedAgree ds rs [] = true
 allSavedAgree ds rs (x ∷ s) = savedAgrees ds rs (x ∷ s) x && allSavedAgree ds rs s

@@ -194,7 +194,7 @@ abbrev pub keepThread : Thread → List Entry → List Thread
 keepThread t [] = []
 keepThread t (x ∷ xs) = withStack t (x ∷ xs) ∷ []
 
--- what a round binds ends with the round: where the entry above a sequential loop's entry is removed, the bindings that this one holds come back, all of them
+-- what a round binds ends with the round: where the entry directly above a sequential loop's entry is removed, all the bindings that the loop's entry keeps come back. `s` is the stack below the entry removed
 abbrev pub restored : List Node → Thread → List Entry → Thread
 restored ds t [] = t
 restored ds t (toRun i ∷ s) = t
@@ -217,15 +217,16 @@ plain c =
     (goOn (c .net .nodes) (c .node .next) (withBindings (c .thread) (bindingsBy (c .node .kind) c)) (below (c .thread .stack)))
     (c .net .threads)
 
--- a round: T's formals bound to the row picked, and the loop entry without its place
+-- a round: T's formals bound to the row picked
 abbrev pub roundBindings : Scene → Bindings
 roundBindings c = withVars (c .thread .bindings) (rowVars (vars c) (template c) (rowAt c (c .row)))
 
--- the bindings of the moment when the loop was first met: the thread's own before its first round, and from then on those that its entry holds
+-- the bindings of the moment when the loop was first met: the thread's own before its first round, and from then on those that its entry keeps
 abbrev pub firstMet : Thread → Entry → Bindings
 firstMet t (toRun i) = t .bindings
 firstMet t (visiting i v b) = b
 
+-- the loop's entry in a round, without the place of the row picked
 abbrev pub loopEntry : Scene → Entry
 loopEntry c = visiting (entryNode (c .entry)) (filter (λ i. not (eqb i (c .row))) (visit c)) (firstMet (c .thread) (c .entry))
 

@@ -139,7 +139,7 @@ abbrev pub marked : ℕ → List Bool → List ℕ
 marked i [] = []
 marked i (b ∷ l) = keep b i (marked (suc i) l)
 
--- with the bindings `b` that a loop's entry holds. All flags count, also those past the rows
+-- with the bindings `b` that a loop's entry keeps. All flags count, also those past the rows
 abbrev pub entryWith : M.Bindings → List Bool → Entry → M.Entry
 entryWith b v (Run i) = toRun i
 entryWith b v (Loop i) = visiting i (marked 0 v) b
@@ -147,7 +147,7 @@ entryWith b v (Loop i) = visiting i (marked 0 v) b
 abbrev pub entryOf : M.Bindings → Frame → M.Entry
 entryOf b f = entryWith b (f .visit) (f .entry)
 
--- the first `n` frames, the last of them first: it is the top. `bs` gives what the entry at each place holds
+-- the first `n` frames, the last of them first: it is the top. `bs` gives what the entry at each place keeps
 abbrev pub stackOf : (ℕ → M.Bindings) → ℕ → List Frame → List M.Entry
 stackOf bs zero l = []
 stackOf bs (suc n) l = entryOf (bs n) (getD l n noFrame) ∷ stackOf bs n l
@@ -161,9 +161,10 @@ bindingsOf vs rs = record { vars = varsOf vs; relations = map variableOf rs }
 abbrev pub threadOf : (ℕ → M.Bindings) → Thread → M.Thread
 threadOf bs t = record { site = t .site; bindings = bindingsOf (t .vars) (t .relations); stack = stackOf bs (t .depth) (t .stack) }
 
--- ── what the entries of loops hold ──
+-- ── what the entries of loops keep ──
 
--- the bindings that are saved for a loop that reads table variable 0, or 1. That one is the thread's own, since it can't be bound anew while the loop's entry stands; only the other is stored
+-- the bindings that are saved for a loop that reads table variable 0, or 1 (a node that reads another is not sound). That one is the thread's own: while the loop's entry stands, check 17 lets no step bind it anew, and agreement
+-- lets none that comes back differ. The other one is stored
 abbrev pub savedOf : ℕ → List TableVariable → Saved → M.Bindings
 savedOf zero rs b = record { vars = varsOf (b .vars); relations = variableOf (getD rs 0 noVariable) ∷ variableOf (b .other) ∷ [] }
 savedOf (suc i) rs b = record { vars = varsOf (b .vars); relations = variableOf (b .other) ∷ variableOf (getD rs 1 noVariable) ∷ [] }
@@ -176,7 +177,7 @@ nodeIn (Loop i) = i
 abbrev pub readAt : List M.Node → Frame → ℕ
 readAt ds f = getD ds (nodeIn (f .entry)) S.noNode .read
 
--- what the entry at each place `j` of the stack of the thread at place `i` holds
+-- what the entry at each place `j` of the stack of the thread at place `i` keeps
 abbrev pub savedAt : List M.Node → List Saved → ℕ → Thread → ℕ → M.Bindings
 savedAt ds l i t j = savedOf (readAt ds (getD (t .stack) j noFrame)) (t .relations) (getD l (i * 8 + j) noSaved)
 
@@ -191,7 +192,7 @@ tablesOf n l = firsts tableOf noTable n l
 abbrev pub nodesOf : ℕ → List Node → List M.Node
 nodesOf n l = firsts nodeOf noNode n l
 
--- the thread at a place, with what the entries of its loops hold
+-- the thread at a place, with what the entries of its loops keep
 abbrev pub threadAt : List M.Node → List Saved → List Thread → ℕ → M.Thread
 threadAt ds saved l i = threadOf (savedAt ds saved i (getD l i noThread)) (getD l i noThread)
 

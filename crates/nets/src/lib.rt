@@ -59,8 +59,8 @@ pub struct TableVariable {
     pub content: Relation,
 }
 
-// What a loop's entry holds: the variables of the moment when the loop was first met, and the table variable that the loop does not read. The one that it
-// reads is the thread's own, since it can't be bound anew while the entry stands.
+// What a loop's entry keeps of the moment when the loop was first met: the variables, and the table variable that the loop does not read. The one that it reads
+// stays what it was while the entry stands, so the thread's own serves. A parallel loop's is stored and never read.
 pub struct Saved {
     pub vars: [Slot; 16],
     pub other: TableVariable,
