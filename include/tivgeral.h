@@ -175,14 +175,13 @@ uint8_t tivgeral_threads(const uint8_t *file, size_t file_length, const uint8_t 
  *   kind 68, after its 67        a row of it: byte 1 the table variable's number, bytes 56 to 87 its values as in a row record
  *   kind 69, the top first       a stack entry: byte 1 0 a node to run, 1 a loop, byte 2 the node's number, bytes 8 to 23 for each row place 0 to 15:
  *                                1 if the loop has still to visit it
- *   kinds 66, 67 and 68, after   the bindings that a sequential loop's entry holds, laid out as those of a thread
- *   its 69
+ *   kinds 66 to 68, after a 69   the bindings that this entry holds, laid out as those of a thread: a sequential loop's entry has them, no other
  *
  * A sequential loop's entry holds the variables and table variables of the moment when its loop was first met, before the formals of the first round
- * were bound. All of them come back in the step that ends a round, the last one too, so after the loop they are what they were before it. They stand
- * behind that entry's record, as those of a thread stand behind the thread's: kind 66 sixteen times, kind 67 for 0 and for 1, each followed by its
- * rows. A node to run holds none, and neither does a parallel loop, whose rounds are threads of their own. So records of kinds 66 to 68 before a
- * thread's first record of kind 69 are the thread's own, and those behind a record of kind 69 are held by that entry.
+ * were bound. All of them come back in the step that ends a round, the last one too, so after the loop they are what they were before it. Behind that
+ * entry's record stands kind 66 sixteen times, and kind 67 for 0 and for 1, each followed by its rows. A node to run holds none, and neither does a
+ * parallel loop, whose rounds are threads of their own. So records of kinds 66 to 68 before a thread's first record of kind 69 are the thread's own,
+ * and those between a record of kind 69 and the next of kind 69, 65 or 64 are held by that entry.
  *
  * Later versions add kinds, name bytes that are zero now, and give variables further tags. Skip a kind that you do not know; do not test unnamed
  * bytes; a variable whose byte 56 is a tag that you do not know is bound, to a value that you do not know. */

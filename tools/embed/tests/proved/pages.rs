@@ -6,7 +6,7 @@ use embed::{page, page_into, tables, Call, Pick, Refused, LINE_BYTES, PAGE_BYTES
 use generate::{examples, file, Class};
 use std::collections::BTreeSet;
 
-const FILES: u64 = 300;
+const FILES: u64 = 400;
 
 /// A byte that no page has, to show which bytes were left.
 const LEFT: u8 = 7;
