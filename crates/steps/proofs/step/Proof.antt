@@ -19,7 +19,7 @@ abbrev Tested : Type 0
 Tested = tie.After-sound-parts
 
 abbrev start : Tested → tie.Start
-start t = t .before .before .before .before .before
+start t = t .before .before .before .before .before .before
 
 array-share-prefix-picks : tie.Need-array-share-prefix-picks
 array-share-prefix-picks c = c .count-if .ensures .1
