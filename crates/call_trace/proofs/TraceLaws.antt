@@ -16,7 +16,7 @@ use Rattle.nets.specs.declared.Pick.{Pick}
 use Rattle.nets.specs.Nets.{Net}
 use Rattle.nets.specs.Accounts.{nextNet, after}
 use Rattle.nets.specs.View.{noPick}
-use Rattle.value_bytes.proofs.Stores.{part-size, part-written}
+use Rattle.value_bytes.proofs.Stores.{part-size}
 use Rattle.step_bytes.specs.PickBytes.{picksIn}
 use Rattle.step_bytes.proofs.PickLaws.{picks-length, picks-take}
 use Rattle.call_rules.specs.Moments.{momentPut}
@@ -24,6 +24,7 @@ use Rattle.call_rules.specs.Replies.{needed, ifRoomFor}
 use Rattle.call_rules.specs.Traces.{netsAfter, inRoom, tracePut, traced}
 use Rattle.call_rules.proofs.CallLaws.{needed-is}
 use Rattle.call_rules.specs.Calls.{Gives}
+use Rattle.call_hold.proofs.RecordLaws.{more-taken}
 
 -- the moments after each of the picks
 abbrev pub later : Net → List Pick → List (List ℕ)
@@ -91,27 +92,6 @@ no-room net next ps i room bs done h e r q = q ∙ rw (later-next net next ps i 
 pub none-left : (net : Net) (ps : List Pick) (i room : ℕ) (bs done : List ℕ) → length ps ≤ i → bs ≡ done ++ inRoom room (later net (drop i ps)) → bs ≡ done
 none-left net ps i room bs done h q = q ∙ rw (drop-of-length-le ps {i = i} h, append-nil)
 
-module _ (out ys : List ℕ) (at n : ℕ) (l : length ys ≡ n) (h : at ≤ length out) where
-  put-is : putMid at (at + n - at) out ys ≡ (take at out ++ ys) ++ drop (at + n) out
-  put-is =
-      rw (part-size at n)
-      (subst (λ (xs : List ℕ). putMid at n xs ys ≡ (take at out ++ ys) ++ drop (at + n) out) (take-append-drop at out) (part-written (take at out) out ys at n taken))
-    where
-      taken : length (take at out) ≡ at
-      taken = simp length-take (omega arith)
-
-  long : length (take at out ++ ys) ≡ at + n
-  long = simp (length-append, length-take) (omega arith)
-
-  pub more-taken : take (at + n) (putMid at (at + n - at) out ys) ≡ take at out ++ ys
-  more-taken = ap (take (at + n)) put-is ∙ take-at (take at out ++ ys) (drop (at + n) out) (at + n) long
-
-  pub more-left : (o : List ℕ) → drop at out ≡ drop at o → drop (at + n) (putMid at (at + n - at) out ys) ≡ drop (at + n) o
-  more-left o e =
-      ap (drop (at + n)) put-is
-      ∙ drop-at (take at out ++ ys) (drop (at + n) out) (at + n) long
-      ∙ sym (drop-drop n at out) ∙ ap (drop n) e ∙ drop-drop n at o
-
 -- one moment more
 pub more-put : (net next : Net) (ps : List Pick) (i at n : ℕ) (bs out ys : List ℕ) → i < length ps → next ≡ nextNet net (getD ps i noPick) → n ≡ length (momentPut next) → ys ≡ momentPut next → at + n ≤ length out →
     bs ≡ take at out ++ inRoom (length out - at) (later net (drop i ps)) → (w : ℕ) → w ≡ length out →
@@ -167,7 +147,7 @@ module _ (bs : List ℕ) (from n : ℕ) (e : n ≡ cond (ltb from (length bs / 2
 -- ── the reply ──
 
 module _ (net first : Net) (ps : List Pick) (from : ℕ) (o : List ℕ) (e : first ≡ after net (take from ps)) (size : ℕ) (es : size ≡ length (momentPut first)) where
-  pub trace-short : length o < size → size ≤ 63336 → Gives (traced from net ps o) o o 21 size
+  pub trace-short : length o < size → size ≤ 396136 → Gives (traced from net ps o) o o 21 size
   unfolding ifRoomFor
   trace-short h few =
       rw (sym e, lt-leb (length (momentPut first)) (length o) (omega arith)) (record { number = refl; place = needed-is size (omega arith) ∙ ap needed es; buffer = refl })

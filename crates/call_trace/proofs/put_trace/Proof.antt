@@ -14,7 +14,8 @@ use Rattle.step_bytes.specs.PickBytes.{picksIn}
 use Rattle.step_bytes.proofs.PickLaws.{picks-length}
 use Rattle.call_rules.specs.Moments.{momentPut}
 use Rattle.call_rules.specs.Traces.{inRoom, tracePut}
-use Rattle.call_trace.proofs.TraceLaws.{later, few-picks, one-after, first-put, first-length, first-left, no-room, none-left, more-taken, more-left, more-put, ended}
+use Rattle.call_hold.proofs.RecordLaws.{more-left}
+use Rattle.call_trace.proofs.TraceLaws.{later, few-picks, one-after, first-put, first-length, first-left, no-room, none-left, more-put, ended}
 use borrow.Author.Needs.{needs}
 use Rattle.call_trace.proofs.put_trace.Statement.{statement}
 use Rattle.call_trace.proofs.put_trace.Tie as tie

@@ -8,6 +8,8 @@ use lib.ListN.{length, drop, length-take, length-drop}
 use borrow.Author.Needs.{needs}
 use Rattle.nets.specs.declared.Pick.{Pick}
 use Rattle.nets.specs.declared.Net as Code
+use Rattle.nets.specs.declared.Saved.{Saved}
+use Rattle.nets.specs.Nets as M
 use Rattle.nets.specs.Nets.{Net}
 use Rattle.nets.specs.Sound.{sound}
 use Rattle.nets.specs.Accounts.{after}
@@ -17,7 +19,7 @@ use Rattle.call_rules.specs.Layouts.{threadBytes, threadsPut}
 use Rattle.call_rules.specs.Replies.{ifRoom}
 use Rattle.call_rules.specs.Calls.{Gives}
 use Rattle.call_rules.proofs.CallLaws.{needed-is, gives-short, gives-put}
-use Rattle.call_moment.proofs.NetShapes.{few-threads}
+use Rattle.call_moment.proofs.NetShapes.{nodesIn, few-threads}
 use Rattle.call_each.proofs.ThreadsLeft.{all-stacked, threads-put, threads-size}
 use Rattle.call_each.proofs.threads.threads_left.Statement.{statement}
 use Rattle.call_each.proofs.threads.threads_left.Tie as tie
@@ -26,9 +28,9 @@ module _ (m : Net) (ps : List Pick) (net : Code.Net) (e : (view net ≡ after m 
   short : length o < net .threadcount * 24 → Gives (ifRoom (threadsPut m ps) o) o o 21 (net .threadcount * 24)
   short h = gives-short (threadsPut m ps) o (net .threadcount * 24) (threads-size m ps net (e .0)) (net .threadcount * 24) h (needed-is (net .threadcount * 24) (omega (arith, few-threads net (e .1))))
 
-  given : (ys : List ℕ) → net .threadcount * 24 ≤ length o → ys ≡ endToEnd (map threadBytes (threadsOf (net .threadcount) (net .threads))) →
+  given : (ys : List ℕ) → net .threadcount * 24 ≤ length o → ((ds : List M.Node) (saved : List Saved) → ys ≡ endToEnd (map threadBytes (threadsOf ds saved (net .threadcount) (net .threads)))) →
       Gives (ifRoom (threadsPut m ps) o) o (ys ++ drop (net .threadcount * 24 - 0) o) 0 (net .threadcount * 24)
-  given ys h q = gives-put (threadsPut m ps) o (net .threadcount * 24) (threads-size m ps net (e .0)) ys h (q ∙ sym (threads-put m ps net (e .0)))
+  given ys h q = gives-put (threadsPut m ps) o (net .threadcount * 24) (threads-size m ps net (e .0)) ys h (q (nodesIn net) (net .saved) ∙ sym (threads-put m ps net (e .0)))
 
 put-threads-requires : tie.Need-put-threads-requires
 put-threads-requires c κs =
