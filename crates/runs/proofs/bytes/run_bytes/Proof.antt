@@ -20,7 +20,7 @@ abbrev Tested : Type 0
 Tested = tie.After-sound-parts
 
 abbrev start : Tested → tie.Start
-start t = t .before .before .before .before .before .before
+start t = t .before .before .before .before .before .before .before
 
 slice-aggregate-carry-out : tie.Need-slice-aggregate-carry-out
 slice-aggregate-carry-out c = let n = c .before in lent-long (start (n .before) .args .picks .now) (n .count-if .ensures .1)
