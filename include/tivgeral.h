@@ -7,7 +7,7 @@
  *
  * The library is for x86-64 Linux. It needs memcpy and memset of the C library and nothing else: no heap, no files, no state kept between
  * calls. Calls from several threads at once do not disturb each other. A net is held by value, so a call takes stack space: have 1 MiB free
- * (320 KiB were enough for every stored example).
+ * (640 KiB were enough for every stored example).
  *
  * What goes in
  *
