@@ -1,6 +1,7 @@
 // Selectors prepared for one relation, and the rows that they select.
 use row_terms::term_got;
 use row_terms::term_of;
+use rows::Matched;
 use rows::Operands;
 use rows::Plan;
 use rows::Row;
@@ -16,13 +17,16 @@ use values::Order;
 use values::Slot;
 use values::Value;
 ghost use mathlib.Core.Path.{_≡_};
-ghost use mathlib.Core.Bool.{_||_};
-ghost use Prim.Native.Nat.{_<_};
+ghost use mathlib.Core.Bool.{cond, _||_};
+ghost use Prim.Native.Nat.{_≤_, _<_};
+ghost use lib.Dec.{ltb};
 ghost use lib.ListN.{length};
+ghost use Rattle.values.specs.Lists.{agree, lookedAt};
 ghost use Rattle.values.specs.Operands.{varsOf};
-ghost use Rattle.rows.specs.Matching.{isSame, agrees, hits, matches};
+ghost use Rattle.rows.specs.Matching.{isSame, agrees, hits};
+ghost use Rattle.rows.specs.Looking.{MatchedIs};
 ghost use Rattle.rows.specs.View.{operandsOf, selectorOf, valuesOf, Short};
-ghost use Rattle.rows.specs.Plans.{wantOf, wantAt, meets, isAnything, wantsMet, planHits};
+ghost use Rattle.rows.specs.Plans.{wantOf, wantAt, meets, isAnything, wantsIn, wantsMet, WantsAre, planHits};
 
 // ---- matching
 
@@ -72,7 +76,7 @@ fn wanted_at(template: Operands, i: usize, vars: [Slot; 16]) -> Wanted
 
 pub fn wants_of(template: Operands, vars: [Slot; 16]) -> [Wanted; 4]
     requires { ⌜ Short template ⌝ }
-    ensures { λ r. ⌜ ((row : Row) → length (row .cells) ≡ 4 → wantsMet r (row .cells) ≡ matches (varsOf vars) (operandsOf template) (valuesOf (template .count) row)) ⌝ }
+    ensures { λ r. ⌜ WantsAre (varsOf vars) template r ⌝ }
 {
     let a = wanted_at(template, 0, vars);
     let b = wanted_at(template, 1, vars);
@@ -81,12 +85,13 @@ pub fn wants_of(template: Operands, vars: [Slot; 16]) -> [Wanted; 4]
     [a, b, c, d]
 }
 
-// Four places, whatever T's length, so that the loop has a fixed bound.
-pub fn row_matches(wants: [Wanted; 4], row: Row) -> bool
-    ensures { λ r. ⌜ r ≡ wantsMet wants (row .cells) ⌝ }
+// The one loop of matching. The first n fields, from the first on; the row is left at the first field that does not match.
+pub fn fields_met(wants: [Wanted; 4], n: usize, row: Row) -> Matched
+    requires { ⌜ n ≤ 4 ⌝ }
+    ensures { λ r. ⌜ (r .matches ≡ agree meets (wantsIn n wants) (valuesOf n row)) × (r .looked ≡ lookedAt meets (wantsIn n wants) (valuesOf n row)) ⌝ }
 {
     let mut i: usize = 0;
-    while i < 4 {
+    while i < n {
         let w = wants[i];
         let c = row.cells[i];
         let want = w.want;
@@ -94,10 +99,44 @@ pub fn row_matches(wants: [Wanted; 4], row: Row) -> bool
         if met(want, v) {
             i += 1;
         } else {
-            return false;
+            return Matched {
+                matches: false,
+                looked: i + 1, // the failing field was looked at, too
+            };
         }
     }
-    true
+    Matched {
+        matches: true,
+        looked: n,
+    }
+}
+
+// Four places, whatever T's length, so that the loop has a fixed bound where only the answer is wanted.
+pub fn row_matches(wants: [Wanted; 4], row: Row) -> bool
+    ensures { λ r. ⌜ r ≡ wantsMet wants (row .cells) ⌝ }
+{
+    let m = fields_met(wants, 4, row);
+    m.matches
+}
+
+fn shorter(a: usize, b: usize) -> usize
+    ensures { λ r. ⌜ r ≡ cond (ltb a b) a b ⌝ }
+{
+    if a < b { a } else { b }
+}
+
+// T and a row by themselves, of any lengths: what both have is looked at, and only a row as long as T matches.
+pub fn match_row(template: Operands, vars: [Slot; 16], columns: usize, row: Row) -> Matched
+    requires { ⌜ Short template × (columns ≤ 4) ⌝ }
+    ensures { λ r. ⌜ MatchedIs (varsOf vars) (operandsOf template) (valuesOf columns row) r ⌝ }
+{
+    let count = template.count;
+    let wants = wants_of(template, vars);
+    let m = fields_met(wants, shorter(count, columns), row);
+    Matched {
+        matches: m.matches & (count == columns),
+        looked: m.looked,
+    }
 }
 
 fn takes_any(w: Wanted) -> bool

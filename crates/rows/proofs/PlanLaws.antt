@@ -28,7 +28,7 @@ use Rattle.rows.specs.declared.Want.the-variants.{Anything, Like}
 use Rattle.rows.specs.declared.Wanted.{Wanted}
 use Rattle.rows.specs.Matching.{matches, matches1, rowVars}
 use Rattle.rows.specs.View.{noCell, noField, valuesOf}
-use Rattle.rows.specs.Plans.{isFormalOf, formalPlace, originOf, termOf, gotAt, originGot, termGot, wantOf, meets, isAnything, wantsMet}
+use Rattle.rows.specs.Plans.{isFormalOf, formalPlace, originOf, termOf, gotAt, originGot, termGot, wantOf, meets, isAnything, wantsMet, noWanted}
 
 -- ── what formals bind ──
 
@@ -116,10 +116,6 @@ want-meets e (ConstLoc l) v = refl
 want-meets e (Var i) v = refl
 want-meets e (Plus i k) v = refl
 want-meets e (Formal i) v = refl
-
--- what the logic reads past an array's end
-abbrev pub noWanted : Wanted
-noWanted = record { want = Anything }
 
 -- wants of anything are met by any row
 any-meets : (w : Want) (v : Value) → isAnything w ≡ true → meets w v ≡ true

@@ -1,4 +1,6 @@
 pub mod Fit
+pub mod Looking
+pub mod LookingExamples
 pub mod Matching
 pub mod Plans
 pub mod Relations

@@ -1,4 +1,5 @@
 -- Templates, predicates, and the rows that match T and satisfy the predicate.
+use Prim.Native.Nat.{ℕ}
 use mathlib.Core.Bool.{Bool, true, false, not, _&&_, _||_}
 use mathlib.Core.List.{List, map}
 use Rattle.values.specs.declared.Operand.{Operand}
@@ -6,7 +7,7 @@ use Rattle.values.specs.declared.Order.{Order}
 use Rattle.values.specs.declared.Order.the-variants.{Unlike, Before, Same, After}
 use Rattle.values.specs.declared.Got.{Got}
 use Rattle.values.specs.declared.Got.the-variants.{One}
-use Rattle.values.specs.Lists.{agree, isSome, filter}
+use Rattle.values.specs.Lists.{agree, lookedAt, isSome, filter}
 use Rattle.values.specs.Operands.{Vars, eval, compared, formalOf, bind}
 use Rattle.rows.specs.declared.Test.{Test}
 use Rattle.rows.specs.declared.Test.the-variants.{Always, Equal, Unequal, Less, AtMost}
@@ -27,6 +28,11 @@ matches1 e o g = isSome (formalOf o) || isSame (compared (eval e o) g)
 -- a template matches a row, as long as it, place by place. Its variables are the thread's own, also where one of its formals has the same number
 unfoldable pub matches : Vars → List Operand → Row → Bool
 matches e t r = agree (λ o v. matches1 e o (One v)) t r
+
+-- how many fields are looked at to know it, from the first on: up to and with the first that does not match, else all. Formals count, and operands with no value;
+-- of T and row of unequal length those that both have are looked at
+unfoldable pub looked : Vars → List Operand → Row → ℕ
+looked e t r = lookedAt (λ o v. matches1 e o (One v)) t r
 
 -- the variables for one row: T's formals bound to its values
 abbrev pub rowVars : Vars → List Operand → Row → Vars

@@ -1,10 +1,11 @@
 -- Selectors and tuples prepared for one relation. Only the code speaks of plans: the rules are `hits` and `draftFor`, and laws tie the two.
-use Prim.Native.Nat.{ℕ, suc}
+use Prim.Native.Nat.{ℕ, suc, _<_}
+use mathlib.Core.Path.{_≡_}
 use mathlib.Core.Bool.{Bool, true, false, cond, _&&_, _||_}
 use mathlib.Core.List.{List, [], _∷_}
 use mathlib.Core.Option.{Option, none, some}
 use lib.Dec.{eqb, ltb}
-use lib.ListN.{getD}
+use lib.ListN.{length, getD}
 use Rattle.values.specs.declared.Value.{Value}
 use Rattle.values.specs.declared.Value.the-variants.{Int, Text, Loc}
 use Rattle.values.specs.declared.Got.{Got}
@@ -27,8 +28,8 @@ use Rattle.rows.specs.declared.Wanted.{Wanted}
 use Rattle.rows.specs.declared.Plan.{Plan}
 use Rattle.rows.specs.declared.Operands.{Operands}
 use Rattle.rows.specs.Relations as M
-use Rattle.rows.specs.Matching.{isSame, agrees}
-use Rattle.rows.specs.View.{noCell, noField}
+use Rattle.rows.specs.Matching.{isSame, agrees, matches}
+use Rattle.rows.specs.View.{noCell, noField, operandsOf, valuesOf}
 
 -- ── where a variable's value comes from ──
 
@@ -97,6 +98,19 @@ isAnything (Like g) = false
 
 abbrev pub wantsMet : List Wanted → List Cell → Bool
 wantsMet ws cs = agree (λ (w : Wanted) (c : Cell). meets (w .want) (c .value)) ws cs
+
+-- what the logic reads past an array's end
+abbrev pub noWanted : Wanted
+noWanted = record { want = Anything }
+
+-- the first `n` wants
+abbrev pub wantsIn : ℕ → List Wanted → List Want
+wantsIn n ws = firsts (λ (w : Wanted). w .want) noWanted n ws
+
+-- the wants of T: place by place, and so they are met by exactly the rows that T matches
+pub record WantsAre (e : Vars) (t : Operands) (ws : List Wanted) : Type 0 where
+  pub places : (i : ℕ) → i < 4 → getD ws i noWanted .want ≡ wantAt e t i
+  pub matching : (row : Row) → length (row .cells) ≡ 4 → wantsMet ws (row .cells) ≡ matches e (operandsOf t) (valuesOf (t .count) row)
 
 -- the row's cells are as the plan wants them
 unfoldable pub planHits : Plan → Row → Bool

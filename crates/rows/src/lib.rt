@@ -96,6 +96,12 @@ pub struct Wanted {
     pub want: Want,
 }
 
+// What matching answers: whether the row matches, and how many of its fields were looked at.
+pub struct Matched {
+    pub matches: bool,
+    pub looked: usize,
+}
+
 // A selector prepared for one relation: its operands read the thread's variables once, and not for each row. It is free where any row matches T.
 pub struct Plan {
     pub wants: [Wanted; 4],

@@ -8,6 +8,7 @@ pub mod Firsts
 pub mod FlagLaws
 pub mod Ints
 pub mod ListLaws
+pub mod LookLaws
 pub mod Loops
 pub mod OperandArms
 pub mod PairLaws

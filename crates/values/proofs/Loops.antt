@@ -1,8 +1,10 @@
 -- Loops that test or fold: what is left decides. `t` is what the test of this element answered, `b` or `w` what the whole comes to.
+use Prim.Native.Nat.{ℕ, _+_}
 use mathlib.Core.Path.{_≡_, sym, ap, ap₂, _∙_}
 use mathlib.Core.Bool.{Bool, true, false, _&&_, _||_}
 use mathlib.Core.List.{List, [], _∷_, foldl}
-use Rattle.values.specs.Lists.{all, any, agree}
+use native.Mathlib.Omega.{arith}
+use Rattle.values.specs.Lists.{all, any, agree, lookOn, lookedAt}
 
 -- a test of every element
 module _ {A : Type 0} (p : A → Bool) (b : Bool) {xs : List A} (left : all p xs ≡ b) where
@@ -48,6 +50,21 @@ module _ {A B : Type 0} (p : A → B → Bool) (b : Bool) {xs : List A} {ys : Li
 
   pub agree-ends : xs ≡ [] → ys ≡ [] → true ≡ b
   agree-ends e e′ = sym (ap₂ (agree p) e e′) ∙ left
+
+-- how many places of two lists are looked at: `n` so far
+module _ {A B : Type 0} (p : A → B → Bool) (n w : ℕ) {xs : List A} {ys : List B} (left : n + lookedAt p xs ys ≡ w) where
+  module _ {x : A} {y : B} {xs′ : List A} {ys′ : List B} {t : Bool} (e : xs ≡ x ∷ xs′) (e′ : ys ≡ y ∷ ys′) (q : t ≡ p x y) where
+    here₃ : n + lookOn t (lookedAt p xs′ ys′) ≡ w
+    here₃ = ap (λ (u : Bool). n + lookOn u (lookedAt p xs′ ys′)) q ∙ sym (ap₂ (λ k l. n + lookedAt p k l) e e′) ∙ left
+
+    pub looked-more : t ≡ true → (n + 1) + lookedAt p xs′ ys′ ≡ w
+    looked-more h = omega (arith, sym (ap (λ (u : Bool). n + lookOn u (lookedAt p xs′ ys′)) h) ∙ here₃)
+
+    pub looked-fails : t ≡ false → n + 1 ≡ w
+    looked-fails h = sym (ap (λ (u : Bool). n + lookOn u (lookedAt p xs′ ys′)) h) ∙ here₃
+
+  pub looked-ends : xs ≡ [] → ys ≡ [] → n ≡ w
+  looked-ends e e′ = omega (arith, sym (ap₂ (λ k l. n + lookedAt p k l) e e′) ∙ left)
 
 -- a fold from the left
 module _ {A B : Type 0} (f : B → A → B) (a : B) (w : B) {xs : List A} (left : foldl f a xs ≡ w) where

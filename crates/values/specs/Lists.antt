@@ -16,6 +16,11 @@ abbrev pub nextPlace : Bool → ℕ → ℕ
 nextPlace true n = 0
 nextPlace false n = suc n
 
+-- one looked at, and where its test holds, those after it
+abbrev pub lookOn : Bool → ℕ → ℕ
+lookOn true n = suc n
+lookOn false n = 1
+
 module _ {A : Type 0} where
   abbrev pub isSome : Option A → Bool
   isSome none = false
@@ -80,6 +85,12 @@ module _ {A B : Type 0} where
   agree p [] (b ∷ l) = false
   agree p (a ∷ k) [] = false
   agree p (a ∷ k) (b ∷ l) = p a b && agree p k l
+
+  -- how many places are looked at, from the first on: up to and with the first where the test fails, else all that both lists have
+  abbrev pub lookedAt : (A → B → Bool) → List A → List B → ℕ
+  lookedAt p [] l = 0
+  lookedAt p (a ∷ k) [] = 0
+  lookedAt p (a ∷ k) (b ∷ l) = lookOn (p a b) (lookedAt p k l)
 
   -- the first `n` of an array, each by `f`. As long as `n` says: past the array's end stands `z`, which is also what the logic reads there
   abbrev pub firsts : (A → B) → A → ℕ → List A → List B

@@ -41,7 +41,7 @@ returns : tie.Need-returns
 returns c =
     let s = c .before .before .before .before .before in
     let n : length (s .args .vars) ≡ 16 = search (long, needs) in
-    plan-is (varsOf (s .args .vars)) (s .args .s) (length-map (s .args .vars) (λ (x : Slot). x .held) ∙ n) (s .pre .count) _ (c .before .before .free-wants .result) (c .before .before .before .wants-of .ensures) (c .before .before .free-wants .ensures)
+    plan-is (varsOf (s .args .vars)) (s .args .s) (length-map (s .args .vars) (λ (x : Slot). x .held) ∙ n) (s .pre .count) _ (c .before .before .free-wants .result) (c .before .before .before .wants-of .ensures .matching) (c .before .before .free-wants .ensures)
     (c .before .term-of .ensures) (c .term-of2 .ensures)
 
 pub plan-of-spec : {M : Type 1} → statement M

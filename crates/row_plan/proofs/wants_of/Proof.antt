@@ -3,16 +3,13 @@ use Prim.Native.Nat.{ℕ, zero, suc, _≤_, _<_}
 use mathlib.Core.Path.{_≡_, sym}
 use mathlib.Core.List.{[], _∷_}
 use native.Mathlib.Omega.{arith}
-use lib.ListN.{length, getD}
+use lib.ListN.{getD}
 use borrow.Author.Needs.{needs}
 use Rattle.values.specs.Operands.{Vars, varsOf}
 use Rattle.rows.specs.declared.Operands.{Operands}
 use Rattle.rows.specs.declared.Wanted.{Wanted}
-use Rattle.rows.specs.declared.Row.{Row}
-use Rattle.rows.specs.Matching.{matches}
-use Rattle.rows.specs.View.{operandsOf, valuesOf}
-use Rattle.rows.specs.Plans.{wantAt, wantsMet}
-use Rattle.rows.proofs.PlanLaws.{noWanted, wants-met}
+use Rattle.rows.specs.Plans.{wantAt, noWanted, WantsAre}
+use Rattle.rows.proofs.PlanLaws.{wants-met}
 use Rattle.row_plan.proofs.wants_of.Statement.{statement}
 use Rattle.row_plan.proofs.wants_of.Tie as tie
 
@@ -25,13 +22,13 @@ module _ (e : Vars) (t : Operands) (short : t .count ≤ 4) (w₀ w₁ w₂ w₃
   wants (suc (suc (suc zero))) h = q₃
   wants (suc (suc (suc (suc k)))) h = absurd (omega arith)
 
-  four-met : (row : Row) → length (row .cells) ≡ 4 → wantsMet (w₀ ∷ w₁ ∷ w₂ ∷ w₃ ∷ []) (row .cells) ≡ matches e (operandsOf t) (valuesOf (t .count) row)
-  four-met row l = wants-met e (w₀ ∷ w₁ ∷ w₂ ∷ w₃ ∷ []) (row .cells) (t .fields) (t .count) (sym l) short wants
+  four-are : WantsAre e t (w₀ ∷ w₁ ∷ w₂ ∷ w₃ ∷ [])
+  four-are = record { places = wants; matching = λ row l. wants-met e (w₀ ∷ w₁ ∷ w₂ ∷ w₃ ∷ []) (row .cells) (t .fields) (t .count) (sym l) short wants }
 
 returns : tie.Need-returns
 returns c =
     let s = c .before .before .before .before in
-    four-met (varsOf (s .args .vars)) (s .args .template) (s .pre .count) _ _ _ _ (c .before .before .before .wanted-at .ensures) (c .before .before .wanted-at2 .ensures)
+    four-are (varsOf (s .args .vars)) (s .args .template) (s .pre .count) _ _ _ _ (c .before .before .before .wanted-at .ensures) (c .before .before .wanted-at2 .ensures)
     (c .before .wanted-at3 .ensures) (c .wanted-at4 .ensures)
 
 pub wants-of-spec : {M : Type 1} → statement M

@@ -49,7 +49,7 @@ returns c i =
     settled (ltb i (r .count)) (flagAt (s .args .t3) i) (l .loop .inv .0 .flags i ∙ ap (λ (n : ℕ). ltb i n && (flagAt (s .args .t3) i && wantsMet (l .before .wants-of .result) (getD (r .rows) i noRow .cells))) done)
     (λ e.
     let h = ltb-true i (r .count) e in
-    l .before .wants-of .ensures (getD (r .rows) i noRow) (cells-long r _ (s .good .1 .0) i (omega (arith, h, few)))
+    l .before .wants-of .ensures .matching (getD (r .rows) i noRow) (cells-long r _ (s .good .1 .0) i (omega (arith, h, few)))
     ∙ ap (matches (varsOf (s .args .vars)) (operandsOf (s .args .template))) (row-at r (s .pre .2) h))
 
 pub ready-places-spec : {M : Type 1} → statement M
