@@ -3,6 +3,4 @@ pub mod Agreeing
 pub mod FitLaws
 pub mod Fours
 pub mod Lengths
-pub mod LookingLaws
 pub mod PlanLaws
-pub mod WantLaws

@@ -1,4 +1,4 @@
--- What ties `looked` to `matches`: a row that T matches is looked at whole, and one that it does not match is left at the first field that fails. `left-early` in proofs/LookingLaws proves it.
+-- What ties `looked` to `matches`: a row that T matches is looked at whole, and one that it does not match is left at the first field that fails. `left-early` in row_match's LookingLaws proves it.
 use Prim.Native.Nat.{ℕ, suc, _<_}
 use mathlib.Core.Path.{_≡_}
 use mathlib.Core.Bool.{Bool, true, false}

@@ -1,4 +1,4 @@
--- `row_plan::wanted_at` meets its contract: the test is that of the definition.
+-- `row_match::wanted_at` meets its contract: the test is that of the definition.
 use mathlib.Core.Path.{sym, ap, _∙_}
 use mathlib.Core.Bool.{cond}
 use borrow.Author.Tests.{lt-ltb, le-ltb}
@@ -8,8 +8,8 @@ use Rattle.rows.specs.declared.Want.the-variants.{Anything}
 use Rattle.rows.specs.View.{noField}
 use Rattle.rows.specs.Plans.{wantOf}
 use borrow.Author.Needs.{needs}
-use Rattle.row_plan.proofs.wanted_at.Statement.{statement}
-use Rattle.row_plan.proofs.wanted_at.Tie as tie
+use Rattle.row_match.proofs.wanted_at.Statement.{statement}
+use Rattle.row_match.proofs.wanted_at.Tie as tie
 
 returns : tie.Need-returns
 returns c =

@@ -1,4 +1,4 @@
--- `row_plan::want_of` meets its contract: a formal takes anything, and any other operand what it gives.
+-- `row_match::want_of` meets its contract: a formal takes anything, and any other operand what it gives.
 use mathlib.Core.Path.{_≡_, refl, ap, _∙_}
 use mathlib.Core.List.{[], _∷_}
 use Rattle.values.specs.Operands.{varsOf, eval}
@@ -6,8 +6,8 @@ use Rattle.values.proofs.OperandArms.{other-arm}
 use Rattle.rows.specs.declared.Want.the-variants.{Like}
 use Rattle.rows.specs.Plans.{wantOf}
 use borrow.Author.Needs.{needs}
-use Rattle.row_plan.proofs.want_of.Statement.{statement}
-use Rattle.row_plan.proofs.want_of.Tie as tie
+use Rattle.row_match.proofs.want_of.Statement.{statement}
+use Rattle.row_match.proofs.want_of.Tie as tie
 
 returns-2 : tie.Need-returns-2
 returns-2 c =

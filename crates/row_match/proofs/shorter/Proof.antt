@@ -1,9 +1,9 @@
--- `row_plan::shorter` meets its contract: the test is that of the definition.
+-- `row_match::shorter` meets its contract: the test is that of the definition.
 use mathlib.Core.Path.{sym, ap}
 use mathlib.Core.Bool.{cond}
 use borrow.Author.Tests.{lt-ltb, le-ltb}
-use Rattle.row_plan.proofs.shorter.Statement.{statement}
-use Rattle.row_plan.proofs.shorter.Tie as tie
+use Rattle.row_match.proofs.shorter.Statement.{statement}
+use Rattle.row_match.proofs.shorter.Tie as tie
 
 returns : tie.Need-returns
 returns c =

@@ -1,10 +1,10 @@
--- `row_plan::met` meets its contract: each arm gives what the definition gives at its variant.
+-- `row_match::met` meets its contract: each arm gives what the definition gives at its variant.
 use mathlib.Core.Path.{sym, ap, _∙_}
 use Rattle.rows.specs.Matching.{isSame}
 use Rattle.rows.specs.Plans.{meets}
 use borrow.Author.Needs.{needs}
-use Rattle.row_plan.proofs.met.Statement.{statement}
-use Rattle.row_plan.proofs.met.Tie as tie
+use Rattle.row_match.proofs.met.Statement.{statement}
+use Rattle.row_match.proofs.met.Tie as tie
 
 returns-2 : tie.Need-returns-2
 returns-2 c =

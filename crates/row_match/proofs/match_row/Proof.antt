@@ -1,10 +1,10 @@
--- `row_plan::match_row` meets its contract: the loop over what T and the row both have.
+-- `row_match::match_row` meets its contract: the loop over what T and the row both have.
 use native.Mathlib.Omega.{arith}
 use borrow.Author.Needs.{needs}
 use Rattle.values.specs.Operands.{varsOf}
-use Rattle.rows.proofs.WantLaws.{shorter-first, matched-is}
-use Rattle.row_plan.proofs.match_row.Statement.{statement}
-use Rattle.row_plan.proofs.match_row.Tie as tie
+use Rattle.row_match.proofs.WantLaws.{shorter-first, matched-is}
+use Rattle.row_match.proofs.match_row.Statement.{statement}
+use Rattle.row_match.proofs.match_row.Tie as tie
 
 fields-met-requires : tie.Need-fields-met-requires
 fields-met-requires c κs =

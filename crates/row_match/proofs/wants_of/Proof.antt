@@ -1,4 +1,4 @@
--- `row_plan::wants_of` meets its contract: the four places are those of the template, and anything past them.
+-- `row_match::wants_of` meets its contract: the four places are those of the template, and anything past them.
 use Prim.Native.Nat.{ℕ, zero, suc, _≤_, _<_}
 use mathlib.Core.Path.{_≡_, sym}
 use mathlib.Core.List.{[], _∷_}
@@ -10,8 +10,8 @@ use Rattle.rows.specs.declared.Operands.{Operands}
 use Rattle.rows.specs.declared.Wanted.{Wanted}
 use Rattle.rows.specs.Plans.{wantAt, noWanted, WantsAre}
 use Rattle.rows.proofs.PlanLaws.{wants-met}
-use Rattle.row_plan.proofs.wants_of.Statement.{statement}
-use Rattle.row_plan.proofs.wants_of.Tie as tie
+use Rattle.row_match.proofs.wants_of.Statement.{statement}
+use Rattle.row_match.proofs.wants_of.Tie as tie
 
 module _ (e : Vars) (t : Operands) (short : t .count ≤ 4) (w₀ w₁ w₂ w₃ : Wanted)
     (q₀ : w₀ .want ≡ wantAt e t 0) (q₁ : w₁ .want ≡ wantAt e t 1) (q₂ : w₂ .want ≡ wantAt e t 2) (q₃ : w₃ .want ≡ wantAt e t 3) where

@@ -1,11 +1,11 @@
--- `row_plan::row_matches` meets its contract: the loop over all four places.
+-- `row_match::row_matches` meets its contract: the loop over all four places.
 use mathlib.Core.Path.{_≡_, _∙_}
 use lib.ListN.{length}
 use borrow.Author.Needs.{needs}
 use Rattle.values.proofs.Arrays.{long}
-use Rattle.rows.proofs.WantLaws.{four-met}
-use Rattle.row_plan.proofs.row_matches.Statement.{statement}
-use Rattle.row_plan.proofs.row_matches.Tie as tie
+use Rattle.row_match.proofs.WantLaws.{four-met}
+use Rattle.row_match.proofs.row_matches.Statement.{statement}
+use Rattle.row_match.proofs.row_matches.Tie as tie
 
 wants-long : (s : tie.Start) → length (s .args .wants) ≡ 4
 wants-long s = search (long, needs)

@@ -1,4 +1,4 @@
--- `row_plan::fields_met` meets its contract. The loop's invariant: the fields that are left decide, and with those looked at so far they make the count.
+-- `row_match::fields_met` meets its contract. The loop's invariant: the fields that are left decide, and with those looked at so far they make the count.
 use Prim.Native.Nat.{ℕ, _+_, _-_, _≤_, _<_}
 use mathlib.Core.Path.{_≡_, sym, _∙_}
 use mathlib.Core.List.{List, _∷_}
@@ -13,8 +13,8 @@ use Rattle.rows.specs.declared.Row.{Row}
 use Rattle.rows.specs.declared.Wanted.{Wanted}
 use Rattle.rows.specs.View.{noCell, valuesOf}
 use Rattle.rows.specs.Plans.{meets, wantsIn, noWanted}
-use Rattle.row_plan.proofs.fields_met.Statement.{statement}
-use Rattle.row_plan.proofs.fields_met.Tie as tie
+use Rattle.row_match.proofs.fields_met.Statement.{statement}
+use Rattle.row_match.proofs.fields_met.Tie as tie
 
 abbrev Inv-loop : tie.InvT-loop
 Inv-loop n wants row i₀ i =
