@@ -11,6 +11,8 @@ pub enum Printer {
     Netsums,
     /// The tables left, each as a page.
     Netpage,
+    /// The fields looked at, by the threads, templates and tables left.
+    Looked,
 }
 
 /// A case of netrun with the text of this program.
@@ -19,6 +21,7 @@ pub fn expected(case: Case, of: Printer) -> Case {
         Printer::Netrun => case,
         Printer::Netsums => Case { text: summed(&case.text), ..case },
         Printer::Netpage => Case { text: engine::netpage(&case.file), ..case },
+        Printer::Looked => Case { text: engine::looked(&case.file), ..case },
     }
 }
 
@@ -26,11 +29,13 @@ pub fn expected(case: Case, of: Printer) -> Case {
 mod tests {
     use super::{expected, Printer};
     use crate::cases::Case;
-    use generate::record::{file, int, row, table, INT};
+    use generate::record::*;
 
     #[test]
     fn each_program_has_its_own_text_for_a_file() {
-        let file = file(&[table(0, b"CARD", &[INT]), row(0, b"CARD", &[int(-7)])]);
+        let template = node(DELETE, END).name(b"CARD").at(loc(0)).template(&[formal(0), int(7)]);
+        let still = [table(0, b"CARD", &[INT]), row(0, b"CARD", &[int(-7)])];
+        let file = file(&[&still[..], &[template, start(0, 0)]].concat());
         let run = "table 0 CARD 1\nrow -7\n";
         let cell = "           -7                                       \n";
         let pages = format!("table 0 CARD 1\n{cell}{cell}");
@@ -39,6 +44,7 @@ mod tests {
             (Printer::Netrun, run),
             (Printer::Netsums, "run 0 0\ntable 0 CARD 1\nrow -7\n"),
             (Printer::Netpage, &pages),
+            (Printer::Looked, "looked 0 0 0 1-\n"),
         ] {
             let text = expected(case.clone(), of).text;
             assert_eq!(String::from_utf8_lossy(&text), wanted, "{of:?}");

@@ -1,4 +1,5 @@
-//! Holds a netrun, netsums or netpage program, and the second engine itself, to known texts.
+//! Holds a netrun, netsums or netpage program, or one that prints the fields looked at, and the
+//! second engine itself, to known texts.
 #![forbid(unsafe_code)]
 
 pub mod cases;

@@ -1,5 +1,5 @@
-//! Runs a netrun, netsums or netpage program on generated files and stored examples and compares
-//! byte for byte.
+//! Runs a netrun, netsums or netpage program, or one that prints the fields looked at, on generated
+//! files and stored examples and compares byte for byte.
 
 use compare::cases::{generated, stored, stored_pages, Case};
 use compare::expected::{expected, Printer};
@@ -13,7 +13,7 @@ use std::{env, io};
 
 const HELP: &str = "\
 usage: compare [PROGRAM] [--from SEED] [--count N] [--class CLASS] [--sweep TURNS]
-               [--examples DIR] [--jobs N] [--show N] [--sums | --pages]
+               [--examples DIR] [--jobs N] [--show N] [--sums | --pages | --looked]
 
 Runs PROGRAM once for each file, with the file on standard input, and compares what it
 prints with the second engine's text. Ends with status 1 where anything differs.
@@ -28,6 +28,8 @@ prints with the second engine's text. Ends with status 1 where anything differs.
   --sums           PROGRAM runs all picks as one run: hold it to the sums of the counts and the tables
   --pages          PROGRAM prints the tables left as pages: hold it to the second engine's, and the
                    second engine to DIR's NAME.page
+  --looked         PROGRAM prints how many fields of each row left each template looks at, under the
+                   variables of each thread left: hold it to the second engine's
 ";
 
 struct Options {
@@ -81,9 +83,12 @@ fn options(mut arguments: impl Iterator<Item = OsString>) -> Option<Options> {
             Some("--sweep") => options.sweep = number()?,
             Some("--jobs") => options.jobs = number()?.max(1) as usize,
             Some("--show") => options.show = number()? as usize,
-            Some("--sums" | "--pages") if options.printer != Printer::Netrun => return None,
+            Some("--sums" | "--pages" | "--looked") if options.printer != Printer::Netrun => {
+                return None
+            }
             Some("--sums") => options.printer = Printer::Netsums,
             Some("--pages") => options.printer = Printer::Netpage,
+            Some("--looked") => options.printer = Printer::Looked,
             Some("--class") => options.class = arguments.next()?.into_string().ok()?,
             Some("--examples") => options.examples = Some(arguments.next()?.into()),
             Some(unknown) if unknown.starts_with("--") => return None,

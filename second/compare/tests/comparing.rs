@@ -53,6 +53,26 @@ fn a_wrong_page_differs_with_the_line_that_shows_it() {
     assert!(first.contains(": expected \"            "), "{first}");
 }
 
+fn looked(place: u64) -> Case {
+    expected(mixed(place), Printer::Looked)
+}
+
+#[test]
+fn the_engine_agrees_with_its_own_looks() {
+    let report = compare(300, 2, looked, |file| Ok(engine::looked(file)));
+    assert_eq!((report.agreed, report.differed()), (300, 0));
+}
+
+#[test]
+fn a_wrong_count_differs_with_the_line_that_shows_it() {
+    let wrong = |file: &[u8]| Ok(Quirk::LookFailingUncounted.during(|| engine::looked(file)));
+    let mut report = compare(300, 2, looked, wrong);
+    assert!(report.differed() > 0);
+    let first = report.first(1).next().expect("a difference").to_owned();
+    assert!(first.starts_with("generate --class mixed --seed "), "{first}");
+    assert!(first.contains(": expected \"looked "), "{first}");
+}
+
 #[test]
 fn stored_examples_are_those_computed_by_hand() {
     agree(directory(), examples::all());
@@ -109,10 +129,19 @@ fn with_pages_the_program_holds_the_engine_to_stored_pages_too() {
     assert_eq!(text, format!("{} agreed, 0 differed\n", all.len() + pages));
 }
 
-/// `compare` itself is no netrun, netsums or netpage: without arguments it fails.
+/// The texts about looks are not stored.
+#[test]
+fn with_looked_the_program_holds_the_engine_to_stored_examples() {
+    let directory = directory().to_str().expect("a path that reads");
+    let (success, text) = run(&["--examples", directory, "--looked"]);
+    assert!(success, "{text}");
+    assert_eq!(text, format!("{} agreed, 0 differed\n", examples::all().len()));
+}
+
+/// `compare` itself is none of these programs: without arguments it fails.
 #[test]
 fn the_program_counts_a_failing_program_as_different() {
-    for printer in [&[][..], &["--sums"], &["--pages"]] {
+    for printer in [&[][..], &["--sums"], &["--pages"], &["--looked"]] {
         let (success, text) =
             run(&[&[env!("CARGO_BIN_EXE_compare"), "--count", "3"], printer].concat());
         assert!(!success);
@@ -121,8 +150,10 @@ fn the_program_counts_a_failing_program_as_different() {
 }
 
 #[test]
-fn a_program_prints_sums_or_pages_but_not_both() {
-    let (success, text) = run(&["true", "--count", "0", "--sums", "--pages"]);
-    assert!(!success);
-    assert_eq!(text, "");
+fn a_program_prints_sums_or_pages_or_looks_but_no_two() {
+    for two in [["--sums", "--pages"], ["--pages", "--looked"], ["--looked", "--sums"]] {
+        let (success, text) = run(&[&["true", "--count", "0"], &two[..]].concat());
+        assert!(!success);
+        assert_eq!(text, "");
+    }
 }

@@ -41,6 +41,16 @@ fn generated_files_tell_wrong_pages_apart() {
     }
 }
 
+/// How many fields were looked at is no matter to netrun.
+#[test]
+fn generated_files_tell_wrong_looks_apart() {
+    let (runs, looks) = (cases(engine::netrun), cases(engine::looked));
+    for quirk in Quirk::OF_LOOKS {
+        assert!(differs(quirk, &looks, engine::looked), "{quirk:?} looks right on {FILES} files");
+        assert!(!differs(quirk, &runs, engine::netrun), "{quirk:?} shows in netrun's text");
+    }
+}
+
 /// Those are held to the right engine net by net, in `wrong_rounds.rs`.
 #[test]
 fn no_text_shows_what_only_a_net_shows() {
@@ -69,6 +79,17 @@ fn stored_pages_tell_wrong_pages_apart() {
     let cases: Vec<_> = stored.into_iter().map(|page| (page.file, page.text)).collect();
     for quirk in Quirk::OF_PAGES {
         assert!(differs(quirk, &cases, engine::netpage), "{quirk:?} looks right on the examples");
+    }
+}
+
+/// Their looks are not stored: the right engine says what they are.
+#[test]
+fn stored_examples_tell_wrong_looks_apart() {
+    let stored = stored(directory()).expect("the stored examples");
+    let looked = |file: Vec<u8>| (file.clone(), engine::looked(&file));
+    let cases: Vec<_> = stored.into_iter().map(|run| looked(run.file)).collect();
+    for quirk in Quirk::OF_LOOKS {
+        assert!(differs(quirk, &cases, engine::looked), "{quirk:?} looks right on the examples");
     }
 }
 

@@ -13,6 +13,7 @@ mod net;
 pub mod number;
 mod operand;
 mod page;
+mod pattern;
 mod print;
 pub mod program;
 pub mod quirk;
@@ -32,7 +33,8 @@ pub use net::{
 };
 pub use operand::{Operand, Operands};
 pub use page::page;
-pub use print::{netpage, netrun};
+pub use pattern::{look, Look};
+pub use print::{looked, netpage, netrun};
 pub use record::{decode, Record, SIZE as RECORD_SIZE};
 pub use relation::{Columns, Relation, Row};
 pub use sound::sound;

@@ -4,9 +4,9 @@ use crate::kept::{bring_back_late, keep, keep_anew, keeps};
 use crate::net::{Entry, Loop, Places, Thread, Variables, THREADS};
 use crate::number;
 use crate::operand::Operand;
+use crate::pattern::Pattern;
 use crate::quirk::{wrong, Quirk};
 use crate::relation::Row;
-use crate::term::Pattern;
 use crate::value::Value;
 
 /// Opens a round for the row place, or says that the loop is over: no row to visit matches.

@@ -238,4 +238,21 @@ impl Act {
             Act::Loop(Loop { parallel: true, .. }) => 26,
         }
     }
+
+    /// The template T of rows, where the kind has one. What an aggregate's result is matched with
+    /// is no such template.
+    pub fn template(&self) -> Option<&Operands> {
+        match self {
+            Act::Delete { filter, .. }
+            | Act::Select { filter, .. }
+            | Act::SelectVariable { filter, .. }
+            | Act::Update { filter, .. }
+            | Act::Aggregate { filter, .. } => Some(&filter.template),
+            Act::Loop(looping) => Some(&looping.template),
+            Act::Insert { .. }
+            | Act::InsertTable { .. }
+            | Act::Create { .. }
+            | Act::Drop { .. } => None,
+        }
+    }
 }

@@ -1,8 +1,9 @@
-//! The texts that netrun and netpage print.
+//! The texts that netrun and netpage print, and one about the looks at rows.
 
 use crate::load::load;
 use crate::net::{Net, Pick, Table};
 use crate::page::{page, LONGEST};
+use crate::pattern::Pattern;
 use crate::quirk::{wrong, Quirk};
 use crate::step::{run, Answer};
 use crate::value::Value;
@@ -23,6 +24,15 @@ pub fn netpage(file: &[u8]) -> Vec<u8> {
             run(net, picks);
         }
         print_pages(net, out)
+    })
+}
+
+/// Loads a file, runs its picks and gives for each thread left, each template of the file and each
+/// table left how many fields of each row are looked at, and whether the row matches.
+pub fn looked(file: &[u8]) -> Vec<u8> {
+    text_of(file, |net, picks, out| {
+        run(net, picks);
+        print_looks(net, out)
     })
 }
 
@@ -85,4 +95,29 @@ fn print_pages(net: &Net, out: &mut Vec<u8>) -> io::Result<()> {
         out.write_all(&lent[..length.expect("a table of a sound net, and room for any page")])?;
     }
     Ok(())
+}
+
+fn print_looks(net: &Net, out: &mut Vec<u8>) -> io::Result<()> {
+    for (thread_place, thread) in net.threads.iter().enumerate() {
+        for (number, node) in net.nodes.iter().enumerate() {
+            let Some(template) = node.act.template() else {
+                continue;
+            };
+            let pattern = Pattern::unjudged(template, &thread.variables);
+            for (place, table) in net.tables.iter().enumerate() {
+                write!(out, "looked {thread_place} {number} {place}")?;
+                print_looks_at(table, &pattern, out)?;
+            }
+        }
+    }
+    Ok(())
+}
+
+/// The looks at a table's rows, to the end of the line.
+fn print_looks_at(table: &Table, pattern: &Pattern, out: &mut Vec<u8>) -> io::Result<()> {
+    for row in table.relation.rows.iter() {
+        let look = pattern.look(row);
+        write!(out, " {}{}", look.fields, if look.matches { '+' } else { '-' })?;
+    }
+    writeln!(out)
 }

@@ -1,4 +1,4 @@
-//! Thirty-five wrong engines, to show that the generated files tell them apart.
+//! Forty wrong engines, to show that the generated files tell them apart.
 //! Without the feature `quirks` nothing of them is left in the program.
 
 /// One way of reading the rules wrongly.
@@ -74,6 +74,16 @@ pub enum Quirk {
     PageBeforePicks,
     /// A minus sign stands first in its cell, before the blanks.
     PageSignApart,
+    /// The field that fails is not counted among those looked at.
+    LookFailingUncounted,
+    /// Formals are not counted among the fields looked at.
+    LookFormalsUncounted,
+    /// All fields are counted, also where an earlier one fails.
+    LookAllCounted,
+    /// Fields are looked at from the last on.
+    LookFromLast,
+    /// Formals are looked at after all other fields.
+    LookConstantsFirst,
 }
 
 #[cfg(not(feature = "quirks"))]
@@ -144,6 +154,15 @@ mod switch {
             Quirk::PageSumLeft,
             Quirk::PageBeforePicks,
             Quirk::PageSignApart,
+        ];
+
+        /// Those that only the counts of fields looked at show.
+        pub const OF_LOOKS: [Quirk; 5] = [
+            Quirk::LookFailingUncounted,
+            Quirk::LookFormalsUncounted,
+            Quirk::LookAllCounted,
+            Quirk::LookFromLast,
+            Quirk::LookConstantsFirst,
         ];
 
         /// Runs `work` with the engine of this thread gone wrong.

@@ -5,6 +5,7 @@ use crate::list::List;
 use crate::net::{Filter, Test, Variables};
 use crate::number;
 use crate::operand::{formal_column, Operand};
+use crate::pattern::Pattern;
 use crate::quirk::{wrong, Quirk};
 use crate::relation::{Columns, Row};
 use crate::value::{Kind, Value};
@@ -102,48 +103,6 @@ impl Terms {
     /// Leaves only the components that read the row.
     pub fn drop_fixed(&mut self) {
         self.0.retain(|term| !matches!(term, Term::Fixed(_)));
-    }
-}
-
-/// A place of a template: a formal matches anything.
-#[derive(Clone, Copy, Default)]
-enum Cell {
-    #[default]
-    Any,
-    Equal(Option<Value>),
-}
-
-/// A template T.
-pub struct Pattern(List<Cell, 4>);
-
-impl Pattern {
-    pub fn new(template: &[Operand], variables: &Variables) -> Result<Pattern, u8> {
-        let mut cells = List::default();
-        for operand in template {
-            cells.push(match *operand {
-                Operand::Formal(v) => match variables[usize::from(v)] {
-                    old @ Some(_) if wrong(Quirk::OldBindings) => Cell::Equal(old),
-                    _ => Cell::Any,
-                },
-                operand => Cell::Equal(read(operand, variables)?),
-            });
-        }
-        Ok(Pattern(cells))
-    }
-
-    /// Refuses a template whose length differs from the columns.
-    pub fn suits(&self, columns: &Columns) -> Result<(), u8> {
-        if self.0.len() == columns.len() {
-            return Ok(());
-        }
-        Err(number::MISFIT)
-    }
-
-    pub fn matches(&self, row: &[Value]) -> bool {
-        self.0.iter().zip(row).all(|(cell, value)| match cell {
-            Cell::Any => true,
-            Cell::Equal(wanted) => wanted.is_some_and(|wanted| wanted.matches(*value)),
-        })
     }
 }
 

@@ -1,5 +1,5 @@
-//! The programs second-netrun and second-netpage, which have names of their own beside the proved
-//! ones.
+//! The programs second-netrun, second-netpage and second-looked, which have names of their own
+//! beside the proved ones.
 
 use generate::examples::all;
 use std::io::Write;
@@ -7,6 +7,7 @@ use std::process::{Command, Stdio};
 
 const NETRUN: &str = env!("CARGO_BIN_EXE_second-netrun");
 const NETPAGE: &str = env!("CARGO_BIN_EXE_second-netpage");
+const LOOKED: &str = env!("CARGO_BIN_EXE_second-looked");
 
 /// What a program prints for the file of an example.
 fn printed(program: &str, name: &str) -> String {
@@ -41,18 +42,26 @@ fn netpage_prints_the_page_of_that_run() {
     assert_eq!(printed(NETPAGE, "k-printed-run"), text.concat());
 }
 
+/// The one T has a formal and then a variable that nothing has bound.
+#[test]
+fn looked_prints_the_looks_at_two_rows_and_at_none() {
+    assert_eq!(printed(LOOKED, "12-template"), "looked 0 0 0 2- 2-\nlooked 0 0 1\n");
+}
+
 #[test]
 fn a_refused_file_prints_one_line() {
-    for program in [NETRUN, NETPAGE] {
+    for program in [NETRUN, NETPAGE, LOOKED] {
         assert_eq!(printed(program, "07-kind"), "load 7 at 1\n");
     }
 }
 
 #[test]
 fn they_say_by_their_own_names_how_to_call_them() {
-    for (program, usage) in
-        [(NETRUN, "usage: second-netrun < FILE\n"), (NETPAGE, "usage: second-netpage < FILE\n")]
-    {
+    for (program, usage) in [
+        (NETRUN, "usage: second-netrun < FILE\n"),
+        (NETPAGE, "usage: second-netpage < FILE\n"),
+        (LOOKED, "usage: second-looked < FILE\n"),
+    ] {
         let output = Command::new(program).arg("a.net").output().expect("it starts");
         assert_eq!(output.status.code(), Some(2));
         assert!(output.stdout.is_empty());

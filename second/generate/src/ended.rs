@@ -2,7 +2,7 @@
 
 use crate::reads;
 use engine::{
-    step_sound, Act, Answer, Bindings, Entry, Loop, Net, Node, Operand, Pick, Places, Thread,
+    look, step_sound, Act, Answer, Bindings, Entry, Loop, Net, Node, Operand, Pick, Places, Thread,
 };
 
 /// What the sorts are counted among.
@@ -270,17 +270,8 @@ fn ready(bindings: &Bindings, looping: &Loop, left: Places) -> Vec<u8> {
     let Some(source) = &bindings.tables[usize::from(looping.read)] else {
         return Vec::new();
     };
-    let value = |operand: &Operand| match *operand {
-        Operand::Constant(value) => Some(value),
-        Operand::Variable(v) => bindings.variables[usize::from(v)],
-        Operand::Plus(v, more) => bindings.variables[usize::from(v)]?.plus(more),
-        Operand::Formal(_) => None,
-    };
     let matches = |place: &u8| {
-        let row = source.rows[usize::from(*place)].iter();
-        looping.template.iter().zip(row).all(|(operand, field)| {
-            operand.is_formal() || value(operand).is_some_and(|value| value.matches(*field))
-        })
+        look(&looping.template, &bindings.variables, &source.rows[usize::from(*place)]).matches
     };
     left.iter().filter(matches).collect()
 }

@@ -5,6 +5,8 @@ mod anew;
 mod damage;
 mod ended;
 pub mod examples;
+mod late;
+mod looks;
 mod program;
 mod random;
 mod reads;

@@ -1,5 +1,5 @@
-//! Writes generated files, or says how often each number, each kind done, each sort of round end and
-//! each sort of page occurs in them.
+//! Writes generated files, or says how often each number, each kind done, each sort of round end,
+//! each sort of page and each sort of look at a row occurs in them.
 
 use generate::examples::{self, Example};
 use generate::stats::Stats;
@@ -15,8 +15,9 @@ usage: generate [--class CLASS] --seed SEED
        generate --shown DIR
 
   --seed SEED      write the file of a seed on standard output
-  --stats          count the numbers, the kinds done, the sorts of round ends and of pages in the
-                   files of a row of seeds, and hold the engine to demand 3 on each accepted one
+  --stats          count the numbers, the kinds done, the sorts of round ends, of pages and of looks
+                   at rows in the files of a row of seeds, and hold the engine to demand 3 on each
+                   accepted one
   --examples DIR   write the examples computed by hand as NAME.net and NAME.out, and NAME.page
                    where the text of netpage was computed too
   --shown DIR      write the few of them that the repository shows

@@ -1,7 +1,8 @@
-//! How often each number, each kind done, each sort of round end and each sort of page occurs in
-//! generated files.
+//! How often each number, each kind done, each sort of round end, each sort of page and each sort of
+//! look at a row occurs in generated files.
 
 use crate::ended::{Before, Ended};
+use crate::looks::Looks;
 use crate::standing::Standing;
 use crate::{file, Class};
 use engine::{accounts, load, step_sound, Answer, Entry, Net, Pick};
@@ -23,6 +24,8 @@ pub struct Stats {
     ended: Ended,
     /// The tables that the picks left.
     standing: Standing,
+    /// Looks at the rows of these tables.
+    looks: Looks,
     /// The first files on which demand 3 is broken.
     broken: Vec<String>,
 }
@@ -97,6 +100,7 @@ impl Stats {
             }
         }
         self.standing.count(&net);
+        self.looks.count(&net);
     }
 
     fn count_limits(&mut self, net: &Net, depth: usize) {
@@ -144,6 +148,11 @@ impl Stats {
     pub fn page_shares(&self) -> impl Iterator<Item = f64> + '_ {
         self.standing.sorts().map(|(_, count)| share(count, self.standing.tables))
     }
+
+    /// The share of each sort of look among its own, in percent.
+    pub fn look_shares(&self) -> impl Iterator<Item = f64> + '_ {
+        self.looks.sorts().into_iter().map(|(_, count, of)| share(count, of))
+    }
 }
 
 /// The threads of the net and the stack entries of the one picked.
@@ -185,6 +194,11 @@ impl fmt::Display for Stats {
         line("tables standing".into(), self.standing.tables, self.standing.tables)?;
         for (name, count) in self.standing.sorts() {
             line(format!("page with {name}"), count, self.standing.tables)?;
+        }
+        line("accepted with looks".into(), self.looks.nets, self.accepted)?;
+        line("looks at rows".into(), self.looks.all(), self.looks.all())?;
+        for (name, count, of) in self.looks.sorts() {
+            line(name, count, of)?;
         }
         self.broken.iter().take(10).try_for_each(|broken| writeln!(f, "broken: {broken}"))?;
         writeln!(f, "demand 3 broken {} times", self.broken.len())

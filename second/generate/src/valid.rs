@@ -1,5 +1,6 @@
 //! Files that load, with picks that find something to do.
 
+use crate::late::late;
 use crate::program::Theme;
 use crate::random::Random;
 use crate::record::{file, pick, start, Record, END};
@@ -10,6 +11,8 @@ use engine::{step_sound, Net, Pick};
 
 const RECORDS: usize = 256;
 
+const START: u8 = 32;
+
 /// A file of at most 256 records with at most this many picks.
 pub fn valid(random: &mut Random, picks: usize) -> Vec<u8> {
     let mut records = net(random);
@@ -17,8 +20,12 @@ pub fn valid(random: &mut Random, picks: usize) -> Vec<u8> {
     let (mut net, _) = engine::load(&file(&records)).expect("a net written to load");
     let chosen = match random.chance(95) {
         true => guided(random, &mut net, count),
-        false => (0..count).map(|_| pick(random.below(5) as u8, random.byte() & 0x1F)).collect(),
+        false => blind(random, &mut net, count),
     };
+    let late = late(random, &net, RECORDS - records.len() - chosen.len());
+    let starts = records.iter().position(|record| record.kind() == START);
+    let end = starts.unwrap_or(records.len());
+    records.splice(end..end, late);
     records.extend(chosen);
     file(&records)
 }
@@ -127,6 +134,17 @@ fn guided(random: &mut Random, net: &mut Net, count: usize) -> Vec<Record> {
         }
     }
     picks
+}
+
+/// Picks of any threads and rows.
+fn blind(random: &mut Random, net: &mut Net, count: usize) -> Vec<Record> {
+    let any = |_| {
+        let choice = Pick { thread: random.below(5) as u8, row: random.byte() & 0x1F };
+        // Refused or not, it is one of the picks.
+        let _ = step_sound(net, choice);
+        pick(choice.thread, choice.row)
+    };
+    (0..count).map(any).collect()
 }
 
 fn choice(random: &mut Random, threads: usize) -> Pick {

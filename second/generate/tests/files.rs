@@ -35,6 +35,12 @@ fn no_sort_of_page_is_rare_among_valid_files() {
 }
 
 #[test]
+fn no_sort_of_look_is_rare_among_valid_files() {
+    let stats = Stats::of(Class::Valid, 0..3_000);
+    assert!(stats.look_shares().all(|share| share >= SHARE), "{stats}");
+}
+
+#[test]
 fn no_fault_is_rare_among_damaged_files() {
     let stats = Stats::of(Class::Damaged, 0..3_000);
     assert!(stats.balanced(), "{stats}");
