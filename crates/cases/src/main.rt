@@ -11,6 +11,7 @@ use row_change::appending::push;
 use row_change::sifting::count_marks;
 use row_change::sifting::sifted;
 use row_columns::selected_kinds;
+use row_match::match_row;
 use row_plan::plan_of;
 use row_sweep::swept;
 use row_terms::terms_of;
@@ -191,6 +192,23 @@ fn print_got(g: Got) {
     }
 }
 
+// How many fields of each row matching looks at.
+fn print_looks(r: Relation, template: Operands)
+    requires { ⌜ Shaped r × Short template ⌝ }
+{
+    io::write_all(STDOUT_FILENO, b"fields looked at");
+    let vars = nothing_bound();
+    let mut i: usize = 0;
+    while i < r.count {
+        let row = r.rows[i];
+        let m = match_row(template, vars, r.columns, row);
+        io::write_all(STDOUT_FILENO, b" ");
+        io::print_decimal(STDOUT_FILENO, m.looked as u64);
+        i += 1;
+    }
+    io::write_all(STDOUT_FILENO, b"\n");
+}
+
 // ---- the cases
 
 // Example 4: the shoes that are not red; their colour, size and sales.
@@ -230,6 +248,7 @@ fn not_red(r: Relation)
         count: r.count,
     };
     print_rows(sifted(made, flags, true));
+    print_looks(r, template);
 }
 
 // Example 6: the sum of the sales of shoe 001.
@@ -247,6 +266,7 @@ fn sales(r: Relation)
     let s = selector(template, Test::Always, Operand::Absent, Operand::Absent);
     let taken = sifted(r, marked(r, s), true);
     print_got(aggregate(Function::Sum, 3, taken));
+    print_looks(r, template);
 }
 
 // Examples 2 and 3: white inserted, and deleted by "White".
@@ -269,6 +289,7 @@ fn white(r: Relation)
     let taken = sifted(more, flags, true);
     io::write_all(STDOUT_FILENO, b"deleted by White\n");
     print_rows(taken);
+    print_looks(more, template);
     io::write_all(STDOUT_FILENO, b"left\n");
     print_rows(kept);
 }
@@ -307,6 +328,7 @@ fn sold(r: Relation)
     io::print_decimal(STDOUT_FILENO, count_marks(flags) as u64);
     io::write_all(STDOUT_FILENO, b"\n");
     print_rows(next);
+    print_looks(r, template);
 }
 
 fn main() {

@@ -10,6 +10,9 @@ replaced-requires c κs =
     let o = c .before .before .before .before in
     (c .before .before .before .before .before .before .before .before .pre .shaped, short (o .selector .ensures) (o .before .operands .ensures .1), record { count = omega (arith, c .before .before .before .operands2 .ensures .1) })
 
+print-looks-requires : tie.Need-print-looks-requires
+print-looks-requires c κs = (c .before .before .before .before .before .before .before .before .before .before .before .before .before .pre .shaped, record { count = omega (arith, c .before .before .before .before .before .before .before .before .before .before .operands .ensures .1) })
+
 pub not-red-spec : {M : Type 1} → statement M
 not-red-spec =
     tie.close
@@ -24,4 +27,5 @@ not-red-spec =
     replaced-requires
     (λ c κs. search needs)
     (λ c κs. search needs)
+    print-looks-requires
     (λ c. search needs))

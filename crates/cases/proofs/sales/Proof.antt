@@ -1,4 +1,5 @@
 -- `cases::sales` meets what it calls: the template has four operands, and column 3 is an Int.
+use native.Mathlib.Omega.{arith}
 use Rattle.cases.proofs.Tables.{short, like, sales-column}
 use borrow.Author.Needs.{needs}
 use Rattle.cases.proofs.sales.Statement.{statement}
@@ -9,6 +10,9 @@ marked-requires c κs = (c .before .before .before .before .pre .shaped, short (
 
 aggregate-requires : tie.Need-aggregate-requires
 aggregate-requires c κs = (c .sifted .ensures .shaped, sales-column (like (c .before .before .before .before .before .before .pre) (c .sifted .ensures)))
+
+print-looks-requires : tie.Need-print-looks-requires
+print-looks-requires c κs = (c .before .before .before .before .before .before .before .before .pre .shaped, record { count = omega (arith, c .before .before .before .before .before .operands .ensures .1) })
 
 pub sales-spec : {M : Type 1} → statement M
 sales-spec =
@@ -22,4 +26,5 @@ sales-spec =
     (λ c κs. search needs)
     aggregate-requires
     (λ c κs. search needs)
+    print-looks-requires
     (λ c. search needs))
