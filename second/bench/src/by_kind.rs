@@ -31,7 +31,7 @@ fn row(kind: Kind) -> Vec<String> {
     let chain = Chain::new(kind);
     chain.check_left();
     let [second, proved] = chain.steps();
-    let [second_sound, proved_sound] = chain.sound_steps();
+    let [second_sound, proved_sound] = sound_steps(&chain.files, &chain.picks);
     let name = vec![kind.name.to_string()];
     [name, beside(second, proved), beside(second_sound, proved_sound)].concat()
 }
@@ -41,7 +41,6 @@ struct Chain {
     files: Files,
     start: Net,
     picks: Vec<Pick>,
-    bytes: Vec<u8>,
 }
 
 impl Chain {
@@ -49,8 +48,7 @@ impl Chain {
         let files = files(kind);
         let start = files.start();
         let picks = chain::picks(kind);
-        let bytes = done::bytes(&picks);
-        Chain { kind, files, start, picks, bytes }
+        Chain { kind, files, start, picks }
     }
 
     fn check_left(&self) {
@@ -73,19 +71,19 @@ impl Chain {
         });
         best(ROUNDS, [Some(second), proved])
     }
+}
 
-    /// Soundness tested before the picks alone, which runs over no picks do too.
-    fn sound_steps(&self) -> [Option<f64>; 2] {
-        let units = SOUND_TURNS * self.picks.len() as u64;
-        let chains = |picks| second::steps(&self.start, picks, SOUND_TURNS, step_sound);
-        let answers = chains(&self.picks);
-        let second = Work::new("second step_sound", units, answers, move || chains(&self.picks))
-            .without(move || chains(&[]));
-        let proved = proved::on(&self.files).map(|code| {
-            let left = second::runs(&self.start, &self.picks, SOUND_TURNS);
-            Work::new("run_bytes", units, left, move || code.bytes(&self.bytes, SOUND_TURNS))
-                .without(move || code.bytes(&[], SOUND_TURNS))
-        });
-        best(ROUNDS, [Some(second), proved])
-    }
+/// A pick where soundness is tested before the picks alone, which runs over no picks do too.
+pub fn sound_steps(files: &Files, picks: &[Pick]) -> [Option<f64>; 2] {
+    let (start, bytes) = (files.start(), done::bytes(picks));
+    let units = SOUND_TURNS * picks.len() as u64;
+    let chains = |picks| second::steps(&start, picks, SOUND_TURNS, step_sound);
+    let second = Work::new("second step_sound", units, chains(picks), || chains(picks))
+        .without(|| chains(&[]));
+    let proved = proved::on(files).map(|code| {
+        let (left, bytes) = (second::runs(&start, picks, SOUND_TURNS), &bytes);
+        Work::new("run_bytes", units, left, move || code.bytes(bytes, SOUND_TURNS))
+            .without(move || code.bytes(&[], SOUND_TURNS))
+    });
+    best(ROUNDS, [Some(second), proved])
 }

@@ -7,6 +7,7 @@ mod calls;
 mod chain;
 mod clock;
 mod done;
+mod left_early;
 mod loads;
 mod nets;
 mod programs;
@@ -26,6 +27,7 @@ fn main() {
     let update = sqlite::update_time();
     let mut sections = vec![
         by_kind::section(),
+        left_early::section(),
         runs::section(),
         calls::section(update),
         programs::section(),

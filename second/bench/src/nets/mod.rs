@@ -1,6 +1,7 @@
 //! Nets at the limits, as files, which both engines load.
 
 pub mod kinds;
+pub mod left_early;
 pub mod mixed;
 pub mod nested;
 mod parts;

@@ -16,6 +16,15 @@ pub fn aliases() -> Vec<Record> {
 
 /// So many tables and then their rows; `rows` says how many each one has.
 pub fn tables(count: u8, rows: impl Fn(u8) -> u8) -> Vec<Record> {
+    tables_of(count, rows, values)
+}
+
+/// The same with other values.
+pub fn tables_of(
+    count: u8,
+    rows: impl Fn(u8) -> u8,
+    values: fn(u8) -> [Operand; 4],
+) -> Vec<Record> {
     let heads = (0..count).map(|place| table(0, &name(place), &COLUMNS));
     let row_of = |place: u8| move |row: u8| record::row(0, &name(place), &values(row));
     let bodies = (0..count).flat_map(|place| (0..rows(place)).map(row_of(place)));

@@ -2,5 +2,6 @@
 
 mod chains;
 mod files;
+mod left_early;
 mod runs;
 mod works;
