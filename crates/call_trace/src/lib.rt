@@ -4,11 +4,11 @@ use call_moment::put_moment;
 use call_rules::Reply;
 use call_run::run_picks;
 use nets::Net;
+use values::counts::smaller;
 ghost use mathlib.Core.Path.{_≡_};
 ghost use mathlib.Core.List.{_++_};
 ghost use Prim.Native.Nat.{_*_, _≤_};
-ghost use mathlib.Core.Bool.{cond};
-ghost use lib.Dec.{T, ltb};
+ghost use lib.Dec.{T};
 ghost use lib.ListN.{length, drop};
 ghost use Rattle.nets.specs.Sound.{sound};
 ghost use Rattle.nets.specs.View.{view};
@@ -38,13 +38,6 @@ fn put_trace(out: &mut [u8], start: Net, picks: &[u8]) -> usize
         i += 1;
     }
     at
-}
-
-// The smaller of two counts.
-fn smaller(a: usize, b: usize) -> usize
-    ensures { λ r. ⌜ r ≡ cond (ltb a b) a b ⌝ }
-{
-    if a < b { a } else { b }
 }
 
 // From the net after the first `from` picks on, or after all of them where there are fewer.

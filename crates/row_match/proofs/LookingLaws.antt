@@ -1,35 +1,34 @@
--- `looked` and `matches`: a row is looked at whole or left at the first field that fails; never is more looked at than T and the row both have. Assumes nothing.
-use Prim.Native.Nat.{_≤_}
-use mathlib.Core.Path.{_≡_}
-use mathlib.Core.Bool.{Bool}
+-- Whatever matching answered: the row was left at the first field that does not match. Assumes nothing.
+use Prim.Native.Nat.{ℕ}
+use mathlib.Core.Path.{sym, subst}
 use mathlib.Core.List.{List}
-use lib.ListN.{length}
-use Rattle.values.specs.declared.Value.{Value}
-use Rattle.values.specs.declared.Got.the-variants.{One}
 use Rattle.values.specs.declared.Operand.{Operand}
 use Rattle.values.specs.declared.Operand.the-variants.{Absent}
 use Rattle.values.specs.Operands.{Vars}
-use Rattle.values.proofs.LookLaws as L
+use Rattle.values.proofs.LookLaws.{Failing, looked-first, looked-second, looked-before, looked-whole, looked-left, looked-early}
+use Rattle.rows.specs.declared.Matched.{Matched}
 use Rattle.rows.specs.Relations.{Row}
-use Rattle.rows.specs.Matching.{matches1, matches, looked}
-use Rattle.rows.specs.Looking.{noValue, LeftAt, LeftEarly}
+use Rattle.rows.specs.Matching.{fieldMatches, matches, looked}
+use Rattle.rows.specs.Looking.{noValue, MatchedIs, LastFails, LeftEarly, EveryRowLeftEarly}
 
-module _ (e : Vars) where
-  abbrev test : Operand → Value → Bool
-  test o v = matches1 e o (One v)
+module _ (e : Vars) (t : List Operand) (r : Row) where
+  last-fails : {n : ℕ} → Failing (fieldMatches e) Absent noValue t r n → LastFails e t r n
+  last-fails f = record { at = f .at; counts = f .counts; fails = f .fails }
 
-  left-at : (t : List Operand) (r : Row) → L.Failing test Absent noValue t r → LeftAt e t r
-  unfolding looked
-  left-at t r f = record { at = f .at; there = f .there; counts = f .counts; fails = f .fails; before = f .before }
-
-  pub left-early : (t : List Operand) (r : Row) → length t ≡ length r → LeftEarly e t r
+  -- of the count that the rule gives
+  by-rule : LeftEarly e t r (record { matches = matches e t r; looked = looked e t r })
   unfolding matches looked
-  left-early t r same = record { whole = L.looked-whole test t r; early = λ h. left-at t r (L.first-failing test Absent noValue t r same h) }
+  by-rule =
+      record {
+        inTemplate = looked-first (fieldMatches e) t r;
+        inRow = looked-second (fieldMatches e) t r;
+        before = looked-before (fieldMatches e) Absent noValue t r;
+        left = λ h k. last-fails (looked-left (fieldMatches e) Absent noValue t r h k);
+        whole = looked-whole (fieldMatches e) t r;
+        early = λ same h. last-fails (looked-early (fieldMatches e) Absent noValue t r same h);
+      }
 
-  pub looked-in-template : (t : List Operand) (r : Row) → looked e t r ≤ length t
-  unfolding looked
-  looked-in-template t r = L.looked-first test t r
-
-  pub looked-in-row : (t : List Operand) (r : Row) → looked e t r ≤ length r
-  unfolding looked
-  looked-in-row t r = L.looked-second test t r
+pub left-early : EveryRowLeftEarly
+left-early e t r m h =
+    subst (λ b. LeftEarly e t r (record { matches = b; looked = m .looked })) (sym (h .matches))
+    (subst (λ n. LeftEarly e t r (record { matches = matches e t r; looked = n })) (sym (h .looked)) (by-rule e t r))

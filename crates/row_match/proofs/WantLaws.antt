@@ -8,7 +8,6 @@ use borrow.Author.Tests.{eqb-true, eqb-false, ltb-true, ltb-false, lt-ltb}
 use lib.Dec.{eqb, ltb}
 use lib.ListN.{length, getD}
 use Rattle.values.specs.declared.Value.{Value}
-use Rattle.values.specs.declared.Got.the-variants.{One}
 use Rattle.values.specs.declared.Operand.{Operand}
 use Rattle.values.specs.declared.Operand.the-variants.{Absent}
 use Rattle.values.specs.Lists.{agree, lookedAt, firsts}
@@ -23,7 +22,7 @@ use Rattle.rows.specs.declared.Operands.{Operands}
 use Rattle.rows.specs.declared.Want.the-variants.{Anything}
 use Rattle.rows.specs.declared.Wanted.{Wanted}
 use Rattle.rows.specs.declared.Matched.{Matched}
-use Rattle.rows.specs.Matching.{matches1, matches, looked}
+use Rattle.rows.specs.Matching.{fieldMatches, matches, looked}
 use Rattle.rows.specs.Looking.{noValue, MatchedIs}
 use Rattle.rows.specs.View.{noCell, noField, valuesOf, operandsOf}
 use Rattle.rows.specs.Plans.{wantOf, wantAt, meets, wantsMet, noWanted, wantsIn, WantsAre}
@@ -42,8 +41,8 @@ long-values n r = length-firsts (λ (c : Cell). c .value) noCell n (r .cells)
 long-operands : (n : ℕ) (fs : List Field) → length (operandsIn n fs) ≡ n
 long-operands n fs = length-firsts (λ (f : Field). f .operand) noField n fs
 
-pub shorter-first : (m n s : ℕ) → s ≡ cond (ltb m n) m n → s ≤ m
-shorter-first m n s = go (ltb m n) refl
+pub smaller-first : (m n s : ℕ) → s ≡ cond (ltb m n) m n → s ≤ m
+smaller-first m n s = go (ltb m n) refl
   where
     go : (b : Bool) → ltb m n ≡ b → s ≡ cond b m n → s ≤ m
     go true q h = omega (arith, h)
@@ -57,7 +56,7 @@ four-met ws row w c =
 
 module _ (e : Vars) (t : Operands) (ws : List Wanted) (row : Row) (short : t .count ≤ 4) (are : WantsAre e t ws) where
   abbrev test : Operand → Value → Bool
-  test o v = matches1 e o (One v)
+  test = fieldMatches e
 
   -- at a place of T the want is met where the field matches
   met-at : (n : ℕ) → n ≤ t .count → (i : ℕ) → i < n →
@@ -83,7 +82,7 @@ module _ (e : Vars) (t : Operands) (ws : List Wanted) (row : Row) (short : t .co
   module _ (columns n : ℕ) (shorter : n ≡ cond (ltb (t .count) columns) (t .count) columns) {b : Bool} {k : ℕ}
       (eb : b ≡ agree meets (wantsIn n ws) (valuesOf n row)) (ek : k ≡ lookedAt meets (wantsIn n ws) (valuesOf n row)) where
     within : n ≤ t .count
-    within = shorter-first (t .count) columns n shorter
+    within = smaller-first (t .count) columns n shorter
 
     as-long : t .count ≡ columns → n ≡ t .count
     as-long same = go (ltb (t .count) columns) shorter

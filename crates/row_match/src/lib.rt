@@ -11,10 +11,9 @@ use values::Operand;
 use values::Order;
 use values::Slot;
 use values::Value;
+use values::counts::smaller;
 ghost use mathlib.Core.Path.{_≡_};
-ghost use mathlib.Core.Bool.{cond};
 ghost use Prim.Native.Nat.{_≤_, _<_};
-ghost use lib.Dec.{ltb};
 ghost use Rattle.values.specs.Lists.{agree, lookedAt};
 ghost use Rattle.values.specs.Operands.{varsOf};
 ghost use Rattle.rows.specs.Matching.{isSame};
@@ -77,8 +76,8 @@ pub fn wants_of(template: Operands, vars: [Slot; 16]) -> [Wanted; 4]
     [a, b, c, d]
 }
 
-// The one loop of matching. The first n fields, from the first on; the row is left at the first field that does not match.
-pub fn fields_met(wants: [Wanted; 4], n: usize, row: Row) -> Matched
+// The one loop of matching: the first n fields, from the first on. The row is left at the first field that does not match.
+pub fn look_at_fields(wants: [Wanted; 4], n: usize, row: Row) -> Matched
     requires { ⌜ n ≤ 4 ⌝ }
     ensures { λ r. ⌜ (r .matches ≡ agree meets (wantsIn n wants) (valuesOf n row)) × (r .looked ≡ lookedAt meets (wantsIn n wants) (valuesOf n row)) ⌝ }
 {
@@ -103,28 +102,22 @@ pub fn fields_met(wants: [Wanted; 4], n: usize, row: Row) -> Matched
     }
 }
 
-// Four places, whatever T's length, so that the loop has a fixed bound where only the answer is wanted.
+// For steps, which want the answer alone: four places, whatever T's length, so that the loop has a fixed bound. Past T's end anything will do, so the count is not T's.
 pub fn row_matches(wants: [Wanted; 4], row: Row) -> bool
     ensures { λ r. ⌜ r ≡ wantsMet wants (row .cells) ⌝ }
 {
-    let m = fields_met(wants, 4, row);
+    let m = look_at_fields(wants, 4, row);
     m.matches
 }
 
-fn shorter(a: usize, b: usize) -> usize
-    ensures { λ r. ⌜ r ≡ cond (ltb a b) a b ⌝ }
-{
-    if a < b { a } else { b }
-}
-
-// T and a row by themselves, of any lengths: what both have is looked at, and only a row as long as T matches.
+// Matching as the rule has it, also for a row of another length than T's: the fields that both have are looked at, and such a row does not match.
 pub fn match_row(template: Operands, vars: [Slot; 16], columns: usize, row: Row) -> Matched
     requires { ⌜ Short template × (columns ≤ 4) ⌝ }
     ensures { λ r. ⌜ MatchedIs (varsOf vars) (operandsOf template) (valuesOf columns row) r ⌝ }
 {
     let count = template.count;
     let wants = wants_of(template, vars);
-    let m = fields_met(wants, shorter(count, columns), row);
+    let m = look_at_fields(wants, smaller(count, columns), row);
     Matched {
         matches: m.matches & (count == columns),
         looked: m.looked,

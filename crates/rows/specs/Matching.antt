@@ -3,6 +3,7 @@ use Prim.Native.Nat.{ℕ}
 use mathlib.Core.Bool.{Bool, true, false, not, _&&_, _||_}
 use mathlib.Core.List.{List, map}
 use Rattle.values.specs.declared.Operand.{Operand}
+use Rattle.values.specs.declared.Value.{Value}
 use Rattle.values.specs.declared.Order.{Order}
 use Rattle.values.specs.declared.Order.the-variants.{Unlike, Before, Same, After}
 use Rattle.values.specs.declared.Got.{Got}
@@ -25,14 +26,18 @@ isSame After = false
 abbrev pub matches1 : Vars → Operand → Got → Bool
 matches1 e o g = isSome (formalOf o) || isSame (compared (eval e o) g)
 
+-- a field of T and the value that a row has there
+abbrev pub fieldMatches : Vars → Operand → Value → Bool
+fieldMatches e o v = matches1 e o (One v)
+
 -- a template matches a row, as long as it, place by place. Its variables are the thread's own, also where one of its formals has the same number
 unfoldable pub matches : Vars → List Operand → Row → Bool
-matches e t r = agree (λ o v. matches1 e o (One v)) t r
+matches e t r = agree (fieldMatches e) t r
 
--- how many fields are looked at to know it, from the first on: up to and with the first that does not match, else all. Formals count, and operands with no value;
--- of T and row of unequal length those that both have are looked at
+-- how many fields are looked at, from the first on: up to and with the first that does not match, else all. A formal is looked at, too, and an operand with no value;
+-- of T and a row of another length those fields that both have
 unfoldable pub looked : Vars → List Operand → Row → ℕ
-looked e t r = lookedAt (λ o v. matches1 e o (One v)) t r
+looked e t r = lookedAt (fieldMatches e) t r
 
 -- the variables for one row: T's formals bound to its values
 abbrev pub rowVars : Vars → List Operand → Row → Vars

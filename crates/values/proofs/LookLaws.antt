@@ -39,39 +39,57 @@ module _ {A B : Type 0} (p : A → B → Bool) where
       go true whole h = ap suc (whole h)
       go false whole h = cc
 
-  -- the first place where the test fails, which is the last one looked at; `y` and `z` are what is read past an end
-  pub record Failing (y : A) (z : B) (k : List A) (l : List B) : Type 0 where
-    pub at : ℕ
-    pub there : at < length k
-    pub counts : lookedAt p k l ≡ suc at
-    pub fails : p (getD k at y) (getD l at z) ≡ false
-    pub before : (i : ℕ) → i < at → p (getD k i y) (getD l i z) ≡ true
-
-  -- lists of one length that do not agree have one
   module _ (y : A) (z : B) where
-    pub first-failing : (k : List A) (l : List B) → length k ≡ length l → agree p k l ≡ false → Failing y z k l
-    first-failing [] [] same h = absurd (subst T h tt)
-    first-failing [] (b ∷ l) same h = absurd (omega arith)
-    first-failing (a ∷ k) [] same h = absurd (omega arith)
-    first-failing (a ∷ k) (b ∷ l) same h = go (p a b) refl (first-failing k l (omega arith)) h
+    -- each place looked at but the last one passes; `y` and `z` are what is read past an end
+    pub looked-before : (k : List A) (l : List B) (i : ℕ) → suc i < lookedAt p k l → p (getD k i y) (getD l i z) ≡ true
+    looked-before [] l i h = absurd (omega arith)
+    looked-before (a ∷ k) [] i h = absurd (omega arith)
+    looked-before (a ∷ k) (b ∷ l) zero h = go (p a b) refl h
       where
-        before-next : p a b ≡ true → {n : ℕ} → ((i : ℕ) → i < n → p (getD k i y) (getD l i z) ≡ true) → (i : ℕ) → i < suc n → p (getD (a ∷ k) i y) (getD (b ∷ l) i z) ≡ true
-        before-next e h zero q = e
-        before-next e h (suc i) q = h i (omega arith)
+        go : (t : Bool) → p a b ≡ t → 1 < lookOn t (lookedAt p k l) → p a b ≡ true
+        go true e h = e
+        go false e h = absurd (omega arith)
+    looked-before (a ∷ k) (b ∷ l) (suc i) h = go (p a b) (looked-before k l i) h
+      where
+        go : (t : Bool) → (suc i < lookedAt p k l → p (getD k i y) (getD l i z) ≡ true) → suc (suc i) < lookOn t (lookedAt p k l) → p (getD k i y) (getD l i z) ≡ true
+        go true rest h = rest (omega arith)
+        go false rest h = absurd (omega arith)
 
-        go : (t : Bool) → p a b ≡ t → (agree p k l ≡ false → Failing y z k l) → (t && agree p k l) ≡ false → Failing y z (a ∷ k) (b ∷ l)
-        go true e rest h =
-            let f = rest h in
-            record {
-              at = suc (f .at);
-              there = omega (arith, f .there);
-              counts = ap₂ lookOn e (f .counts);
-              fails = f .fails;
-              before = before-next e (f .before);
-            }
-        go false e rest h = record { at = 0; there = omega arith; counts = ap (λ t. lookOn t (lookedAt p k l)) e; fails = e; before = λ i q. absurd (omega arith) }
+    -- the last of the first `n` places fails
+    pub record Failing (k : List A) (l : List B) (n : ℕ) : Type 0 where
+      pub at : ℕ
+      pub counts : n ≡ suc at
+      pub fails : p (getD k at y) (getD l at z) ≡ false
 
--- the parts in use of two pairs of arrays whose tests answer alike, place by place: the same is looked at, and they agree alike
+    failing-first : (a : A) (k : List A) (b : B) (l : List B) → p a b ≡ false → Failing (a ∷ k) (b ∷ l) 1
+    failing-first a k b l e = record { at = 0; counts = refl; fails = e }
+
+    failing-next : (a : A) (k : List A) (b : B) (l : List B) {n : ℕ} → Failing k l n → Failing (a ∷ k) (b ∷ l) (suc n)
+    failing-next a k b l f = record { at = suc (f .at); counts = ap suc (f .counts); fails = f .fails }
+
+    -- so does the last one looked at where places of both are left,
+    pub looked-left : (k : List A) (l : List B) → lookedAt p k l < length k → lookedAt p k l < length l → Failing k l (lookedAt p k l)
+    looked-left [] l h i = absurd (omega arith)
+    looked-left (a ∷ k) [] h i = absurd (omega arith)
+    looked-left (a ∷ k) (b ∷ l) h i = go (p a b) refl (looked-left k l) h i
+      where
+        go : (t : Bool) → p a b ≡ t → (lookedAt p k l < length k → lookedAt p k l < length l → Failing k l (lookedAt p k l)) →
+            lookOn t (lookedAt p k l) < suc (length k) → lookOn t (lookedAt p k l) < suc (length l) → Failing (a ∷ k) (b ∷ l) (lookOn t (lookedAt p k l))
+        go true e rest h i = failing-next a k b l (rest (omega arith) (omega arith))
+        go false e rest h i = failing-first a k b l e
+
+    -- and where lists of one length do not agree
+    pub looked-early : (k : List A) (l : List B) → length k ≡ length l → agree p k l ≡ false → Failing k l (lookedAt p k l)
+    looked-early [] [] same h = absurd (subst T h tt)
+    looked-early [] (b ∷ l) same h = absurd (omega arith)
+    looked-early (a ∷ k) [] same h = absurd (omega arith)
+    looked-early (a ∷ k) (b ∷ l) same h = go (p a b) refl (looked-early k l (omega arith)) h
+      where
+        go : (t : Bool) → p a b ≡ t → (agree p k l ≡ false → Failing k l (lookedAt p k l)) → (t && agree p k l) ≡ false → Failing (a ∷ k) (b ∷ l) (lookOn t (lookedAt p k l))
+        go true e rest h = failing-next a k b l (rest h)
+        go false e rest h = failing-first a k b l e
+
+-- two pairs of lists whose tests answer alike, place by place: as many places are looked at, and the pairs agree alike
 module _ {A B C D : Type 0} (p : A → B → Bool) (q : C → D → Bool) where
   pub looked-alike : (k : List A) (l : List B) (k′ : List C) (l′ : List D) (y : A) (z : B) (y′ : C) (z′ : D) → length k ≡ length k′ → length l ≡ length l′ →
       ((i : ℕ) → i < length k → i < length l → p (getD k i y) (getD l i z) ≡ q (getD k′ i y′) (getD l′ i z′)) → lookedAt p k l ≡ lookedAt q k′ l′

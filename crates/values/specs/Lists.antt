@@ -16,7 +16,7 @@ abbrev pub nextPlace : Bool → ℕ → ℕ
 nextPlace true n = 0
 nextPlace false n = suc n
 
--- one looked at, and where its test holds, those after it
+-- 1 for this place, and where its test holds also the `n` after it
 abbrev pub lookOn : Bool → ℕ → ℕ
 lookOn true n = suc n
 lookOn false n = 1

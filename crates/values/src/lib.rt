@@ -1,4 +1,5 @@
 // Values, operands and variables. All by value.
+pub mod counts;
 pub mod kinds;
 
 // A physical site, 0..7.

@@ -14,7 +14,7 @@ cells-long : (s : tie.Start) → length (s .args .row .cells) ≡ 4
 cells-long s = search (long, needs)
 
 returns : tie.Need-returns
-returns c = c .fields-met .ensures .0 ∙ four-met (c .before .args .wants) (c .before .args .row) (wants-long (c .before)) (cells-long (c .before))
+returns c = c .look-at-fields .ensures .0 ∙ four-met (c .before .args .wants) (c .before .args .row) (wants-long (c .before)) (cells-long (c .before))
 
 pub row-matches-spec : {M : Type 1} → statement M
 row-matches-spec = tie.close (tie.spec (λ c κs. search needs) returns)

@@ -1,4 +1,4 @@
--- `row_match::fields_met` meets its contract. The loop's invariant: the fields that are left decide, and with those looked at so far they make the count.
+-- `row_match::look_at_fields` meets its contract. The loop's invariant: the fields that are left decide, and with those looked at so far they make the count.
 use Prim.Native.Nat.{ℕ, _+_, _-_, _≤_, _<_}
 use mathlib.Core.Path.{_≡_, sym, _∙_}
 use mathlib.Core.List.{List, _∷_}
@@ -13,8 +13,8 @@ use Rattle.rows.specs.declared.Row.{Row}
 use Rattle.rows.specs.declared.Wanted.{Wanted}
 use Rattle.rows.specs.View.{noCell, valuesOf}
 use Rattle.rows.specs.Plans.{meets, wantsIn, noWanted}
-use Rattle.row_match.proofs.fields_met.Statement.{statement}
-use Rattle.row_match.proofs.fields_met.Tie as tie
+use Rattle.row_match.proofs.look_at_fields.Statement.{statement}
+use Rattle.row_match.proofs.look_at_fields.Tie as tie
 
 abbrev Inv-loop : tie.InvT-loop
 Inv-loop n wants row i₀ i =
@@ -64,8 +64,8 @@ returns-2 c =
     let v = firsts-end (λ (c : Cell). c .value) noCell (a .n) (a .t3 .cells) (l .loop .i) (c .loop-test .left) in
     (agree-ends meets _ (l .loop .inv .1) w v, sym done ∙ looked-ends meets _ _ (l .loop .inv .2) w v)
 
-pub fields-met-spec : {M : Type 1} → statement M
-fields-met-spec =
+pub look-at-fields-spec : {M : Type 1} → statement M
+look-at-fields-spec =
     tie.close
     (tie.spec
     Inv-loop
