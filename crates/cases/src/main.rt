@@ -192,7 +192,7 @@ fn print_got(g: Got) {
     }
 }
 
-// How many fields of each row matching looks at.
+// How many fields matching looks at, of each row of the table that T is held against, in its order.
 fn print_looks(r: Relation, template: Operands)
     requires { ⌜ Shaped r × Short template ⌝ }
 {

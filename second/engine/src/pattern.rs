@@ -96,8 +96,11 @@ impl Pattern {
             Some(place) if wrong(Quirk::LookFailingUncounted) => place,
             Some(_) if wrong(Quirk::LookAllCounted) => shared,
             Some(_) if wrong(Quirk::LookFromLast) => self.counted_from_last(row),
-            Some(place) if wrong(Quirk::LookConstantsFirst) => place + 1 - self.formals(place),
-            Some(place) if wrong(Quirk::LookFormalsUncounted) => place + 1 - self.formals(place),
+            Some(place)
+                if wrong(Quirk::LookConstantsFirst) || wrong(Quirk::LookFormalsUncounted) =>
+            {
+                place + 1 - self.formals(place)
+            }
             None if wrong(Quirk::LookFormalsUncounted) => shared - self.formals(shared),
             Some(place) => place + 1,
             None => shared,

@@ -6,8 +6,8 @@ use generate::record::*;
 
 const NODES: u8 = 128;
 
-/// All rows are equal, so that a template of constants leaves each of them at the same field. The
-/// picks count what matches, which changes no table.
+/// All rows are equal, so that a template of constants leaves each of them at the same field. Every
+/// thread has taken node 0 before the picks, which count what matches and change no table.
 pub fn files(failing: Option<usize>) -> Files {
     let node_of = |number: u8| {
         let next = if number + 1 == NODES { END } else { number + 1 };
