@@ -2,6 +2,7 @@
 
 mod document;
 mod loading;
+mod looks;
 mod loops;
 mod pages;
 mod rounds;
@@ -25,7 +26,7 @@ impl Example {
 }
 
 /// The few that stand in the repository's `examples`: the name there, and the example's own.
-const SHOWN: [(&str, &str); 16] = [
+const SHOWN: [(&str, &str); 17] = [
     ("printed-run", "k-printed-run"),
     ("insert", "16-insert"),
     ("insert-table", "17-insert-table"),
@@ -41,6 +42,7 @@ const SHOWN: [(&str, &str); 16] = [
     ("parallel-loop", "26-parallel"),
     ("refused-steps", "refused-steps"),
     ("refused-file", "07-kind"),
+    ("left-early", "left-early"),
     ("page", "page-year"),
 ];
 
@@ -54,10 +56,18 @@ pub fn shown() -> Vec<Example> {
 }
 
 pub fn all() -> Vec<Example> {
-    [document::all(), loading::all(), steps::all(), loops::all(), rounds::all(), pages::all()]
-        .into_iter()
-        .flatten()
-        .collect()
+    [
+        document::all(),
+        loading::all(),
+        steps::all(),
+        loops::all(),
+        rounds::all(),
+        looks::all(),
+        pages::all(),
+    ]
+    .into_iter()
+    .flatten()
+    .collect()
 }
 
 fn example(name: &'static str, records: &[Record], lines: &[&str]) -> Example {
