@@ -1,5 +1,7 @@
 // Nets at the limits and chains of picks on them, one for each kind of step, for the benchmark of `second/bench`, which hands them over as two files, for the second engine and for this crate.
 // The calls take files, lists of picks as bytes, two for each, and plain numbers. A kind says which picks a chain has.
+#![tactic(auto)]
+
 use nets::Net;
 use running::chain;
 use starting::start;
@@ -13,7 +15,7 @@ pub mod summing;
 pub mod whole;
 
 // A net, and the sum over the answers so far.
-#[derive(Drop)]
+#[derive(Clone, Copy)]
 pub struct Chained {
     pub net: Net,
     pub sum: u64,

@@ -1,4 +1,6 @@
 // What every call with picks begins with: the length of the picks is judged, then the file is loaded.
+#![tactic(auto)]
+
 ghost use Rattle.std.specs.Prelude.{◌≡◌};
 ghost use Rattle.call_rules.specs.Openings.{opening_by, OpenIs};
 

@@ -1,4 +1,6 @@
 // All picks carried out, for the calls: the net that they leave, or their answers as bytes. Picks come as bytes, two for each.
+#![tactic(auto)]
+
 ghost use Rattle.std.specs.Prelude.{◌≡◌, T, ◌*◌};
 ghost use Rattle.nets.specs.Sound.{sound};
 ghost use Rattle.nets.specs.Accounts.{after};

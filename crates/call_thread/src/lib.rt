@@ -1,4 +1,6 @@
 // Threads as bytes: for each its site, depth, top entry and node, and a byte for each row that the entry has still to visit.
+#![tactic(auto)]
+
 ghost use Rattle.std.specs.Prelude.{◌≡◌, List, map, ◌*◌, ◌<◌, ◌≤◌, length};
 ghost use Rattle.values.specs.Lists.{bit, among};
 ghost use Rattle.nets.specs.declared.Saved.{Saved};

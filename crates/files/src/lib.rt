@@ -1,15 +1,17 @@
 // Files of 104-byte records: what loading and writing give back.
+#![tactic(auto)]
+
 use nets::{Net, Pick};
 
 // A file accepted, or its first fault: number and record place.
-#[derive(Drop)]
+#[derive(Clone, Copy)]
 pub enum Verdict {
     Accepted,
     Fault(u8, usize),
 }
 
 // The net and the picks of an accepted file; of a refused one the empty net and no picks.
-#[derive(Drop)]
+#[derive(Clone, Copy)]
 pub struct Loaded {
     pub verdict: Verdict,
     pub net: Net,
@@ -18,7 +20,7 @@ pub struct Loaded {
 }
 
 // The length written, or the number of a refusal.
-#[derive(Drop)]
+#[derive(Clone, Copy)]
 pub enum Written {
     Length(usize),
     Unsound,

@@ -1,5 +1,7 @@
 // Nets that no file gives: one clause of soundness broken in each, and sound ones with loop entries, bindings and whatever lies past the counts.
 // Each line of standard input is one net: 24 bytes as hexadecimal digits, a blank, and its name.
+#![tactic(auto)]
+
 mod lines;
 mod trying;
 

@@ -48,7 +48,7 @@ fn untouched(buffer: &[u8]) -> bool {
 }
 
 // The answers, whether the net stayed as it was, and whether the buffers did.
-#[derive(Drop)]
+#[derive(Clone, Copy)]
 struct Outcome {
     answer: Answer,
     same: bool,
@@ -59,7 +59,7 @@ struct Outcome {
 }
 
 // What a step answers, and whether it left the net as it was.
-#[derive(Drop)]
+#[derive(Clone, Copy)]
 struct Taken {
     answer: Answer,
     same: bool,
@@ -79,7 +79,7 @@ fn take(net: Net, thread: u8, row: u8) -> Taken {
 }
 
 // The page of the net's first table, whatever stands there, and whether the buffer stayed as it was.
-#[derive(Drop)]
+#[derive(Clone, Copy)]
 struct PageTried {
     paged: Paged,
     page_kept: bool,

@@ -1,4 +1,6 @@
 // Loading: checks 1 to 9 in order, and the net and picks of a file that passes them.
+#![tactic(auto)]
+
 ghost use Rattle.std.specs.Prelude.{◌≡◌};
 ghost use Rattle.nets.specs.View.{view};
 ghost use Rattle.record_bytes.specs.Decoding.{records_in};
@@ -23,14 +25,14 @@ use nets::{Net, Pick};
 use record_bytes::RECORD;
 
 // The number of a check that fails by the file's length, 0 for none, and the place that goes with it.
-#[derive(Drop)]
+#[derive(Clone, Copy)]
 pub struct LengthFault {
     pub number: u8,
     pub place: usize,
 }
 
 // What all records gave, up to the first fault.
-#[derive(Drop)]
+#[derive(Clone, Copy)]
 pub struct FileRead {
     pub net: Net,
     pub picks: [Pick; 256],

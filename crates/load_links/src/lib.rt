@@ -1,4 +1,6 @@
 // Check 9: the links of nodes and starts to the nodes of the file, record by record.
+#![tactic(auto)]
+
 ghost use Rattle.std.specs.Prelude.{◌≡◌, cond, ◌+◌, ◌≤◌, T, eqb, ltb, length};
 ghost use Rattle.values.specs.Lists.{all};
 ghost use Rattle.record_bytes.specs.Decoding.{whole_records, records_in};

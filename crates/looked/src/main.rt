@@ -1,5 +1,7 @@
 // For tests, held to the second engine: reads a file of records on standard input, carries out its picks, and prints how matching looks at rows in the net that is left.
 // A line for each thread, node with a template and table: their places, and for each row how many fields were looked at, with + where the row matches, else -.
+#![tactic(auto)]
+
 ghost use Rattle.std.specs.Prelude.{◌≤◌};
 ghost use Rattle.rows.specs.View.{Short};
 

@@ -1,4 +1,6 @@
 // Reads a file of records on standard input, carries out its picks, and prints the page of each table left.
+#![tactic(auto)]
+
 ghost use Rattle.std.specs.Prelude.{◌≡◌, ◌≤◌, T, length, take};
 ghost use Rattle.values.specs.Lists.{all};
 ghost use Rattle.rows.specs.View.{relation_of, Shaped};

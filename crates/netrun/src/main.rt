@@ -1,4 +1,6 @@
 // Reads a file of records on standard input, carries out its picks, and prints each pick's answer and then the tables left.
+#![tactic(auto)]
+
 ghost use Rattle.std.specs.Prelude.{◌≡◌, ◌*◌, ◌≤◌, T, length, take};
 ghost use Rattle.nets.specs.Sound.{sound};
 ghost use Rattle.nets.specs.Accounts.{after};

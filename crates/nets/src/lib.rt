@@ -1,4 +1,6 @@
 // Nets: aliases, tables, nodes and threads, by value; picks and answers.
+#![tactic(auto)]
+
 use rows::{Function, Operands, Relation, Selector};
 use values::{Locality, Operand, Site, Slot};
 
@@ -7,14 +9,14 @@ pub mod refusals;
 pub mod tables;
 
 // At a site, a locality means a site.
-#[derive(Drop)]
+#[derive(Clone, Copy)]
 pub struct Alias {
     pub site: Site,
     pub locality: Locality,
     pub means: Site,
 }
 
-#[derive(Drop)]
+#[derive(Clone, Copy)]
 pub struct Table {
     pub site: Site,
     pub name: u32,
@@ -22,7 +24,7 @@ pub struct Table {
 }
 
 // A node of kind 16..26. A field that its kind does not use is zero or absent.
-#[derive(Drop)]
+#[derive(Clone, Copy)]
 pub struct Node {
     pub kind: u8,
     pub next: u8,
@@ -41,19 +43,19 @@ pub struct Node {
 }
 
 // A node to run, or a loop node; its frame has the rows still to visit.
-#[derive(Drop)]
+#[derive(Clone, Copy)]
 pub enum Entry {
     Run(u8),
     Loop(u8),
 }
 
-#[derive(Drop)]
+#[derive(Clone, Copy)]
 pub struct Frame {
     pub entry: Entry,
     pub visit: [bool; 16],
 }
 
-#[derive(Drop)]
+#[derive(Clone, Copy)]
 pub struct TableVariable {
     pub bound: bool,
     pub content: Relation,
@@ -61,14 +63,14 @@ pub struct TableVariable {
 
 // What a loop's entry keeps of the moment when the loop was first met: the variables, and the table variable that the loop does not read. The one that it reads
 // stays what it was while the entry stands, so the thread's own serves. A parallel loop's is stored and never read.
-#[derive(Drop)]
+#[derive(Clone, Copy)]
 pub struct Saved {
     pub vars: [Slot; 16],
     pub other: TableVariable,
 }
 
 // The stack's top is its last frame in use.
-#[derive(Drop)]
+#[derive(Clone, Copy)]
 pub struct Thread {
     pub site: Site,
     pub vars: [Slot; 16],
@@ -77,7 +79,7 @@ pub struct Thread {
     pub depth: usize,
 }
 
-#[derive(Drop)]
+#[derive(Clone, Copy)]
 pub struct Net {
     pub aliases: [Alias; 56],
     pub aliascount: usize,
@@ -93,14 +95,14 @@ pub struct Net {
 
 // A pick names a thread place and a row place. Lists of picks come from outside, so the layout is C's.
 #[repr(C)]
-#[derive(Drop)]
+#[derive(Clone, Copy)]
 pub struct Pick {
     pub thread: u8,
     pub row: u8,
 }
 
 // The refusals of a pick, numbers 10 to 20 in this order.
-#[derive(Drop)]
+#[derive(Clone, Copy)]
 pub enum Refusal {
     Unsound,
     NoThread,
@@ -116,13 +118,13 @@ pub enum Refusal {
 }
 
 // Done with rows added and rows taken, or refused.
-#[derive(Drop)]
+#[derive(Clone, Copy)]
 pub enum Answer {
     Done(usize, usize),
     Refused(Refusal),
 }
 
-#[derive(Drop)]
+#[derive(Clone, Copy)]
 pub struct Stepped {
     pub answer: Answer,
     pub net: Net,

@@ -1,4 +1,6 @@
 // Reads a file of records on standard input, runs its picks as one run, and prints the sums of the counts and then the tables left.
+#![tactic(auto)]
+
 ghost use Rattle.std.specs.Prelude.{◌≤◌, take};
 ghost use Rattle.runs.specs.Runs.{RunIs};
 

@@ -1,4 +1,6 @@
 // Reads a stream of records on standard input, piece by piece, and answers each: sum, least and largest of a column over the last W rows.
+#![tactic(auto)]
+
 use crate::numbers::{Number, argument};
 use crate::stream::{Ended, print_answers};
 use libc::{STDERR_FILENO, STDOUT_FILENO};

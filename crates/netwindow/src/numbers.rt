@@ -3,7 +3,7 @@ ghost use Rattle.std.specs.Prelude.{◌≤◌};
 
 use print_lines::buffer::at_most;
 
-#[derive(Drop)]
+#[derive(Clone, Copy)]
 pub enum Number {
     Decimal(usize),
     Other,

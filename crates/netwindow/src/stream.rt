@@ -7,7 +7,7 @@ use print_lines::buffer::{LOST, write_buffer};
 use record_bytes::RECORD;
 use window::{Window, take};
 
-#[derive(Drop)]
+#[derive(Clone, Copy)]
 pub enum Ended {
     Whole,
     Unread,
@@ -15,7 +15,7 @@ pub enum Ended {
 }
 
 // The window that the next record meets, the place of that record, and where its line goes in the buffer of lines.
-#[derive(Drop)]
+#[derive(Clone, Copy)]
 pub struct Reached {
     pub window: Window,
     pub place: u64,
@@ -99,7 +99,7 @@ fn flushed(buffer: &[u8; 4096], reached: Reached) -> Reached {
 }
 
 // One piece more: its whole records are answered, and what is left of it is kept.
-#[derive(Drop)]
+#[derive(Clone, Copy)]
 struct Piece {
     reached: Reached,
     held: usize,

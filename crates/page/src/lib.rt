@@ -1,4 +1,6 @@
 // A table's page, at the start of a lent buffer.
+#![tactic(auto)]
+
 ghost use Rattle.page.specs.PageCall.{PageIs};
 
 use crate::tables::page_tables;
@@ -9,7 +11,7 @@ use values::Site;
 pub mod tables;
 
 // The page's length, or why there is none; with a buffer that is too short, the length that is needed.
-#[derive(Drop)]
+#[derive(Clone, Copy)]
 pub enum Paged {
     Length(usize),
     Unsound,

@@ -1,5 +1,7 @@
 // Lines of text for standard output, collected in a buffer that is written out once it is full.
 // Each function puts bytes into the buffer from place `at` on and gives the place after them.
+#![tactic(auto)]
+
 pub mod buffer;
 pub mod cells;
 pub mod faults;

@@ -1,4 +1,6 @@
 // What bytes say: numbers, texts, unused bytes, and lists that end with nones. Parts have their exact size.
+#![tactic(auto)]
+
 ghost use Rattle.std.specs.Prelude.{◌≡◌, Bool, [], ◌∷◌, ◌≤◌, length};
 ghost use Rattle.record_bytes.specs.Bytes.{joined, little, text_in, signed, int_in, zeros, leading, then_only};
 

@@ -1,4 +1,6 @@
 // Alias, table, start and pick records: check 4 of each, and what its fields say. A record is a part of the file, of 104 bytes.
+#![tactic(auto)]
+
 ghost use Rattle.std.specs.Prelude.{◌≡◌, ◌≤◌, length};
 ghost use Rattle.rows.specs.View.{columns_of};
 ghost use Rattle.record_bytes.specs.Bytes.{columns_form, columns_in};

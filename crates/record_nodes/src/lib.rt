@@ -1,4 +1,6 @@
 // Row and node records, which have operands.
+#![tactic(auto)]
+
 pub mod nodes;
 pub mod operands;
 pub mod tuples;

@@ -23,7 +23,7 @@ use values::Operand;
 const TUPLE_SECOND: usize = 64;
 
 // What a node record says, and whether it passes check 4.
-#[derive(Drop)]
+#[derive(Clone, Copy)]
 pub struct NodeRead {
     pub right: bool,
     pub node: Node,

@@ -14,7 +14,7 @@ use rows::{Draft, Operands};
 use values::{Got, Operand, Slot, Value};
 
 // What a row record gives its table, and whether it passes check 4.
-#[derive(Drop)]
+#[derive(Clone, Copy)]
 pub struct RowRead {
     pub right: bool,
     pub draft: Draft,

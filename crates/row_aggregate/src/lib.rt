@@ -1,4 +1,6 @@
 // Count, sum, least and largest over the rows of a relation.
+#![tactic(auto)]
+
 ghost use Rattle.std.specs.Prelude.{◌≡◌, ◌≤◌, ◌<◌, T, pos, ◌+ℤ◌, cond};
 ghost use Rattle.std.specs.Int.{w64};
 ghost use Rattle.std.proofs.Common.{SFits};

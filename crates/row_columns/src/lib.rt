@@ -1,4 +1,6 @@
 // The columns that a select makes: a kind for each component of t.
+#![tactic(auto)]
+
 ghost use Rattle.std.specs.Prelude.{◌≡◌, ◌<◌, get_or};
 ghost use Rattle.values.specs.Operands.{vars_of, bind};
 ghost use Rattle.rows.specs.View.{no_field, columns_of, operands_of, Short};

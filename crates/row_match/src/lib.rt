@@ -1,4 +1,6 @@
 // Matching: the wants of a template, and the rows that meet them.
+#![tactic(auto)]
+
 ghost use Rattle.std.specs.Prelude.{◌≡◌, ◌≤◌, ◌<◌};
 ghost use Rattle.values.specs.Lists.{agree, looked_at};
 ghost use Rattle.values.specs.Operands.{vars_of};

@@ -1,4 +1,6 @@
 // Selectors prepared for one relation, and the rows that they select.
+#![tactic(auto)]
+
 ghost use Rattle.std.specs.Prelude.{◌≡◌, ◌||◌, length};
 ghost use Rattle.values.specs.Operands.{vars_of};
 ghost use Rattle.rows.specs.Matching.{agrees, hits};

@@ -1,4 +1,6 @@
 // One pass over the rows of a relation, which marks rows and puts new ones at their places. Every row is judged as it stood before.
+#![tactic(auto)]
+
 ghost use Rattle.std.specs.Prelude.{◌≤◌};
 ghost use Rattle.rows.specs.Plans.{got_at, term_got};
 ghost use Rattle.row_change.specs.ChangeContracts.{MadeIs, RenewedIs, JudgedRow, SweptIs};

@@ -1,4 +1,6 @@
 // Operands prepared for one relation: where their values come from, and what they give for a row.
+#![tactic(auto)]
+
 ghost use Rattle.std.specs.Prelude.{◌≡◌, map, ◌<◌, get_or};
 ghost use Rattle.values.specs.Operands.{vars_of, formal_of};
 ghost use Rattle.rows.specs.View.{operands_of, Short, no_field};

@@ -1,4 +1,6 @@
 // Rows and relations, templates and tuples, and what is prepared of them. All by value.
+#![tactic(auto)]
+
 ghost use Rattle.std.specs.Prelude.{◌≡◌, ◌<◌, get_or};
 ghost use Rattle.values.specs.declared.Got.TheVariants.{One};
 ghost use Rattle.rows.specs.Fit.{of_kind};
@@ -7,19 +9,19 @@ ghost use Rattle.rows.specs.View.{columns_of};
 use values::kinds::kind_of;
 use values::{Got, Operand, Slot, Value};
 
-#[derive(Drop)]
+#[derive(Clone, Copy)]
 pub struct Cell {
     pub value: Value,
 }
 
 // The first `columns` cells of its relation count.
-#[derive(Drop)]
+#[derive(Clone, Copy)]
 pub struct Row {
     pub cells: [Cell; 4],
 }
 
 // The inside of a table and of a table variable: column kinds (1 Int, 2 Text, 3 Loc) and rows.
-#[derive(Drop)]
+#[derive(Clone, Copy)]
 pub struct Relation {
     pub columns: usize,
     pub kinds: [u8; 4],
@@ -27,20 +29,20 @@ pub struct Relation {
     pub count: usize,
 }
 
-#[derive(Drop)]
+#[derive(Clone, Copy)]
 pub struct Field {
     pub operand: Operand,
 }
 
 // A template T or a tuple t: the first `count` fields.
-#[derive(Drop)]
+#[derive(Clone, Copy)]
 pub struct Operands {
     pub fields: [Field; 4],
     pub count: usize,
 }
 
 // The predicates 0..4.
-#[derive(Drop)]
+#[derive(Clone, Copy)]
 pub enum Test {
     Always,
     Equal,
@@ -50,7 +52,7 @@ pub enum Test {
 }
 
 // Which rows a step speaks of: those that match T and satisfy the predicate.
-#[derive(Drop)]
+#[derive(Clone, Copy)]
 pub struct Selector {
     pub template: Operands,
     pub test: Test,
@@ -59,7 +61,7 @@ pub struct Selector {
 }
 
 // The aggregate functions 1..4, and none.
-#[derive(Drop)]
+#[derive(Clone, Copy)]
 pub enum Function {
     Unused,
     Count,
@@ -69,52 +71,52 @@ pub enum Function {
 }
 
 // Where a variable's value comes from once T is known: the same for every row, or a column of the row.
-#[derive(Drop)]
+#[derive(Clone, Copy)]
 pub enum Origin {
     Fixed(Got),
     Column(u8),
 }
 
 // An operand prepared for one relation: its source, plus an Int.
-#[derive(Drop)]
+#[derive(Clone, Copy)]
 pub enum Term {
     Plain(Origin),
     Shifted(Origin, i32),
 }
 
-#[derive(Drop)]
+#[derive(Clone, Copy)]
 pub struct Component {
     pub term: Term,
 }
 
 // A tuple t prepared for one relation.
-#[derive(Drop)]
+#[derive(Clone, Copy)]
 pub struct Terms {
     pub components: [Component; 4],
     pub count: usize,
 }
 
 // What a place of T takes.
-#[derive(Drop)]
+#[derive(Clone, Copy)]
 pub enum Want {
     Anything,
     Like(Got),
 }
 
-#[derive(Drop)]
+#[derive(Clone, Copy)]
 pub struct Wanted {
     pub want: Want,
 }
 
 // What matching answers: whether the row matches, and how many of its fields were looked at.
-#[derive(Drop)]
+#[derive(Clone, Copy)]
 pub struct Matched {
     pub matches: bool,
     pub looked: usize,
 }
 
 // A selector prepared for one relation: its operands read the thread's variables once, and not for each row. It is free where any row matches T.
-#[derive(Drop)]
+#[derive(Clone, Copy)]
 pub struct Plan {
     pub wants: [Wanted; 4],
     pub free: bool,
@@ -124,7 +126,7 @@ pub struct Plan {
 }
 
 // What a tuple gives: the first `count` slots.
-#[derive(Drop)]
+#[derive(Clone, Copy)]
 pub struct Draft {
     pub slots: [Slot; 4],
     pub count: usize,

@@ -1,4 +1,6 @@
 // A run over picks held by value, for callers that lend no slice themselves.
+#![tactic(auto)]
+
 ghost use Rattle.std.specs.Prelude.{◌≤◌, take};
 ghost use Rattle.runs.specs.Runs.{RunIs};
 

@@ -1,4 +1,6 @@
 // The state of a run: a net, whether it is sound, and the sums of the counts reported so far.
+#![tactic(auto)]
+
 ghost use Rattle.std.specs.Prelude.{◌≡◌, ◌<◌, ◌^◌};
 ghost use Rattle.nets.specs.Answers.{added_said, taken_said, said_of};
 ghost use Rattle.run_state.specs.States.{Begun, Tallied};
@@ -7,7 +9,7 @@ use net_sound::whole::sound_net;
 use nets::{Answer, Net, Stepped};
 use value_totals::{Total, add_count, zero};
 
-#[derive(Drop)]
+#[derive(Clone, Copy)]
 pub struct Ran {
     pub net: Net,
     pub sound: bool,

@@ -1,3 +1,5 @@
 // Runs over a list of picks.
+#![tactic(auto)]
+
 pub mod bytes;
 pub mod running;

@@ -1,4 +1,6 @@
 // What a step that is no loop answers, from the rows judged.
+#![tactic(auto)]
+
 ghost use Rattle.std.specs.Prelude.{◌≡◌, T};
 ghost use Rattle.nets.specs.Answers.{step_said, said_of};
 ghost use Rattle.nets.specs.View.{kind_at};

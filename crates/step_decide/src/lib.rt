@@ -1,4 +1,6 @@
 // What a pick comes to: checks 12 to 20 in their order, and where the thread goes on.
+#![tactic(auto)]
+
 ghost use Rattle.std.specs.Prelude.{◌≡◌, true, cond, T, ltb};
 ghost use Rattle.nets.specs.Nets.{is_loop};
 ghost use Rattle.nets.specs.Scenes.{Scene};

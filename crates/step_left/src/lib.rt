@@ -1,4 +1,6 @@
 // What picks leave of a net. Aliases and nodes stay as they are, so that only tables, threads and what the entries of loops hold are handed on.
+#![tactic(auto)]
+
 ghost use Rattle.std.specs.Prelude.{◌≡◌};
 ghost use Rattle.step_left.specs.Leaving.{left_by};
 
@@ -6,7 +8,7 @@ use nets::{Answer, Net, Saved, Table, Thread};
 use value_totals::Total;
 
 // Tables, threads and what the entries of loops hold after some picks, the answer to the last of them, and the sums of rows added and taken.
-#[derive(Drop)]
+#[derive(Clone, Copy)]
 pub struct Carried {
     pub tables: [Table; 8],
     pub tablecount: usize,

@@ -1,4 +1,6 @@
 // Rounds of loops: which rows are still to visit, whether the row picked is ready, and what a round binds.
+#![tactic(auto)]
+
 ghost use Rattle.std.specs.Prelude.{◌≡◌, Bool, ◌&&◌, ℕ, ◌≤◌, ◌<◌, T, ltb};
 ghost use Rattle.values.specs.Lists.{all, any, places};
 ghost use Rattle.values.specs.Operands.{vars_of};

@@ -1,4 +1,6 @@
 // What a pick reads, and what the decision returns.
+#![tactic(auto)]
+
 use nets::{Answer, Frame};
 use values::{Site, Slot};
 
@@ -7,7 +9,7 @@ pub mod parts;
 pub mod sites;
 
 // Where L leads.
-#[derive(Drop)]
+#[derive(Clone, Copy)]
 pub enum Located {
     Nowhere,
     At(Site),
@@ -15,7 +17,7 @@ pub enum Located {
 
 // What a pick meets beside its thread, its node and rows: where L leads, whether the table is there, whether a loop entry holds the table variable to
 // be bound, the numbers of tables and threads, and the row picked.
-#[derive(Drop)]
+#[derive(Clone, Copy)]
 pub struct Setting {
     pub located: Located,
     pub found: bool,
@@ -27,7 +29,7 @@ pub struct Setting {
 
 // The answer, and what becomes of the thread: its top frame, the height of its stack and its variables; where a parallel round opens, also the
 // variables of the new thread. A sequential round's body goes above the top frame. Where a loop's first round opens, its entry holds the bindings from then on.
-#[derive(Drop)]
+#[derive(Clone, Copy)]
 pub struct Decided {
     pub answer: Answer,
     pub forks: bool,

@@ -1,4 +1,6 @@
 // Picks carried out one after the other. The net stays where it is: its elements are read and stored at their places here, since a net handed on is a net copied.
+#![tactic(auto)]
+
 ghost use Rattle.std.specs.Prelude.{◌≡◌, ◌≤◌, T, length};
 ghost use Rattle.value_bytes.specs.Bytes.{put_all};
 ghost use Rattle.nets.specs.Sound.{sound};

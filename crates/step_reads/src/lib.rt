@@ -1,4 +1,6 @@
 // Check 12: what a node reads is bound.
+#![tactic(auto)]
+
 ghost use Rattle.std.specs.Prelude.{◌≡◌, cond, ◌&&◌, ◌||◌, [], ◌∷◌, ℕ, ◌<◌, ltb, get_or};
 ghost use Rattle.values.specs.Lists.{all, among};
 ghost use Rattle.values.specs.declared.Operand.TheVariants.{Absent};

@@ -1,4 +1,6 @@
 // The rows that a step speaks of are judged once, as they stood before.
+#![tactic(auto)]
+
 ghost use Rattle.std.specs.Prelude.{◌≡◌, true, T};
 ghost use Rattle.rows.specs.View.{Shaped, relation_of};
 ghost use Rattle.row_change.specs.ChangeContracts.{marks, sift};

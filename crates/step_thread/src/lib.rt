@@ -1,4 +1,6 @@
 // Threads: frames of their stacks, and forking.
+#![tactic(auto)]
+
 ghost use Rattle.std.specs.Prelude.{◌≡◌, not, ◌&&◌, [], ◌∷◌, ℕ, ◌-◌, get_or};
 ghost use Rattle.nets.specs.Nets as M;
 ghost use Rattle.nets.specs.Nets.{is_sequential, to_run};
@@ -10,7 +12,7 @@ use nets::{Entry, Frame, Refusal, Thread};
 use values::Slot;
 
 // What a loop's pick comes to: over, a round opened, or refused.
-#[derive(Drop)]
+#[derive(Clone, Copy)]
 pub enum RoundAnswer {
     Over,
     Opened,
@@ -18,7 +20,7 @@ pub enum RoundAnswer {
 }
 
 // Of a round that is opened, the visit set without the row picked, and the variables with T's formals bound to it; else both as they were.
-#[derive(Drop)]
+#[derive(Clone, Copy)]
 pub struct Round {
     pub answer: RoundAnswer,
     pub visit: [bool; 16],

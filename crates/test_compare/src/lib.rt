@@ -1,3 +1,5 @@
 // A comparison of every field of two nets.
+#![tactic(auto)]
+
 pub mod parts;
 pub mod whole;

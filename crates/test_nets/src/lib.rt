@@ -1,4 +1,6 @@
 // Nets made by hand, for tests.
+#![tactic(auto)]
+
 pub mod contents;
 pub mod exchanged;
 pub mod nodes;

@@ -1,4 +1,6 @@
 // The engine for programs in C and Rust: a net file and picks in, bytes out. Every call answers every input.
+#![tactic(auto)]
+
 ghost use Rattle.call_rules.specs.Calls.{TablesIs, AnswersIs, ThreadsIs, TraceIs, PageAfterIs, PicksIs};
 
 use call_each::answers::call_answers;

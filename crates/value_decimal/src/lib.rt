@@ -1,4 +1,6 @@
 // Numbers in decimal, put at the end of a lent part of a buffer, with blanks before them.
+#![tactic(auto)]
+
 ghost use Rattle.std.specs.Prelude.{◌≡◌, ◌++◌, ◌+◌, ◌≤◌, nat_abs, length, take};
 ghost use Rattle.value_decimal.specs.Decimals.{decimal, number, signed, blanks};
 

@@ -1,4 +1,6 @@
 // What operands give, and what formals bind.
+#![tactic(auto)]
+
 ghost use Rattle.std.specs.Prelude.{◌≡◌, get_or, set};
 ghost use Rattle.values.specs.declared.Value.TheVariants.{Int};
 ghost use Rattle.values.specs.declared.Got.TheVariants.{Nothing, One};

@@ -1,3 +1,5 @@
 // The order of values.
+#![tactic(auto)]
+
 pub mod compare;
 pub mod text;

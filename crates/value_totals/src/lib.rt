@@ -1,9 +1,11 @@
 // Sums of counts.
+#![tactic(auto)]
+
 ghost use Rattle.std.specs.Prelude.{◌≡◌, ◌+◌, ◌<◌, ◌≤◌, ◌^◌};
 ghost use Rattle.value_totals.specs.Totals.{total_of};
 
 // A sum in two halves: no list of picks makes it wrap.
-#[derive(Drop)]
+#[derive(Clone, Copy)]
 pub struct Total {
     pub high: u64,
     pub low: u64,

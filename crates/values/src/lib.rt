@@ -1,17 +1,19 @@
 // Values, operands and variables. All by value.
+#![tactic(auto)]
+
 pub mod counts;
 pub mod kinds;
 
 // A physical site, 0..7.
-#[derive(Drop)]
+#[derive(Clone, Copy)]
 pub struct Site(pub u8);
 
 // A logical locality, 0..7; what it means depends on the site.
-#[derive(Drop)]
+#[derive(Clone, Copy)]
 pub struct Locality(pub u8);
 
 // A Text is its four bytes as one number, the first byte highest.
-#[derive(Drop)]
+#[derive(Clone, Copy)]
 pub enum Value {
     Int(i32),
     Text(u32),
@@ -19,14 +21,14 @@ pub enum Value {
 }
 
 // What an operand gives, or a variable holds: nothing, or one value.
-#[derive(Drop)]
+#[derive(Clone, Copy)]
 pub enum Got {
     Nothing,
     One(Value),
 }
 
 // How two values stand to each other; values of unlike kinds have no order.
-#[derive(Drop)]
+#[derive(Clone, Copy)]
 pub enum Order {
     Unlike,
     Before,
@@ -35,7 +37,7 @@ pub enum Order {
 }
 
 // The seven tags: none, three constants, variable, variable plus Int, formal.
-#[derive(Drop)]
+#[derive(Clone, Copy)]
 pub enum Operand {
     Absent,
     ConstInt(i32),
@@ -47,7 +49,7 @@ pub enum Operand {
 }
 
 // One variable: unbound while it holds nothing.
-#[derive(Drop)]
+#[derive(Clone, Copy)]
 pub struct Slot {
     pub held: Got,
 }

@@ -1,4 +1,6 @@
 // A moving window over a stream of row records: the state is handed in and comes back by value, so a stream may be of any length.
+#![tactic(auto)]
+
 ghost use Rattle.std.specs.Prelude.{◌≡◌, ◌-◌, ◌≤◌, length, drop};
 ghost use Rattle.std.proofs.Math.Option.{some};
 ghost use Rattle.window_rules.specs.Windows.{width_ok, begin_number, slid, taken_int};
@@ -11,7 +13,7 @@ pub mod figures;
 pub mod readings;
 
 // A window of `width` rows over one column, and the first `count` of `ints` are the Ints of that column in its rows, the oldest first.
-#[derive(Drop)]
+#[derive(Clone, Copy)]
 pub struct Window {
     pub width: usize,
     pub column: usize,
@@ -19,34 +21,34 @@ pub struct Window {
     pub ints: [i32; 16],
 }
 
-#[derive(Drop)]
+#[derive(Clone, Copy)]
 pub enum Beginning {
     Accepted,
     BadWidth,
 }
 
-#[derive(Drop)]
+#[derive(Clone, Copy)]
 pub struct Begun {
     pub beginning: Beginning,
     pub window: Window,
 }
 
 // The Int that a record brings into a window.
-#[derive(Drop)]
+#[derive(Clone, Copy)]
 pub enum Reading {
     Found(i32),
     Missing,
 }
 
 // Sum, least and largest, or what is refused.
-#[derive(Drop)]
+#[derive(Clone, Copy)]
 pub enum WindowAnswer {
     Figures(i64, i32, i32),
     BadWindow,
     BadRecord,
 }
 
-#[derive(Drop)]
+#[derive(Clone, Copy)]
 pub struct Taken {
     pub answer: WindowAnswer,
     pub window: Window,

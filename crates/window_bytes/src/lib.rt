@@ -1,4 +1,6 @@
 // A window whose state another program keeps, as 88 bytes that it lends to each call.
+#![tactic(auto)]
+
 pub mod calls;
 pub mod put;
 pub mod read;

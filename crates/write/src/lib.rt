@@ -1,4 +1,6 @@
 // Writing a net: its tables as records at the start of a lent buffer.
+#![tactic(auto)]
+
 ghost use Rattle.files.specs.Engine.{WriteIs};
 
 use crate::tables::write_tables;

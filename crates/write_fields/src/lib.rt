@@ -1,4 +1,6 @@
 // Fields of table and row records, each written into its own bytes.
+#![tactic(auto)]
+
 ghost use Rattle.std.specs.Prelude.{◌≡◌, [], ◌∷◌, ◌≤◌, length, replicate};
 ghost use Rattle.rows.specs.View.{values_of, columns_of};
 ghost use Rattle.record_bytes.specs.Encoding.{bits32, operand_bytes, tuple_bytes, start_bytes, column_bytes};

@@ -1,4 +1,6 @@
 // A table or a row written as a record, and the rows of one table.
+#![tactic(auto)]
+
 ghost use Rattle.std.specs.Prelude.{◌≡◌, map, ◌*◌, ◌≤◌, length};
 ghost use Rattle.rows.specs.View.{values_of, relation_of};
 ghost use Rattle.record_bytes.specs.Encoding.{row_bytes, table_bytes};
