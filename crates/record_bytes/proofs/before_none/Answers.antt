@@ -6,9 +6,7 @@ use lib.ListN.{length}
 use native.Mathlib.Omega.{arith}
 use Rattle.record_bytes.specs.Bytes.{leading}
 use Rattle.record_bytes.proofs.ByteLaws.{same}
-use borrow.Author.Rules.{rules}
-use Rattle.record_bytes.proofs.before_none.Statement.{statement}
-use Rattle.record_bytes.proofs.before_none.Tie as tie
+use Rattle.record_bytes.proofs.before_none.Goals as goal
 
 module _ (a b c d : Bool) (p : a ≡ false) where
   one : b ≡ true → 1 ≡ length (leading same (a ∷ b ∷ c ∷ d ∷ []))
@@ -23,17 +21,14 @@ module _ (a b c d : Bool) (p : a ≡ false) where
   four : b ≡ false → c ≡ false → d ≡ false → 4 ≡ length (leading same (a ∷ b ∷ c ∷ d ∷ []))
   four q r s = rw (p, q, r, s)
 
-returns-2 : tie.Need-returns-2
-returns-2 c = (search one, omega arith)
+pub returns-then-b : goal.returns-then-b
+returns-then-b c = (search one, omega arith)
 
-returns-3 : tie.Need-returns-3
-returns-3 c = (search two, omega arith)
+pub returns-then-c : goal.returns-then-c
+returns-then-c c = (search two, omega arith)
 
-returns-4 : tie.Need-returns-4
-returns-4 c = (search three, omega arith)
+pub returns-then-d : goal.returns-then-d
+returns-then-d c = (search three, omega arith)
 
-returns-5 : tie.Need-returns-5
-returns-5 c = (search four, omega arith)
-
-pub before-none-spec : {M : Type 1} → statement M
-before-none-spec = tie.close (tie.spec (λ c. search rules) returns-2 returns-3 returns-4 returns-5)
+pub returns-else-d : goal.returns-else-d
+returns-else-d c = (search four, omega arith)

@@ -4,8 +4,7 @@ use mathlib.Core.Bool.{Bool, true, false, not, ◌&&◌, ◌||◌}
 use mathlib.Core.List.{[], ◌∷◌}
 use Rattle.record_bytes.specs.Bytes.{then_only}
 use Rattle.record_bytes.proofs.ByteLaws.{same}
-use Rattle.record_bytes.proofs.nones_last.Statement.{statement}
-use Rattle.record_bytes.proofs.nones_last.Tie as tie
+use Rattle.record_bytes.proofs.nones_last.Goals as goal
 
 last : (a b c d : Bool) → ((not a || b) && (not b || c) && (not c || d)) ≡ then_only same (a ∷ b ∷ c ∷ d ∷ [])
 last true true true true = refl
@@ -20,8 +19,5 @@ last false false true false = refl
 last false false false true = refl
 last false false false false = refl
 
-returns : tie.Need-returns
+pub returns : goal.returns
 returns c = last c.args.a c.args.b c.args.c c.args.d
-
-pub nones-last-spec : {M : Type 1} → statement M
-nones-last-spec = tie.close (tie.spec returns)

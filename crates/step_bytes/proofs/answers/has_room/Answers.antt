@@ -5,8 +5,7 @@ use mathlib.Core.Bool.{Bool, true, false}
 use native.Mathlib.Omega.{arith}
 use lib.Dec.{leb}
 use borrow.Author.Tests.{leb-true, leb-false, le-leb, lt-leb}
-use Rattle.step_bytes.proofs.answers.has_room.Statement.{statement}
-use Rattle.step_bytes.proofs.answers.has_room.Tie as tie
+use Rattle.step_bytes.proofs.answers.has_room.Goals as goal
 
 divided : (n l : ℕ) → leb n (l / 24) ≡ leb (n * 24) l
 divided n l = go (leb n (l / 24)) refl
@@ -15,8 +14,5 @@ divided n l = go (leb n (l / 24)) refl
     go true e = e ∙ sym (le-leb (n * 24) l (omega (arith, leb-true n (l / 24) e)))
     go false e = e ∙ sym (lt-leb (n * 24) l (omega (arith, leb-false n (l / 24) e)))
 
-returns : tie.Need-returns
+pub returns : goal.returns
 returns c = search divided
-
-pub has-room-spec : {M : Type 1} → statement M
-has-room-spec = tie.close (tie.spec returns)

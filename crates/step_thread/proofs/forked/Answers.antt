@@ -9,19 +9,15 @@ use Rattle.nets.specs.Nets as M
 use Rattle.nets.specs.View.{bindings_of, entry_with}
 use Rattle.step_thread.proofs.ThreadLaws.{stack_push}
 use borrow.Author.Rules.{rules}
-use Rattle.step_thread.proofs.forked.Statement.{statement}
-use Rattle.step_thread.proofs.forked.Tie as tie
+use Rattle.step_thread.proofs.forked.Goals as goal
 
-returns : tie.Need-returns
+pub returns : goal.returns
 returns c =
-    let t = c.before.args.t in
-    let f = c.run-frame.result in
+    let t = c.args.t in
+    let f = c.run_frame-f.result in
     let n : length t.stack ≡ 8 = search (long, rules) in (
       λ bs.
-          ap (λ (s : List M.Entry). record { site = t.site; bindings = bindings_of c.before.args.vars t.relations; stack = s })
-          (stack_push bs 0 t.stack f (omega (arith, n)) ∙ ap (λ (e : Entry). entry_with (bs 0) f.visit e ∷ []) c.run-frame.ensures),
+          ap (λ (s : List M.Entry). record { site = t.site; bindings = bindings_of c.args.vars t.relations; stack = s })
+          (stack_push bs 0 t.stack f (omega (arith, n)) ∙ ap (λ (e : Entry). entry_with (bs 0) f.visit e ∷ []) c.run_frame-f.ensures),
       refl,
     )
-
-pub forked-spec : {M : Type 1} → statement M
-forked-spec = tie.close (tie.spec (λ c κs. search rules) (λ c. search rules) returns)

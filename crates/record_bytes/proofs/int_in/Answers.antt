@@ -7,15 +7,11 @@ use mir.Val.{to_z, of_z, SFits}
 use mir.Syntax.{w32}
 use mir.Facts.{to_z-of_z}
 use Rattle.record_bytes.specs.Bytes.{little, signed, int_in}
-use borrow.Author.Rules.{rules, sfits_of}
-use Rattle.record_bytes.proofs.int_in.Statement.{statement}
-use Rattle.record_bytes.proofs.int_in.Tie as tie
+use borrow.Author.Rules.{sfits_of}
+use Rattle.record_bytes.proofs.int_in.Goals as goal
 
 read : (bs : List ℕ) (n : ℕ) (z : ℤ) → n ≡ little bs → z ≡ signed n → SFits w32 z → to_z w32 (of_z w32 z) ≡ int_in bs
 read bs n z h e f = rw (to_z-of_z f, ← h) e
 
-returns : tie.Need-returns
+pub returns : goal.returns
 returns c = search (read, sfits_of)
-
-pub int-in-spec : {M : Type 1} → statement M
-int-in-spec = tie.close (tie.spec (λ c κs. search rules) (λ c κs. search rules) returns)
