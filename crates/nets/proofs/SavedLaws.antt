@@ -14,7 +14,7 @@ use Rattle.values.proofs.AgreeLaws.{agree_eq, agree_refl}
 use Rattle.values.proofs.SameLaws.{row_eq, row_refl}
 use Rattle.rows.specs.Relations.{Relation}
 use Rattle.rows.specs.Fit.{same_columns}
-use Rattle.nets.specs.Nets.{is_sequential, Bindings, Node, Entry, to_run, visiting, Thread}
+use Rattle.nets.specs.Nets.{is_sequential, Node, Entry, to_run, visiting, Thread}
 use Rattle.nets.specs.Sound.{no_node, bindings_ok, entry_ok, same_relation, agree_on, saved_agrees, all_saved_agree, entries_ok}
 use Rattle.nets.specs.Steps.{with_bindings, restored}
 

@@ -5,7 +5,6 @@ use mathlib.Core.List.{List, [], ◌∷◌, ◌++◌, append-nil, append_assoc}
 use native.Mathlib.Omega.{arith}
 use lib.ListN.{length, get_or, length-append}
 use Rattle.values.proofs.Firsts.{length-firsts, firsts-next}
-use Rattle.rows.specs.declared.Row.{Row}
 use Rattle.rows.specs.declared.Relation.{Relation}
 use Rattle.rows.specs.Relations as M
 use Rattle.rows.specs.View.{no_row, values_of, columns_of, rows_of, relation_of, Shaped}

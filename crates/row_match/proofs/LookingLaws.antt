@@ -6,10 +6,9 @@ use Rattle.values.specs.declared.Operand.{Operand}
 use Rattle.values.specs.declared.Operand.TheVariants.{Absent}
 use Rattle.values.specs.Operands.{Vars}
 use Rattle.values.proofs.LookLaws.{Failing, looked-first, looked-second, looked-before, looked-whole, looked-left, looked-early}
-use Rattle.rows.specs.declared.Matched.{Matched}
 use Rattle.rows.specs.Relations.{Row}
 use Rattle.rows.specs.Matching.{field_matches, matches, looked}
-use Rattle.rows.specs.Looking.{no_value, MatchedIs, LastFails, LeftEarly, EveryRowLeftEarly}
+use Rattle.rows.specs.Looking.{no_value, LastFails, LeftEarly, EveryRowLeftEarly}
 
 module _ (e : Vars) (t : List Operand) (r : Row) where
   last-fails : {n : ℕ} → Failing (field_matches e) Absent no_value t r n → LastFails e t r n

@@ -1,10 +1,10 @@
 -- Wants looked at field by field: as many as the rule says, for T and rows of any lengths. Assumes nothing.
 use Prim.Native.Nat.{ℕ, ◌≤◌, ◌<◌}
-use mathlib.Core.Path.{◌≡◌, refl, sym, ap, ap₂, ◌∙◌, subst}
+use mathlib.Core.Path.{◌≡◌, refl, sym, ap, ap₂, ◌∙◌}
 use mathlib.Core.Bool.{Bool, true, false, cond, ◌&&◌}
 use mathlib.Core.List.{List}
 use native.Mathlib.Omega.{arith}
-use borrow.Author.Tests.{eqb-true, eqb-false, ltb-true, ltb-false, lt-ltb}
+use borrow.Author.Tests.{eqb-true, eqb-false, ltb-false, lt-ltb}
 use lib.Dec.{eqb, ltb}
 use lib.ListN.{length, get_or}
 use Rattle.values.specs.declared.Value.{Value}
@@ -21,11 +21,10 @@ use Rattle.rows.specs.declared.Field.{Field}
 use Rattle.rows.specs.declared.Operands.{Operands}
 use Rattle.rows.specs.declared.Want.TheVariants.{Anything}
 use Rattle.rows.specs.declared.Wanted.{Wanted}
-use Rattle.rows.specs.declared.Matched.{Matched}
 use Rattle.rows.specs.Matching.{field_matches, matches, looked}
 use Rattle.rows.specs.Looking.{no_value, MatchedIs}
 use Rattle.rows.specs.View.{no_cell, no_field, values_of, operands_of}
-use Rattle.rows.specs.Plans.{want_of, want_at, meets, wants_met, no_wanted, wants_in, WantsAre}
+use Rattle.rows.specs.Plans.{want_of, meets, wants_met, no_wanted, wants_in, WantsAre}
 use Rattle.rows.proofs.Agreeing.{firsts-unlike}
 use Rattle.rows.proofs.PlanLaws.{want_meets}
 
