@@ -5,10 +5,8 @@ use mathlib.Core.Bool.{Bool, false, ◌&&◌}
 use mathlib.Core.List.{List, [], ◌∷◌}
 use lib.ListN.{get_or}
 use Rattle.record_bytes.specs.Bytes.{at, part, zeros, operand_form}
-use borrow.Author.Rules.{rules}
 use Rattle.record_nodes.proofs.TagLaws.{tag_at, tag_past}
-use Rattle.record_nodes.proofs.operands.operand_form.Statement.{statement}
-use Rattle.record_nodes.proofs.operands.operand_form.Tie as tie
+use Rattle.record_nodes.proofs.operands.operand_form.Goals as goal
 
 abbrev forms : List ℕ → List Bool
 forms bs = zeros (part 1 8 bs) ∷ zeros (part 1 4 bs) ∷ zeros (part 1 4 bs) ∷ (zeros (part 1 4 bs) && zeros (part 5 8 bs)) ∷ zeros (part 2 8 bs) ∷ zeros (part 2 4 bs) ∷ zeros (part 2 8 bs) ∷ []
@@ -25,48 +23,26 @@ module _ (bs : List ℕ) where
   unfolding operand_form
   other a b c d e f g = tag_past (forms bs) false (at bs 0) refl a b c d e f g
 
-pub operand-form-spec : {M : Type 1} → statement M
-operand-form-spec =
-    tie.close
-    (tie.spec
-    (λ c. search rules)
-    (λ c. search rules)
-    (λ c. search rules)
-    (λ c. search rules)
-    (λ c κs. search rules)
-    (λ c. search rules)
-    (λ c. search rules)
-    (λ c. search rules)
-    (λ c κs. search rules)
-    (λ c. search rules)
-    (λ c. search rules)
-    (λ c. search rules)
-    (λ c κs. search rules)
-    (λ c. search rules)
-    (λ c. search rules)
-    (λ c. search rules)
-    (λ c κs. search rules)
-    (λ c. search rules)
-    (λ c. search rules)
-    (λ c. search rules)
-    (λ c κs. search rules)
-    (λ c. search rules)
-    (λ c. search rules)
-    (λ c. search rules)
-    (λ c κs. search rules)
-    (λ c. search rules)
-    (λ c. search rules)
-    (λ c. search rules)
-    (λ c κs. search rules)
-    (λ c. search rules)
-    (λ c. search rules)
-    (λ c. search rules)
-    (λ c κs. search rules)
-    (λ c. search (tagged 0))
-    (λ c. search (tagged 1))
-    (λ c. search (tagged 2))
-    (λ c. search loc)
-    (λ c. search (tagged 4))
-    (λ c. search (tagged 5))
-    (λ c. search (tagged 6))
-    (λ c. search other))
+pub returns-in-0 : goal.returns-in-0
+returns-in-0 c = search (tagged 0)
+
+pub returns-in-1 : goal.returns-in-1
+returns-in-1 c = search (tagged 1)
+
+pub returns-in-2 : goal.returns-in-2
+returns-in-2 c = search (tagged 2)
+
+pub returns-in-3 : goal.returns-in-3
+returns-in-3 c = search loc
+
+pub returns-in-4 : goal.returns-in-4
+returns-in-4 c = search (tagged 4)
+
+pub returns-in-5 : goal.returns-in-5
+returns-in-5 c = search (tagged 5)
+
+pub returns-in-6 : goal.returns-in-6
+returns-in-6 c = search (tagged 6)
+
+pub returns-in_default : goal.returns-in_default
+returns-in_default c = search other

@@ -10,10 +10,9 @@ use mir.Facts.{to_z-of_z}
 use Rattle.values.specs.declared.Operand.{Operand}
 use Rattle.values.specs.declared.Operand.TheVariants.{Absent, ConstInt, ConstText, ConstLoc, Var, Plus, Formal}
 use Rattle.record_bytes.specs.Bytes.{at, part, text_in, int_in, operand_in}
-use borrow.Author.Rules.{rules, sfits_of}
+use borrow.Author.Rules.{sfits_of}
 use Rattle.record_nodes.proofs.TagLaws.{tag_at, tag_past}
-use Rattle.record_nodes.proofs.operands.operand_in.Statement.{statement}
-use Rattle.record_nodes.proofs.operands.operand_in.Tie as tie
+use Rattle.record_nodes.proofs.operands.operand_in.Goals as goal
 
 abbrev operands : List ℕ → List Operand
 operands bs =
@@ -34,32 +33,26 @@ module _ (bs : List ℕ) where
   unfolding operand_in
   other a b c d e f g = tag_past (operands bs) Absent (at bs 0) refl a b c d e f g
 
-pub operand-in-spec : {M : Type 1} → statement M
-operand-in-spec =
-    tie.close
-    (tie.spec
-    (λ c. search rules)
-    (λ c. search rules)
-    (λ c. search rules)
-    (λ c. search rules)
-    (λ c κs. search rules)
-    (λ c. search rules)
-    (λ c. search rules)
-    (λ c. search rules)
-    (λ c κs. search rules)
-    (λ c. search rules)
-    (λ c. search rules)
-    (λ c. search rules)
-    (λ c. search rules)
-    (λ c. search rules)
-    (λ c. search rules)
-    (λ c κs. search rules)
-    (λ c. search rules)
-    (λ c. search (tagged 0))
-    (λ c. search (int, sfits_of))
-    (λ c. search (tagged 2))
-    (λ c. search (tagged 3))
-    (λ c. search (tagged 4))
-    (λ c. search (plus, sfits_of))
-    (λ c. search (tagged 6))
-    (λ c. search other))
+pub returns-in-0 : goal.returns-in-0
+returns-in-0 c = search (tagged 0)
+
+pub returns-in-1 : goal.returns-in-1
+returns-in-1 c = search (int, sfits_of)
+
+pub returns-in-2 : goal.returns-in-2
+returns-in-2 c = search (tagged 2)
+
+pub returns-in-3 : goal.returns-in-3
+returns-in-3 c = search (tagged 3)
+
+pub returns-in-4 : goal.returns-in-4
+returns-in-4 c = search (tagged 4)
+
+pub returns-in-5 : goal.returns-in-5
+returns-in-5 c = search (plus, sfits_of)
+
+pub returns-in-6 : goal.returns-in-6
+returns-in-6 c = search (tagged 6)
+
+pub returns-in_default : goal.returns-in_default
+returns-in_default c = search other

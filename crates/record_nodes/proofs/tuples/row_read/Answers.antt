@@ -12,8 +12,7 @@ use Rattle.nets.specs.Sound.{operands_ok}
 use Rattle.record_bytes.specs.Bytes.{part, zeros, operands_form, operands_in}
 use Rattle.record_bytes.specs.Decoding.{site_at, name_in, row_form}
 use borrow.Author.Rules.{rules}
-use Rattle.record_nodes.proofs.tuples.row_read.Statement.{statement}
-use Rattle.record_nodes.proofs.tuples.row_read.Tie as tie
+use Rattle.record_nodes.proofs.tuples.row_read.Goals as goal
 
 whole : (r : List ℕ) (os : List Operand) (s : Site) (t : ℕ) (a b c d e f g : Bool) → os ≡ operands_in (part 56 88 r) → s ≡ site_at 1 r → a ≡ site_ok s → b ≡ zeros (part 2 4 r) → t ≡ name_in r → c ≡ is_text t
     → d ≡ zeros (part 8 56 r) → e ≡ operands_form (part 56 88 r) → f ≡ operands_ok 3 os → g ≡ zeros (part 88 104 r) → (a && b && c && d && e && f && g) ≡ row_form r
@@ -23,31 +22,5 @@ whole r os s t a b c d e f g ho hs ha hb ht hc hd he hf hg = rw (ha, hs, hb, hc,
 read : (ts os : List Operand) (gs : List Got) → gs ≡ map (eval []) ts → ts ≡ os → gs ≡ map (eval []) os
 read ts os gs p q = p ∙ ap (map (eval [])) q
 
-pub row-read-spec : {M : Type 1} → statement M
-row-read-spec =
-    tie.close
-    (tie.spec
-    (λ c. search rules)
-    (λ c. search rules)
-    (λ c. search rules)
-    (λ c κs. search rules)
-    (λ c κs. search rules)
-    (λ c κs. search rules)
-    (λ c. search rules)
-    (λ c. search rules)
-    (λ c. search rules)
-    (λ c κs. search rules)
-    (λ c κs. search rules)
-    (λ c κs. search rules)
-    (λ c. search rules)
-    (λ c. search rules)
-    (λ c. search rules)
-    (λ c κs. search rules)
-    (λ c κs. search rules)
-    (λ c κs. search rules)
-    (λ c. search rules)
-    (λ c. search rules)
-    (λ c. search rules)
-    (λ c κs. search rules)
-    (λ c κs. search rules)
-    (λ c. (search whole, search read, search rules)))
+pub returns : goal.returns
+returns c = (search whole, search read, search rules)

@@ -7,9 +7,7 @@ use Rattle.values.specs.Lists.{all}
 use Rattle.nets.specs.Sound.{is_absent}
 use Rattle.record_bytes.specs.Bytes.{part, then_only, operand_form, operand_in, operands_form}
 use Rattle.record_bytes.proofs.ByteLaws.{same, four, four-parts, all-four, only_flags}
-use borrow.Author.Rules.{rules}
-use Rattle.record_nodes.proofs.operands.operands_form.Statement.{statement}
-use Rattle.record_nodes.proofs.operands.operands_form.Tie as tie
+use Rattle.record_nodes.proofs.operands.operands_form.Goals as goal
 
 form-is : (bs : List ℕ) → operands_form bs ≡ (all operand_form (four bs) && then_only is_absent (map operand_in (four bs)))
 unfolding operands_form
@@ -24,29 +22,5 @@ whole bs i j k l e f g h n pi pj pk pl pe pf pg ph pn =
     let nones : n ≡ then_only is_absent (map operand_in (four bs)) = rw (pn, pi, pj, pk, pl) (only_flags is_absent (map operand_in (four bs))) in
     ap₂ ◌&&◌ forms nones ∙ sym (form-is bs)
 
-pub operands-form-spec : {M : Type 1} → statement M
-operands-form-spec =
-    tie.close
-    (tie.spec
-    (λ c. search rules)
-    (λ c. search rules)
-    (λ c. search rules)
-    (λ c. search rules)
-    (λ c. search rules)
-    (λ c. search rules)
-    (λ c. search rules)
-    (λ c. search rules)
-    (λ c. search rules)
-    (λ c. search rules)
-    (λ c. search rules)
-    (λ c. search rules)
-    (λ c κs. search rules)
-    (λ c κs. search rules)
-    (λ c κs. search rules)
-    (λ c κs. search rules)
-    (λ c κs. search rules)
-    (λ c κs. search rules)
-    (λ c κs. search rules)
-    (λ c κs. search rules)
-    (λ c κs. search rules)
-    (λ c. search whole))
+pub returns : goal.returns
+returns c = search whole

@@ -10,8 +10,7 @@ use Rattle.nets.specs.View.{kind_at, node_of}
 use Rattle.record_bytes.specs.Bytes.{at}
 use Rattle.record_bytes.specs.Decoding.{node_in, node_bytes, node_form}
 use borrow.Author.Rules.{rules}
-use Rattle.record_nodes.proofs.nodes.node_read.Statement.{statement}
-use Rattle.record_nodes.proofs.nodes.node_read.Tie as tie
+use Rattle.record_nodes.proofs.nodes.node_read.Goals as goal
 
 kind-in : (r : List ℕ) → (node_in r).kind ≡ kind_at (at r 0)
 unfolding node_in
@@ -20,6 +19,5 @@ kind-in r = refl
 whole : (r : List ℕ) (a b : Bool) (d : Node) → node_of d ≡ node_in r → a ≡ node_bytes (kind_at (at r 0)) r → b ≡ fields_ok_as (kind_at d.kind) (node_of d) → (a && b) ≡ node_form r
 whole r a b d hd ha hb = ap₂ ◌&&◌ (ha ∙ ap (λ k. node_bytes k r) (sym (kind-in r))) (hb ∙ ap (λ (x : M.Node). fields_ok_as x.kind x) hd)
 
-pub node-read-spec : {M : Type 1} → statement M
-node-read-spec =
-    tie.close (tie.spec (λ c κs. search rules) (λ c κs. search rules) (λ c κs. search rules) (λ c. (search whole, search rules)))
+pub returns : goal.returns
+returns c = (search whole, search rules)

@@ -9,9 +9,7 @@ use Rattle.rows.specs.View.{columns_of}
 use Rattle.nets.specs.Sound.{columns_ok}
 use Rattle.record_bytes.specs.Bytes.{part, zeros, columns_form, columns_in}
 use Rattle.record_bytes.specs.Decoding.{site_at, name_in, table_form}
-use borrow.Author.Rules.{rules}
-use Rattle.record_forms.proofs.table_form.Statement.{statement}
-use Rattle.record_forms.proofs.table_form.Tie as tie
+use Rattle.record_forms.proofs.table_form.Goals as goal
 
 whole : (r : List ℕ) (s : Site) (n t : ℕ) (ks : List ℕ) (a b c d e f : Bool) → columns_of n (part 8 12 r) ≡ columns_in (part 8 12 r) → ks ≡ part 8 12 r → s ≡ site_at 1 r → a ≡ site_ok s → b ≡ zeros (part 2 4 r) → t ≡ name_in r → c ≡ is_text t
     → d ≡ columns_form (part 8 12 r) → e ≡ columns_ok (columns_of n ks) → f ≡ zeros (part 12 104 r) → (a && b && c && d && e && f) ≡ table_form r
@@ -20,27 +18,5 @@ whole r s n t ks a b c d e f hn hk hs ha hb ht hc hd he hf =
     let columns : e ≡ columns_ok (columns_in (part 8 12 r)) = he ∙ ap columns_ok (ap (columns_of n) hk ∙ hn) in
     rw (ha, hs, hb, hc, ht, hd, columns, hf)
 
-pub table-form-spec : {M : Type 1} → statement M
-table-form-spec =
-    tie.close
-    (tie.spec
-    (λ c. search rules)
-    (λ c. search rules)
-    (λ c. search rules)
-    (λ c κs. search rules)
-    (λ c κs. search rules)
-    (λ c κs. search rules)
-    (λ c. search rules)
-    (λ c. search rules)
-    (λ c. search rules)
-    (λ c κs. search rules)
-    (λ c κs. search rules)
-    (λ c κs. search rules)
-    (λ c κs. search rules)
-    (λ c κs. search rules)
-    (λ c κs. search rules)
-    (λ c. search rules)
-    (λ c. search rules)
-    (λ c. search rules)
-    (λ c κs. search rules)
-    (λ c. search whole))
+pub returns : goal.returns
+returns c = search whole

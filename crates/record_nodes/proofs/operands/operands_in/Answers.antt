@@ -10,9 +10,7 @@ use Rattle.rows.specs.View.{no_field, operands_of}
 use Rattle.nets.specs.Sound.{is_absent}
 use Rattle.record_bytes.specs.Bytes.{part, leading, operand_in, operands_in}
 use Rattle.record_bytes.proofs.ByteLaws.{same, four, operands_are, leading-flags, firsts-leading}
-use borrow.Author.Rules.{rules}
-use Rattle.record_nodes.proofs.operands.operands_in.Statement.{statement}
-use Rattle.record_nodes.proofs.operands.operands_in.Tie as tie
+use Rattle.record_nodes.proofs.operands.operands_in.Goals as goal
 
 abbrev fields : Operand → Operand → Operand → Operand → List Field
 fields a b c d = record { operand = a } ∷ record { operand = b } ∷ record { operand = c } ∷ record { operand = d } ∷ []
@@ -25,29 +23,5 @@ whole bs a b c d i j k l n pa pb pc pd pi pj pk pl pn =
     let is : operands_in bs ≡ leading is_absent (a ∷ b ∷ c ∷ d ∷ []) = operands_are bs ∙ rw (pa, pb, pc, pd) refl in
     rw (count, is) (firsts-leading (λ (f : Field). f.operand) no_field is_absent (fields a b c d))
 
-pub operands-in-spec : {M : Type 1} → statement M
-operands-in-spec =
-    tie.close
-    (tie.spec
-    (λ c. search rules)
-    (λ c. search rules)
-    (λ c. search rules)
-    (λ c. search rules)
-    (λ c. search rules)
-    (λ c. search rules)
-    (λ c. search rules)
-    (λ c. search rules)
-    (λ c. search rules)
-    (λ c. search rules)
-    (λ c. search rules)
-    (λ c. search rules)
-    (λ c κs. search rules)
-    (λ c κs. search rules)
-    (λ c κs. search rules)
-    (λ c κs. search rules)
-    (λ c κs. search rules)
-    (λ c κs. search rules)
-    (λ c κs. search rules)
-    (λ c κs. search rules)
-    (λ c κs. search rules)
-    (λ c. (search whole, record { count = c.before-none.ensures.1 })))
+pub returns : goal.returns
+returns c = (search whole, record { count = c.before_none.ensures.1 })

@@ -12,9 +12,7 @@ use Rattle.values.specs.declared.Locality.{Locality}
 use Rattle.values.specs.declared.Operand.TheVariants.{Absent, ConstInt, ConstText, ConstLoc, Var, Plus, Formal}
 use Rattle.nets.specs.Sound.{is_absent}
 use Rattle.record_bytes.specs.Bytes.{at, operand_in}
-use borrow.Author.Rules.{rules}
-use Rattle.record_nodes.proofs.operands.absent_in.Statement.{statement}
-use Rattle.record_nodes.proofs.operands.absent_in.Tie as tie
+use Rattle.record_nodes.proofs.operands.absent_in.Goals as goal
 
 tags : (k : ℕ) (i : ℤ) (t : ℕ) (l : Locality) (v : ℕ) → (eqb k 0 || ltb 6 k) ≡ is_absent (get_or (Absent ∷ ConstInt i ∷ ConstText t ∷ ConstLoc l ∷ Var v ∷ Plus v i ∷ Formal v ∷ []) k Absent)
 tags zero i t l v = refl
@@ -34,5 +32,5 @@ read : (bs : List ℕ) → (eqb (at bs 0) 0 || ltb 6 (at bs 0)) ≡ is_absent (o
 unfolding operand_in
 read bs = tags (at bs 0) _ _ _ _
 
-pub absent-in-spec : {M : Type 1} → statement M
-absent-in-spec = tie.close (tie.spec (λ c. search rules) (λ c. search rules) (λ c. search read))
+pub returns : goal.returns
+returns c = search read

@@ -8,9 +8,7 @@ use Rattle.nets.specs.Nets.{is_create, is_aggregate}
 use Rattle.nets.specs.View.{kind_at}
 use Rattle.record_bytes.specs.Bytes.{at, part, zeros, text_in, operand_form, operands_form, columns_form, is_function}
 use Rattle.record_bytes.specs.Decoding.{node_bytes}
-use borrow.Author.Rules.{rules}
-use Rattle.record_nodes.proofs.nodes.node_bytes.Statement.{statement}
-use Rattle.record_nodes.proofs.nodes.node_bytes.Tie as tie
+use Rattle.record_nodes.proofs.nodes.node_bytes.Goals as goal
 
 whole : (r : List ℕ) (t : ℕ) (create aggregate a b c d e f : Bool)
     → a ≡ cond create (columns_form (part 8 12 r)) (is_function (at r 10)) → t ≡ text_in (part 12 16 r) → b ≡ operand_form (part 16 24 r) → c ≡ operands_form (part 24 56 r)
@@ -19,38 +17,5 @@ whole : (r : List ℕ) (t : ℕ) (create aggregate a b c d e f : Bool)
 unfolding node_bytes
 whole r t create aggregate a b c d e f ha ht hb hc hd he hf hk hg = rw (ha, ht, hb, hc, hd, he, hf, hk, hg)
 
-pub node-bytes-spec : {M : Type 1} → statement M
-node-bytes-spec =
-    tie.close
-    (tie.spec
-    (λ c. search rules)
-    (λ c κs. search rules)
-    (λ c κs. search rules)
-    (λ c. search rules)
-    (λ c. search rules)
-    (λ c. search rules)
-    (λ c. search rules)
-    (λ c. search rules)
-    (λ c κs. search rules)
-    (λ c. search rules)
-    (λ c. search rules)
-    (λ c. search rules)
-    (λ c κs. search rules)
-    (λ c. search rules)
-    (λ c. search rules)
-    (λ c. search rules)
-    (λ c κs. search rules)
-    (λ c. search rules)
-    (λ c. search rules)
-    (λ c. search rules)
-    (λ c κs. search rules)
-    (λ c κs. search rules)
-    (λ c. search rules)
-    (λ c. search rules)
-    (λ c. search rules)
-    (λ c κs. search rules)
-    (λ c. search rules)
-    (λ c. search rules)
-    (λ c. search rules)
-    (λ c κs. search rules)
-    (λ c. search whole))
+pub returns : goal.returns
+returns c = search whole

@@ -14,9 +14,7 @@ use Rattle.nets.specs.View.{kind_at}
 use Rattle.record_bytes.specs.Bytes.{at, part, operand_in, operands_in, columns_in, function_at}
 use Rattle.record_bytes.specs.Decoding.{name_in, node_in}
 use Rattle.record_bytes.specs.RecordKinds.{selector_in}
-use borrow.Author.Rules.{rules}
-use Rattle.record_nodes.proofs.nodes.node_in.Statement.{statement}
-use Rattle.record_nodes.proofs.nodes.node_in.Tie as tie
+use Rattle.record_nodes.proofs.nodes.node_in.Goals as goal
 
 abbrev made : List ℕ → ℕ → ℕ → ℕ → Function → ℕ → Columns → Operand → Selector → List Operand → Operand → Node
 made r name bound read function column columns place selector tuple result =
@@ -43,53 +41,10 @@ node-is : (r : List ℕ) (create aggregate : Bool) (n b d : ℕ) (f : Function) 
 unfolding node_in
 node-is r create aggregate n b d f k m ks p s t o hn hb hd hf hk hm hks hp hs ht ho hc ha = rw (hn, hb, hd, hf, hk, hks, hm, hp, hs, ht, ho, hc, ha)
 
-returns : tie.Need-returns
+pub returns : goal.returns
 returns c =
-    let c₁ = c.before.before.before.before.before in
-    let c₂ = c₁.before.before.before.before.before.before in
-    let c₃ = c₂.before.before.before.before in
-    let c₄ = c₃.before.before.before in
-    let c₅ = c₄.before.before.before in
-    let r = c₅.before.before.before.before.args.r.now in
-    node-is r _ _ _ _ _ _ _ c₁.before.column-count.result _ _ _ _ _ c₃.record-name.ensures c₂.before.before.byte-in.ensures c₂.byte-in2.ensures
-    c₁.before.before.before.before.function-in.ensures c₁.before.before.byte-in3.ensures c₁.before.column-count.ensures c₁.kinds-in.ensures
-    c.before.before.before.Operand-in.ensures c.before.before.selector-in.ensures c.tuple-in.ensures c₄.result-in.ensures
-    c₅.before.is-create.ensures c₅.is-aggregate.ensures
-
-pub node-in-spec : {M : Type 1} → statement M
-node-in-spec =
-    tie.close
-    (tie.spec
-    (λ c. search rules)
-    (λ c κs. search rules)
-    (λ c κs. search rules)
-    (λ c. search rules)
-    (λ c. search rules)
-    (λ c. search rules)
-    (λ c. search rules)
-    (λ c. search rules)
-    (λ c. search rules)
-    (λ c κs. search rules)
-    (λ c. search rules)
-    (λ c. search rules)
-    (λ c κs. search rules)
-    (λ c. search rules)
-    (λ c κs. search rules)
-    (λ c. search rules)
-    (λ c κs. search rules)
-    (λ c. search rules)
-    (λ c κs. search rules)
-    (λ c. search rules)
-    (λ c κs. search rules)
-    (λ c κs. search rules)
-    (λ c κs. search rules)
-    (λ c. search rules)
-    (λ c. search rules)
-    (λ c. search rules)
-    (λ c κs. search rules)
-    (λ c κs. search rules)
-    (λ c. search rules)
-    (λ c. search rules)
-    (λ c. search rules)
-    (λ c κs. search rules)
-    returns)
+    let r = c.args.r.now in
+    node-is r _ _ _ _ _ _ _ c.column_count.result _ _ _ _ _ c.record_name.ensures c.byte_in.ensures c.byte_in-2.ensures
+    c.function_in.ensures c.byte_in-3.ensures c.column_count.ensures c.kinds_in.ensures
+    c.operand_in.ensures c.selector_in.ensures c.tuple_in.ensures c.result_in-result.ensures
+    c.is_create-create.ensures c.is_aggregate-aggregate.ensures
