@@ -9,14 +9,13 @@ use lib.ListN.{get_or}
 use Rattle.values.proofs.Bools.{T_of}
 use Rattle.nets.specs.declared.Pick.{Pick}
 use Rattle.nets.specs.Nets.{code, is_sequential, is_parallel, Kind, Node, Entry, to_run, visiting, Thread, Net, Outcome}
-use Rattle.nets.specs.Sound.{no_node, entry_node}
+use Rattle.nets.specs.Sound.{no_node}
 use Rattle.nets.specs.Scenes.{Scene, scene_of, below, opens}
 use Rattle.nets.specs.Steps.{bindings_by, with_bindings, with_stack, keep_thread, restored, go_on, settle, plain, round_bindings, loop_entry, sequential_round, parallel_round, threads_after, net_after, performed, checks, step}
 use Rattle.nets.specs.Accounts.{net_left, next_net, after}
-use Rattle.nets.specs.View.{view}
 use Rattle.nets.proofs.StepLaws.{judged}
 use Rattle.files.specs.FileDemand3.{file_net}
-use Rattle.files.specs.Rounds.{between_rounds, rounds_ended, EveryRoundEnds}
+use Rattle.files.specs.Rounds.{rounds_ended, EveryRoundEnds}
 use Rattle.files.proofs.EngineLaws.{chain_after, verdict-accepts}
 use Rattle.files.proofs.FileLaws.{file-starts}
 

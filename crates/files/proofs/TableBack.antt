@@ -1,5 +1,5 @@
 -- A table record that is written is read again. Assumes nothing.
-use Prim.Native.Nat.{ℕ, ◌+◌, ◌-◌, ◌≤◌}
+use Prim.Native.Nat.{ℕ, ◌-◌, ◌≤◌}
 use mathlib.Core.Path.{◌≡◌, refl, sym, ap, ◌∙◌, subst}
 use mathlib.Core.Bool.{true, not, ◌&&◌}
 use mathlib.Core.List.{[], ◌∷◌, ◌++◌, append-nil}

@@ -3,7 +3,7 @@
 use Rattle.std.specs.Prelude.{ℕ, ◌≡◌, List, [], ◌∷◌, T, get_or}
 use Rattle.nets.specs.declared.Pick.{Pick}
 use Rattle.nets.specs.declared.Stepped.{Stepped}
-use Rattle.nets.specs.Nets.{is_sequential, Node, Bindings, Entry, to_run, visiting, Thread, Net}
+use Rattle.nets.specs.Nets.{is_sequential, Node, Bindings, Entry, to_run, visiting, Thread}
 use Rattle.nets.specs.Sound.{no_node}
 use Rattle.nets.specs.View.{view}
 use Rattle.files.specs.declared.Verdict.TheVariants as verdict

@@ -1,7 +1,7 @@
 -- Every row of a relation that a function is passed has four cells: what owning the relation tells says so of each element.
 use Prim.Native.Nat.{ℕ, zero, suc, ◌<◌, ◌≤◌}
 use mathlib.Core.Path.{◌≡◌, subst, sym}
-use mathlib.Core.List.{List, [], ◌∷◌, map}
+use mathlib.Core.List.{List, [], ◌∷◌}
 use native.Mathlib.Omega.{arith}
 use lib.ListN.{length, get_or}
 use mir.Val.{Val}
@@ -9,7 +9,6 @@ use base.Fml.{Fml}
 use denote.Array.{each}
 use denote.Laws.{Is}
 use denote.Shadow.{shadow}
-use Rattle.values.proofs.Arrays.{long}
 use Rattle.rows.specs.declared.Row.{Row}
 use Rattle.rows.specs.declared.Relation.{Relation}
 use Rattle.rows.specs.View.{no_row}

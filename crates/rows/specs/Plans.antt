@@ -22,7 +22,6 @@ use Rattle.rows.specs.declared.Want.TheVariants.{Anything, Like}
 use Rattle.rows.specs.declared.Wanted.{Wanted}
 use Rattle.rows.specs.declared.Plan.{Plan}
 use Rattle.rows.specs.declared.Operands.{Operands}
-use Rattle.rows.specs.Relations as M
 use Rattle.rows.specs.Matching.{is_same, agrees, matches}
 use Rattle.rows.specs.View.{no_cell, no_field, operands_of, values_of}
 

@@ -1,5 +1,5 @@
 -- A column in use, or past the last.
-use Rattle.std.proofs.Common.{◌≡◌, ◌<◌, ◌≤◌, get_or, ℕ, length, List, sym, arith}
+use Rattle.std.proofs.Common.{◌≡◌, ◌<◌, ◌≤◌, get_or, ℕ, List, sym, arith}
 use lib.ListN.{get_or-eq_default}
 use Rattle.values.proofs.Firsts.{length-firsts, firsts_at}
 use Rattle.rows.specs.View.{columns_of}
