@@ -4,7 +4,7 @@ use mathlib.Core.Path.{◌≡◌, refl, sym, ap, ap₂, subst, ◌∙◌}
 use mathlib.Core.Bool.{Bool, true, false, not, ◌&&◌}
 use mathlib.Core.List.{List}
 use native.Mathlib.Omega.{arith}
-use borrow.Author.Tests.{not-true, not-false, eq-eqb, ne_eqb}
+use borrow.Author.Tests.{eq-eqb, ne_eqb}
 use lib.Dec.{T, eqb, ltb, ltb→lt}
 use lib.ListN.{length}
 use Rattle.values.specs.declared.Operand.{Operand}
@@ -24,9 +24,7 @@ use Rattle.nets.specs.View.{entry_of, marked}
 use Rattle.step_reads.specs.ReadContracts.{flag_at}
 use Rattle.step_thread.specs.ThreadContracts.{no_bindings, RoundSaid, over, opened, stopped, round_said, round_by, visit_of, ready_at, OpenedIs, RoundIs}
 use Rattle.step_loop.proofs.MarkLaws.{passing-any, passing-among}
-use borrow.Author.Rules.{rules}
-use Rattle.step_loop.proofs.round.Statement.{statement}
-use Rattle.step_loop.proofs.round.Tie as tie
+use Rattle.step_loop.proofs.round.Goals as goal
 
 -- ── the answer of a round ──
 
@@ -93,94 +91,54 @@ module _ (s : Code.Relation) (f : Frame) (visit : List Bool) (to-visit : marked 
         ltb→lt row s.count
         (and_l (ltb row s.count) (flag_at visit row) (and_l (ltb row s.count && flag_at visit row) (p row) (T_of _ (sym (flags row) ∙ e))))
 
--- ── what the places after the tests know ──
+-- ── the answers ──
 
-abbrev start : tie.After-ready-places → tie.Start
-start r = r.before.before.before.before.before
+fits : (t : Operands) (s : Code.Relation) → t.count ≡ s.columns → eqb (length (operands_of t)) (length (relation_of s).columns) ≡ true
+fits t s h = lengths t s ∙ eq-eqb _ _ h
 
--- the row at a place matches
-abbrev test : tie.Start → ℕ → Bool
-test s = ready_at (vars_of s.args.vars) (operands_of s.args.template) (relation_of s.args.source)
+pub returns-then-template-source : goal.returns-then-template-source
+returns-then-template-source c =
+    let a = c.args in
+    misfit refl (lengths a.template a.source ∙ ne_eqb _ _ c.if-template-source.true)
 
-abbrev left : tie.Start → List ℕ
-left s = visit_of s.args.frame (relation_of s.args.source)
+pub returns-then-not-any_place : goal.returns-then-not-any_place
+returns-then-not-any_place c =
+    let a = c.args in
+    let p = ready_at (vars_of a.vars) (operands_of a.template) (relation_of a.source) in
+    let some_is = any-is a.source a.frame c.to_visit-visit.result c.to_visit-visit.ensures c.requires.2 p c.ready_places-ready.result c.ready_places-ready.ensures in
+    none-ready (fits a.template a.source c.if-template-source.false) refl (some_is ∙ sym c.any_place.ensures ∙ c.if-not-any_place.true)
 
-fits : (c : tie.Else1) →
-    let a = c.before.before.before.before.args in
-    eqb (length (operands_of a.template)) (length (relation_of a.source).columns) ≡ true
-fits c = let a = c.before.before.before.before.args in lengths a.template a.source ∙ eq-eqb _ _ c.if1.false
+pub returns-then-not-flag_in : goal.returns-then-not-flag_in
+returns-then-not-flag_in c =
+    let a = c.args in
+    let p = ready_at (vars_of a.vars) (operands_of a.template) (relation_of a.source) in
+    let some_is = any-is a.source a.frame c.to_visit-visit.result c.to_visit-visit.ensures c.requires.2 p c.ready_places-ready.result c.ready_places-ready.ensures in
+    let here-is = row_is a.source a.frame c.to_visit-visit.result c.to_visit-visit.ensures c.requires.2 p c.ready_places-ready.result c.ready_places-ready.ensures a.row in
+    not-ready (fits a.template a.source c.if-template-source.false) (some_is ∙ sym c.any_place.ensures ∙ c.if-not-any_place.false) refl
+    (here-is ∙ sym c.flag_in.ensures ∙ c.if-not-flag_in.true)
 
-module _ (r : tie.After-ready-places) where
-  some_is : any (test (start r)) (left (start r)) ≡ any (λ (u : Bool). u) r.ready-places.result
-  some_is =
-      let v = r.before.before.before.before in
-      any-is (start r).args.source (start r).args.frame v.to-visit.result v.to-visit.ensures (start r).requires.2 (test (start r)) r.ready-places.result r.ready-places.ensures
+pub returns-then-not-room : goal.returns-then-not-room
+returns-then-not-room c =
+    let a = c.args in
+    let p = ready_at (vars_of a.vars) (operands_of a.template) (relation_of a.source) in
+    let some_is = any-is a.source a.frame c.to_visit-visit.result c.to_visit-visit.ensures c.requires.2 p c.ready_places-ready.result c.ready_places-ready.ensures in
+    let here-is = row_is a.source a.frame c.to_visit-visit.result c.to_visit-visit.ensures c.requires.2 p c.ready_places-ready.result c.ready_places-ready.ensures a.row in
+    no_room (fits a.template a.source c.if-template-source.false) (some_is ∙ sym c.any_place.ensures ∙ c.if-not-any_place.false)
+    (here-is ∙ sym c.flag_in.ensures ∙ c.if-not-flag_in.false) refl (c.if-not-room.true)
 
-  here-is : (among (start r).args.row (left (start r)) && test (start r) (start r).args.row) ≡ flag_at r.ready-places.result (start r).args.row
-  here-is =
-      let v = r.before.before.before.before in
-      row_is (start r).args.source (start r).args.frame v.to-visit.result v.to-visit.ensures (start r).pre.2 (test (start r)) r.ready-places.result r.ready-places.ensures (start r).args.row
+pub opened-requires : goal.opened-requires
+opened-requires c =
+    let a = c.args in
+    let p = ready_at (vars_of a.vars) (operands_of a.template) (relation_of a.source) in
+    let here_in = row_in_lem a.source a.frame c.to_visit-visit.result c.to_visit-visit.ensures c.requires.2 p c.ready_places-ready.result c.ready_places-ready.ensures a.row in
+    (c.requires.0, c.requires.1, c.if-template-source.false, here_in (sym c.flag_in.ensures ∙ c.if-not-flag_in.false))
 
-  here_in : flag_at r.ready-places.result (start r).args.row ≡ true → (start r).args.row < (start r).args.source.count
-  here_in =
-      let v = r.before.before.before.before in
-      row_in_lem (start r).args.source (start r).args.frame v.to-visit.result v.to-visit.ensures (start r).pre.2 (test (start r)) r.ready-places.result r.ready-places.ensures (start r).args.row
-
-returns : tie.Need-returns
+pub returns : goal.returns
 returns c =
-    let a = c.before.before.before.before.args in
-    misfit refl (lengths a.template a.source ∙ ne_eqb _ _ c.if1.true)
-
-returns-2 : tie.Need-returns-2
-returns-2 c =
-    let r = c.before.before in
-    none-ready (fits r.before) refl (some_is r ∙ sym c.before.any_place.ensures ∙ not-true _ c.if2.true)
-
-returns-3 : tie.Need-returns-3
-returns-3 c =
-    let e = c.before.before in
-    let r = e.before.before in
-    not-ready (fits r.before) (some_is r ∙ sym e.before.any_place.ensures ∙ not-false _ e.if2.false) refl
-    (here-is r ∙ sym c.before.flag-in.ensures ∙ not-true _ c.if3.true)
-
-returns-4 : tie.Need-returns-4
-returns-4 c =
-    let p = c.before.before in
-    let e = p.before in
-    let r = e.before.before in
-    no_room (fits r.before) (some_is r ∙ sym e.before.any_place.ensures ∙ not-false _ e.if2.false)
-    (here-is r ∙ sym p.flag-in.ensures ∙ not-false _ c.before.if3.false) refl (not-true _ c.if4.true)
-
-opened-requires : tie.Need-opened-requires
-opened-requires c κs =
-    let p = c.before.before in
-    let r = p.before.before.before in
-    let s = start r in
-    (s.pre.0, s.pre.1, r.before.if1.false, here_in r (sym p.flag-in.ensures ∙ not-false _ c.before.if3.false))
-
-returns-5 : tie.Need-returns-5
-returns-5 c =
-    let q = c.before in
-    let p = q.before.before in
-    let e = p.before in
-    let r = e.before.before in
-    let v = r.before.before.before.before in
-    let a = v.before.args in
-    opens (fits r.before) (some_is r ∙ sym e.before.any_place.ensures ∙ not-false _ e.if2.false)
-    (here-is r ∙ sym p.flag-in.ensures ∙ not-false _ q.before.if3.false) (not-false _ q.if4.false)
-    (seen a.source a.frame v.to-visit.result v.to-visit.ensures) c.opened.ensures
-
-pub round-spec : {M : Type 1} → statement M
-round-spec =
-    tie.close
-    (tie.spec
-    (λ c κs. search rules)
-    returns
-    (λ c κs. search rules)
-    (λ c κs. search rules)
-    returns-2
-    (λ c κs. search rules)
-    returns-3
-    returns-4
-    opened-requires
-    returns-5)
+    let a = c.args in
+    let p = ready_at (vars_of a.vars) (operands_of a.template) (relation_of a.source) in
+    let some_is = any-is a.source a.frame c.to_visit-visit.result c.to_visit-visit.ensures c.requires.2 p c.ready_places-ready.result c.ready_places-ready.ensures in
+    let here-is = row_is a.source a.frame c.to_visit-visit.result c.to_visit-visit.ensures c.requires.2 p c.ready_places-ready.result c.ready_places-ready.ensures a.row in
+    opens (fits a.template a.source c.if-template-source.false) (some_is ∙ sym c.any_place.ensures ∙ c.if-not-any_place.false)
+    (here-is ∙ sym c.flag_in.ensures ∙ c.if-not-flag_in.false) (c.if-not-room.false)
+    (seen a.source a.frame c.to_visit-visit.result c.to_visit-visit.ensures) c.opened.ensures

@@ -14,8 +14,7 @@ use Rattle.nets.specs.declared.TableVariable.{TableVariable}
 use Rattle.nets.specs.View.{no_variable, variable_of}
 use Rattle.nets.specs.Steps.{is_bound_table}
 use Rattle.step_reads.specs.ReadContracts.{flag_at}
-use Rattle.step_meets.proofs.parts.bound_tables.Statement.{statement}
-use Rattle.step_meets.proofs.parts.bound_tables.Tie as tie
+use Rattle.step_meets.proofs.parts.bound_tables.Goals as goal
 
 -- a table variable's flag says that it is there
 bound_some : (b : Bool) (r : Relation) → b ≡ is_some (cond b (some r) none)
@@ -30,8 +29,5 @@ two-flags (v ∷ w ∷ []) e (suc zero) = bound_some w.bound _
 two-flags (v ∷ w ∷ []) e (suc (suc i)) = refl
 two-flags (v ∷ w ∷ x ∷ vs) e i = absurd (omega (arith, e))
 
-returns : tie.Need-returns
-returns c = let t = c.before.before.args.t1 in (two-flags t.relations (search (long, rules)), search (long, rules))
-
-pub bound-tables-spec : {M : Type 1} → statement M
-bound-tables-spec = tie.close (tie.spec (λ c. search rules) (λ c. search rules) returns)
+pub returns : goal.returns
+returns c = let t = c.args.t in (two-flags t.relations (search (long, rules)), search (long, rules))

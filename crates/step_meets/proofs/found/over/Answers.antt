@@ -4,8 +4,7 @@ use mathlib.Core.Path.{◌≡◌, ap, sym}
 use mathlib.Core.Bool.{Bool, cond}
 use borrow.Author.Tests.{lt-ltb, le-ltb}
 use lib.Dec.{ltb}
-use Rattle.step_meets.proofs.found.over.Statement.{statement}
-use Rattle.step_meets.proofs.found.over.Tie as tie
+use Rattle.step_meets.proofs.found.over.Goals as goal
 
 below : (a b x y : ℕ) → a < b → x ≡ cond (ltb a b) x y
 below a b x y h = sym (ap (λ (c : Bool). cond c x y) (lt-ltb a b h))
@@ -13,11 +12,8 @@ below a b x y h = sym (ap (λ (c : Bool). cond c x y) (lt-ltb a b h))
 past : (a b x y : ℕ) → b ≤ a → y ≡ cond (ltb a b) x y
 past a b x y h = sym (ap (λ (c : Bool). cond c x y) (le-ltb a b h))
 
-returns : tie.Need-returns
-returns c = below _ _ _ _ c.if1.true
+pub returns-then-depth-lt8 : goal.returns-then-depth-lt8
+returns-then-depth-lt8 c = below _ _ _ _ c.if-depth-lt8.true
 
-returns-2 : tie.Need-returns-2
-returns-2 c = past _ _ c.before.args.depth _ c.if1.false
-
-pub over-spec : {M : Type 1} → statement M
-over-spec = tie.close (tie.spec returns returns-2)
+pub returns : goal.returns
+returns c = past _ _ c.args.depth _ c.if-depth-lt8.false

@@ -5,7 +5,6 @@ use mathlib.Core.Bool.{true, false}
 use mathlib.Core.List.{List}
 use mathlib.Core.Logic.{◌⊎◌, inl, inr}
 use lib.Dec.{T}
-use borrow.Author.Rules.{rules}
 use Rattle.values.proofs.Bools.{T_of}
 use Rattle.values.specs.declared.Slot.{Slot}
 use Rattle.rows.specs.declared.Relation as Code
@@ -15,8 +14,7 @@ use Rattle.nets.specs.View.{kind_at}
 use Rattle.nets.proofs.KindClasses.{in_class}
 use Rattle.step_effect.specs.declared.Judged.{Judged}
 use Rattle.step_effect.specs.EffectContracts.{JudgeReady, JudgedIs}
-use Rattle.step_rows.proofs.judged.Statement.{statement}
-use Rattle.step_rows.proofs.judged.Tie as tie
+use Rattle.step_rows.proofs.judged.Goals as goal
 
 module _ (d : Node) (q : Code.Relation) (vs : List Slot) (j : Judged) (ready : JudgeReady d q) (same : j.columns ≡ q.columns) (none : has_test (kind_at d.kind) ≡ false) where
   -- no kind with a predicate
@@ -42,10 +40,6 @@ module _ (d : Node) (q : Code.Relation) (vs : List Slot) (j : Judged) (ready : J
       hits (inl e) = not_byte 18 refl e
       hits (inr e) = not_byte 22 refl e
 
-returns-2 : tie.Need-returns-2
-returns-2 c =
-    let s = c.before.before.before.before in
-    untested s.args.node s.args.source s.args.vars _ s.requires refl (sym c.before.before.before.has-test.ensures ∙ c.before.before.if1.false)
-
-pub judged-spec : {M : Type 1} → statement M
-judged-spec = tie.close (tie.spec (λ c κs. search rules) (λ c κs. search rules) (λ c. search rules) returns-2)
+pub returns : goal.returns
+returns c =
+    untested c.args.node c.args.source c.args.vars _ c.requires refl (sym c.has_test.ensures ∙ c.if-has_test.false)
