@@ -13,7 +13,7 @@ fn main() {
     let library = directory.join("libtivgeral.a");
     assert!(
         library.is_file(),
-        "{} is not there; make it with `rt staticlib tivgeral` at the root of the repository",
+        "{} is not there; make it with `tools/build` at the root of the repository",
         library.display()
     );
     println!("cargo::rerun-if-changed={}", library.display());

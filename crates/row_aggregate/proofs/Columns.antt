@@ -1,5 +1,5 @@
 -- A column of a relation: its Ints place by place, the range of their sum, and the better of two.
-use Prim.Native.Nat.{ℕ, ◌≤◌, ◌<◌, ◌+◌, ◌*◌, ◌%◌}
+use Prim.Native.Nat.{ℕ, ◌≤◌, ◌<◌, ◌+◌, ◌*◌}
 use native.Mathlib.Omega.{arith}
 use mathlib.Core.Path.{◌≡◌, refl, sym, ap, ap₂, ◌∙◌, subst}
 use mathlib.Core.Bool.{Bool, true, false, cond}
@@ -7,12 +7,12 @@ use mathlib.Core.List.{List, [], ◌∷◌, foldl}
 use lib.Dec.{T, eqb, ltb}
 use lib.ListN.{length, get_or, drop, get_or-eq_default}
 use lib.IntN.{ℤ, pos, ◌+ℤ◌}
-use lib.Signed.{mag, lt_z}
+use lib.Signed.{mag}
 use mir.Syntax.{w32, w64}
 use mir.Val.{SFits, of_z, to_z}
 use borrow.Author.Tests.{ltb-true, ltb-false}
 use Rattle.values.specs.declared.Value.TheVariants.{Int}
-use Rattle.values.specs.declared.Got.TheVariants.{Nothing, One}
+use Rattle.values.specs.declared.Got.TheVariants.{One}
 use Rattle.values.specs.Lists.{firsts}
 use Rattle.values.proofs.Firsts.{length-firsts, map-firsts, firsts_cons, firsts_at, firsts_end}
 use Rattle.values.proofs.Ints.{back, wide, wide_is, mag_add}
@@ -73,41 +73,16 @@ module _ (a n : ℤ) (p : SFits w64 a) (q : SFits w32 n) (s : SFits w64 (a +ℤ 
 pub sum-next : (x z r : ℤ) → SFits w32 z → SFits w64 r → r ≡ x +ℤ to_z w32 (of_z w32 z) → to_z w64 (of_z w64 r) ≡ x +ℤ z
 sum-next x z r p q e = back w64 r q ∙ e ∙ ap (λ (y : ℤ). x +ℤ y) (back w32 z p)
 
--- a count of rows, as an i32
-pub count-is : (n : ℕ) → n ≤ 16 → to_z w32 (n % 256) ≡ pos n
-count-is n h = back w32 (pos (n % 256)) (record { sfits = omega arith }) ∙ ap pos (omega arith)
-
 -- ── the better of two ──
 
 pub either : (l : Bool) (j k : ℤ) → cond l (larger j k) (smaller j k) ≡ cond l larger smaller j k
 either true j k = refl
 either false j k = refl
 
--- an i32 as the machine's tests read it
-abbrev read : ℤ → ℤ
-read z = to_z w32 (of_z w32 z)
-
--- t is what the test answered
-module _ (a b : ℤ) (p : SFits w32 a) (q : SFits w32 b) {l t : Bool} where
-  pub larger-is : l ≡ true → lt_z (read a) (read b) ≡ t → cond t (read b) (read a) ≡ cond l (larger a b) (smaller a b)
-  larger-is e h =
-      ap (λ (u : Bool). cond u (read b) (read a)) (sym h)
-      ∙ ap₂ larger (back w32 a p) (back w32 b q)
-      ∙ sym (ap (λ (u : Bool). cond u (larger a b) (smaller a b)) e)
-
-  pub smaller-is : l ≡ false → lt_z (read b) (read a) ≡ t → cond t (read b) (read a) ≡ cond l (larger a b) (smaller a b)
-  smaller-is e h =
-      ap (λ (u : Bool). cond u (read b) (read a)) (sym h)
-      ∙ ap₂ smaller (back w32 a p) (back w32 b q)
-      ∙ sym (ap (λ (u : Bool). cond u (larger a b) (smaller a b)) e)
-
 -- the bits that hold the next choice
 pub better_next : (l : Bool) (x z r : ℤ) → SFits w32 z → SFits w32 r → r ≡ cond l (larger x (to_z w32 (of_z w32 z))) (smaller x (to_z w32 (of_z w32 z)))
     → to_z w32 (of_z w32 r) ≡ cond l larger smaller x z
 better_next l x z r p q e = back w32 r q ∙ e ∙ ap (λ (y : ℤ). cond l (larger x y) (smaller x y)) (back w32 z p) ∙ either l x z
-
-pub best_none : (f : ℤ → ℤ → ℤ) {l : List ℤ} → l ≡ [] → Nothing ≡ best f l
-best_none f e = sym (ap (best f) e)
 
 pub best-is : (f : ℤ → ℤ → ℤ) (a : ℤ) {x : ℤ} {l l' : List ℤ} → l ≡ x ∷ l' → a ≡ foldl f x l' → One (Int a) ≡ best f l
 best-is f a e h = ap (λ (z : ℤ). One (Int z)) h ∙ sym (ap (best f) e)

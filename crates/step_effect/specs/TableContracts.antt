@@ -1,4 +1,4 @@
--- The tables after a done step, as `carry_out` stores them. Only proofs speak of it: the rule is `tablesBy`.
+-- The tables after a done step, as `carry_out` stores them. Only proofs speak of it: the rule is `tables_by`.
 use Rattle.std.specs.Prelude.{ℕ, List, [], ◌∷◌, ◌++◌, get_or, set}
 use Rattle.values.specs.declared.Site.{Site}
 use Rattle.values.specs.Lists.{remove_at}

@@ -1,4 +1,4 @@
--- What picks come to, one after the other. A run's contract cites `allRefused`; only the code speaks of the rest.
+-- What picks come to, one after the other. A run's contract cites `all_refused`; only the code speaks of the rest.
 use Rattle.std.specs.Prelude.{◌≤◌, ◌≡◌, Bool, not, List, [], ◌∷◌, T, length}
 use Rattle.values.specs.Lists.{all}
 use Rattle.nets.specs.declared.Pick.{Pick}

@@ -23,7 +23,7 @@ use Rattle.rows.specs.declared.Field.{Field}
 use Rattle.rows.specs.Plans.{is_formal_of}
 use Rattle.rows.specs.View.{no_field, no_slot}
 use Rattle.nets.specs.Nets.{Node, reads_relation}
-use Rattle.nets.specs.Steps.{is_bound, known, reads_ok}
+use Rattle.nets.specs.Steps.{is_bound, reads_ok}
 use Rattle.step_reads.specs.ReadContracts.{known_at, known_from}
 
 -- ── formals ──

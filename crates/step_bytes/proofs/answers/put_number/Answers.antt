@@ -1,7 +1,4 @@
 -- `step_bytes::answers::put_number` meets its contract: eight stores in turn fill the part. Assumes nothing.
-use lib.ListN.{length-set}
-use native.Mathlib.Omega.{arith}
-use borrow.Author.Rules.{rules}
 use Rattle.value_bytes.proofs.Stores.{all-stored}
 use Rattle.value_bytes.specs.Bytes.{eight_bytes}
 use Rattle.step_bytes.proofs.answers.put_number.Goals as goal
@@ -9,11 +6,3 @@ use Rattle.step_bytes.proofs.answers.put_number.Goals as goal
 pub returns : goal.returns
 unfolding eight_bytes
 returns c = all-stored c.args.out.now (eight_bytes c.args.n) c.requires
-
--- unplaced 9: λ c. simp length-set (omega arith)
-
--- unplaced 11: λ c. simp length-set (omega arith)
-
--- unplaced 13: λ c. simp length-set (omega arith)
-
--- unplaced 15: λ c. simp length-set (omega arith)

@@ -1,5 +1,4 @@
 -- `step_bytes::answers::put_three` meets its contract: three adjacent parts fill the buffer. Assumes nothing.
-use borrow.Author.Rules.{rules}
 use Rattle.step_bytes.proofs.AnswerLaws.{three_numbers}
 use Rattle.step_bytes.proofs.answers.put_three.Goals as goal
 

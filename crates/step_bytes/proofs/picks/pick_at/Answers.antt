@@ -1,5 +1,4 @@
 -- `step_bytes::picks::pick_at` meets its contract: a pick is two bytes. Assumes nothing.
-use borrow.Author.Rules.{rules}
 use Rattle.step_bytes.proofs.PickLaws.{picks_at_lem}
 use Rattle.step_bytes.proofs.picks.pick_at.Goals as goal
 

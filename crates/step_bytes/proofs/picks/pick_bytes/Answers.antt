@@ -1,16 +1,11 @@
 -- `step_bytes::picks::pick_bytes` meets its contract: the bytes so far are the picks so far. Assumes nothing.
-use Prim.Native.Nat.{◌-◌, ◌≤◌}
 use mathlib.Core.Path.{◌≡◌, refl, sym, ◌∙◌}
 use native.Mathlib.Omega.{arith}
 use lib.ListN.{length, length-set}
 use borrow.Author.Rules.{rules}
 use Rattle.values.proofs.Arrays.{long}
-use Rattle.step_bytes.specs.PickBytes.{picks_in}
-use Rattle.step_bytes.proofs.PickLaws.{first_picks, picks-length, bytes-more, bytes-all}
+use Rattle.step_bytes.proofs.PickLaws.{picks-length, bytes-more, bytes-all}
 use Rattle.step_bytes.proofs.picks.pick_bytes.Goals as goal
-
-picks-long : (s : goal.Start invariant-loop decreases-loop) → length s.args.t1 ≡ 256
-picks-long s = search (long, rules)
 
 pub loop-i-init : goal.loop-i-init
 loop-i-init c = (refl, omega arith, refl)
@@ -28,4 +23,5 @@ returns c =
     let h = c.loop-i-test.false in
     let k = picks-length l.bytes in
     let i : l.i ≡ 256 = omega (arith, h, l.invariant.1) in
-    bytes-all l.bytes c.args.picks l.i (omega (arith, i, k.0, k.1, l.invariant.2)) (picks-long c ∙ sym i) l.invariant.0
+    let picks-long : length c.args.picks ≡ 256 = search (long, rules) in
+    bytes-all l.bytes c.args.picks l.i (omega (arith, i, k.0, k.1, l.invariant.2)) (picks-long ∙ sym i) l.invariant.0

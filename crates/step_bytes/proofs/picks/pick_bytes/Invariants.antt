@@ -1,11 +1,8 @@
 use Prim.Native.Nat.{◌-◌, ◌≤◌}
-use mathlib.Core.Path.{◌≡◌, refl, sym, ◌∙◌}
-use native.Mathlib.Omega.{arith}
-use lib.ListN.{length, length-set}
-use borrow.Author.Rules.{rules}
-use Rattle.values.proofs.Arrays.{long}
+use mathlib.Core.Path.{◌≡◌}
+use lib.ListN.{length}
 use Rattle.step_bytes.specs.PickBytes.{picks_in}
-use Rattle.step_bytes.proofs.PickLaws.{first_picks, picks-length, bytes-more, bytes-all}
+use Rattle.step_bytes.proofs.PickLaws.{first_picks}
 use Rattle.step_bytes.proofs.picks.pick_bytes.Given as goal
 
 abbrev pub invariant-loop-i : goal.invariant-loop-i
