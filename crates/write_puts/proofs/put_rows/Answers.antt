@@ -1,27 +1,21 @@
 -- `write_puts::put_rows` meets its contract: the records of the rows passed, then the bytes that stood there.
 use Prim.Native.Nat.{ℕ, ◌+◌, ◌-◌, ◌*◌, ◌≤◌}
-use mathlib.Core.Path.{◌≡◌, refl, sym, ap, ◌∙◌}
+use mathlib.Core.Path.{◌≡◌, sym, ap, ◌∙◌}
 use mathlib.Core.List.{List, ◌++◌, map}
-use lib.ListN.{length, get_or, drop, length-take, length-drop}
+use lib.ListN.{length, get_or, drop}
 use native.Mathlib.Omega.{arith}
 use borrow.Rule.Slice.PartMut.{put_mid}
-use borrow.Author.Rules.{rules}
 use Rattle.values.specs.declared.Site.{Site}
 use Rattle.values.specs.Lists.{firsts}
 use Rattle.values.proofs.Firsts.{map-firsts}
-use Rattle.rows.specs.declared.Row.{Row}
 use Rattle.rows.specs.declared.Relation.{Relation}
 use Rattle.rows.specs.View.{no_row, values_of, relation_of}
 use Rattle.record_bytes.specs.Encoding.{row_bytes}
 use Rattle.value_bytes.specs.Bytes.{end_to_end}
 use Rattle.value_bytes.proofs.Stores.{kept-length, ends_more, ends-all}
 use Rattle.write_fields.proofs.WriteLaws.{row-length}
-use Rattle.write_puts.proofs.put_rows.Statement.{statement}
-use Rattle.write_puts.proofs.put_rows.Tie as tie
-
--- the record of a row
-abbrev record_of : Site → ℕ → Relation → Row → List ℕ
-record_of s m r x = row_bytes s m (values_of r.columns x)
+use Rattle.write_puts.proofs.put_rows.Invariants.{record_of}
+use Rattle.write_puts.proofs.put_rows.Goals as goal
 
 one_more : (s : Site) (m : ℕ) (r : Relation) (i : ℕ) (o out ys : List ℕ) → r.columns ≤ 4 → out ≡ end_to_end (firsts (record_of s m r) no_row i r.rows) ++ drop (i * 104) o → ys ≡ row_bytes s m (values_of r.columns (get_or r.rows i no_row)) →
     put_mid (i * 104) (i * 104 + 104 - i * 104) out ys ≡ end_to_end (firsts (record_of s m r) no_row (i + 1) r.rows) ++ drop ((i + 1) * 104) o
@@ -33,30 +27,8 @@ ended s m r i o out a b l e =
     ends-all (record_of s m r) no_row 104 r.count i r.rows o out a b l e
     ∙ ap end_to_end (sym (map-firsts (row_bytes s m) (values_of r.columns) no_row r.count r.rows))
 
-abbrev invariant-loop : tie.invariant-loop
-invariant-loop out₀ site name content n i₀ out i = (i ≤ n) × (n ≡ content.count) × (length out ≡ n * 104) × (out ≡ end_to_end (firsts (record_of site name content) no_row i content.rows) ++ drop (i * 104) out₀)
+pub loop-i-preserved : goal.loop-i-preserved
+loop-i-preserved c = record { within = omega arith; all_rows = c.loop-i.invariant.all_rows; full = search kept-length; filled = search one_more }
 
-abbrev decreases-loop : tie.decreases-loop
-decreases-loop out₀ site name content n i₀ out i = n - i
-
-pub put-rows-spec : {M : Type 1} → statement M
-put-rows-spec =
-    tie.close
-    (tie.spec
-    invariant-loop
-    decreases-loop
-    (λ c. (omega arith, refl, omega arith, refl))
-    (λ c. search rules)
-    (λ c. search rules)
-    (λ c. search rules)
-    (λ c. search rules)
-    (λ c. search rules)
-    (λ c. search rules)
-    (λ c. search rules)
-    (λ c. search rules)
-    (λ c κs. (simp (length-take, length-drop) (omega arith), omega arith))
-    (λ c. search rules)
-    (λ c. search rules)
-    (λ c. (omega arith, refl, search kept-length, search one_more))
-    (λ c. search rules)
-    (λ c. search ended))
+pub returns : goal.returns
+returns c = search ended
