@@ -31,4 +31,7 @@ pub loop-i-preserved : goal.loop-i-preserved
 loop-i-preserved c = record { within = omega arith; all_rows = c.loop-i.invariant.all_rows; full = search kept-length; filled = search one_more }
 
 pub returns : goal.returns
-returns c = search ended
+returns c =
+    let h : c.args.content.count ≤ c.loop-i.i = omega (arith, c.loop-i.invariant.all_rows) in
+    let k : c.loop-i.i ≤ c.args.content.count = omega (arith, c.loop-i.invariant.all_rows) in
+    search ended

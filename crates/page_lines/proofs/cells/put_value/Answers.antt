@@ -8,17 +8,16 @@ use lib.IntN.{ℤ}
 use lib.ListN.{length}
 use mir.Syntax.{w32}
 use mir.Val.{SFits}
-use borrow.Author.Rules.{rules, sfits_of}
+use borrow.Author.Rules.{sfits_of}
 use Rattle.values.specs.declared.Locality.{Locality}
 use Rattle.values.specs.declared.Value.{Value}
 use Rattle.values.specs.declared.Value.TheVariants.{Int, Text, Loc}
 use Rattle.values.specs.Values.{locality_ok, bytes_of, in_range}
-use Rattle.values.proofs.Ints.{wide, wide_is, cast_fits}
+use Rattle.values.proofs.Ints.{wide, wide_is}
 use Rattle.value_decimal.specs.Decimals.{digit, signed, blanks}
 use Rattle.page_rules.specs.Pages.{left_aligned, cell}
 use Rattle.page_lines.proofs.CellLaws.{few-in32, right_filled}
-use Rattle.page_lines.proofs.cells.put_value.Statement.{statement}
-use Rattle.page_lines.proofs.cells.put_value.Tie as tie
+use Rattle.page_lines.proofs.cells.put_value.Goals as goal
 
 module _ (o : List ℕ) (v : Value) (i : ℤ) (p : SFits w32 i) (e : v ≡ Int i) (l : length o ≡ 13) where
   int-fits : T (in_range v) → length (signed (wide i)) ≤ length o
@@ -39,20 +38,14 @@ as-loc v l out e o = rw (e, o)
 loc-ok : (v : Value) (l : Locality) → v ≡ Loc l → T (in_range v) → T (locality_ok l)
 loc-ok v l e h = rw e at h
 
-pub put-value-spec : {M : Type 1} → statement M
-put-value-spec =
-    tie.close
-    (tie.spec
-    (λ c. search rules)
-    (λ c. search (cast_fits, sfits_of))
-    (λ c κs. search (int-fits, sfits_of))
-    (λ c. search rules)
-    (λ c κs. search rules)
-    (λ c. search rules)
-    (λ c κs. (search rules, search loc-ok))
-    (λ c. search rules)
-    (λ c. search (as_int, sfits_of))
-    (λ c. search rules)
-    (λ c. search as-text)
-    (λ c. search rules)
-    (λ c. search as-loc))
+pub put_signed-requires : goal.put_signed-requires
+put_signed-requires c = search (int-fits, sfits_of)
+
+pub returns-in-Int : goal.returns-in-Int
+returns-in-Int c = search (as_int, sfits_of)
+
+pub returns-in-Text : goal.returns-in-Text
+returns-in-Text c = search as-text
+
+pub returns-in-Loc : goal.returns-in-Loc
+returns-in-Loc c = search as-loc

@@ -5,7 +5,6 @@ use mathlib.Core.List.{List, ◌++◌, map}
 use native.Mathlib.Omega.{arith}
 use lib.Dec.{T, leb}
 use lib.ListN.{length, get_or, drop, length-append, length-take, length-drop}
-use borrow.Author.Rules.{rules}
 use borrow.Rule.Slice.PartMut.{put_mid}
 use Rattle.values.specs.Lists.{all, firsts}
 use Rattle.values.specs.Values.{in_range}
@@ -13,18 +12,14 @@ use Rattle.values.proofs.Bools.{and_r}
 use Rattle.values.proofs.Firsts.{firsts-next, map-firsts, all_firsts}
 use Rattle.value_bytes.specs.Bytes.{end_to_end}
 use Rattle.value_bytes.proofs.Stores.{part-size, part-written, kept-length, ends_next, ends-all}
-use Rattle.rows.specs.declared.Row.{Row}
 use Rattle.rows.specs.declared.Relation.{Relation}
 use Rattle.rows.specs.View.{no_row, values_of, relation_of}
 use Rattle.nets.specs.Sound.{rows_ok}
 use Rattle.page_rules.specs.Pages.{row_cell}
 use Rattle.page_lines.proofs.CellLaws.{row-cell-length}
 use Rattle.page_lines.proofs.LineLaws.{line-length, row_line}
-use Rattle.page_lines.proofs.lines.put_rows.Statement.{statement}
-use Rattle.page_lines.proofs.lines.put_rows.Tie as tie
-
-abbrev line_at : Relation → Row → List ℕ
-line_at r x = row_line (values_of r.columns x)
+use Rattle.page_lines.proofs.lines.put_rows.Invariants.{line_at}
+use Rattle.page_lines.proofs.lines.put_rows.Goals as goal
 
 -- ── rows in their ranges ──
 
@@ -53,30 +48,14 @@ ended r i o out a b l e =
     ends-all (line_at r) no_row 53 r.count i r.rows o out a b l e
     ∙ ap end_to_end (sym (map-firsts row_line (values_of r.columns) no_row r.count r.rows))
 
-abbrev invariant-loop : tie.invariant-loop
-invariant-loop out₀ r n i₀ out i = (i ≤ n) × (n ≡ r.count) × (length out ≡ n * 53) × (out ≡ end_to_end (firsts (line_at r) no_row i r.rows) ++ drop (i * 53) out₀)
+pub put_row-requires : goal.put_row-requires
+put_row-requires c = (simp (length-take, length-drop) (omega arith), omega arith, let h : c.loop-i.i < c.args.r.count = omega (arith, c.loop-i.invariant.all_rows) in search row-ok)
 
-abbrev decreases-loop : tie.decreases-loop
-decreases-loop out₀ r n i₀ out i = n - i
+pub loop-i-preserved : goal.loop-i-preserved
+loop-i-preserved c = record { within = omega arith; all_rows = c.loop-i.invariant.all_rows; full = search kept-length; filled = let h : c.loop-i.i < c.args.r.count = omega (arith, c.loop-i.invariant.all_rows) in search one_more }
 
-pub put-rows-spec : {M : Type 1} → statement M
-put-rows-spec =
-    tie.close
-    (tie.spec
-    invariant-loop
-    decreases-loop
-    (λ c. (omega arith, refl, omega arith, refl))
-    (λ c. search rules)
-    (λ c. search rules)
-    (λ c. search rules)
-    (λ c. search rules)
-    (λ c. search rules)
-    (λ c. search rules)
-    (λ c. search rules)
-    (λ c. search rules)
-    (λ c κs. (simp (length-take, length-drop) (omega arith), omega arith, search row-ok))
-    (λ c. search rules)
-    (λ c. search rules)
-    (λ c. (omega arith, refl, search kept-length, search one_more))
-    (λ c. search rules)
-    (λ c. search ended))
+pub returns : goal.returns
+returns c =
+    let h : c.args.r.count ≤ c.loop-i.i = omega (arith, c.loop-i.invariant.all_rows) in
+    let k : c.loop-i.i ≤ c.args.r.count = omega (arith, c.loop-i.invariant.all_rows) in
+    search ended

@@ -3,18 +3,16 @@ use Prim.Native.Nat.{ℕ, ◌+◌, ◌*◌}
 use mathlib.Core.Path.{◌≡◌, refl, sym, ap, ◌∙◌}
 use lib.Dec.{T}
 use lib.ListN.{length}
-use borrow.Author.Rules.{rules}
 use Rattle.values.proofs.Firsts.{length-firsts}
 use Rattle.rows.specs.declared.Relation.{Relation}
 use Rattle.rows.specs.View.{no_row, values_of, relation_of}
 use Rattle.nets.specs.Sound.{rows_ok}
 use Rattle.page_rules.specs.Pages.{page_of}
 use Rattle.page_lines.proofs.LineLaws.{page-length}
-use Rattle.page_lines.proofs.lines.page_size.Statement.{statement}
-use Rattle.page_lines.proofs.lines.page_size.Tie as tie
+use Rattle.page_lines.proofs.lines.page_size.Goals as goal
 
 long : (r : Relation) → T (rows_ok (relation_of r).rows) → (r.count + 1) * 53 ≡ length (page_of (relation_of r))
 long r ok = sym (page-length (relation_of r) ok ∙ ap (λ (n : ℕ). (n + 1) * 53) (length-firsts (values_of r.columns) no_row r.count r.rows))
 
-pub page-size-spec : {M : Type 1} → statement M
-page-size-spec = tie.close (tie.spec (λ c. search rules) (λ c. search rules) (λ c. (search long, refl)))
+pub returns : goal.returns
+returns c = (search long, refl)

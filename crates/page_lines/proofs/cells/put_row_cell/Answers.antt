@@ -14,8 +14,7 @@ use Rattle.rows.specs.declared.Row.{Row}
 use Rattle.rows.specs.View.{no_cell, values_of}
 use Rattle.page_rules.specs.Pages.{cell, row_cell}
 use Rattle.page_lines.proofs.CellLaws.{cell-there, cell-missing}
-use Rattle.page_lines.proofs.cells.put_row_cell.Statement.{statement}
-use Rattle.page_lines.proofs.cells.put_row_cell.Tie as tie
+use Rattle.page_lines.proofs.cells.put_row_cell.Goals as goal
 
 module _ (row : Row) (n i : ℕ) where
   value-ok : i < n → T (all in_range (values_of n row)) → T (in_range (get_or row.cells i no_cell).value)
@@ -27,15 +26,11 @@ module _ (row : Row) (n i : ℕ) where
   missing : (o out : List ℕ) → n ≤ i → length o ≡ 13 → out ≡ blanks (length o) → out ≡ row_cell (values_of n row) i
   missing o out h l e = e ∙ ap blanks l ∙ sym (cell-missing (λ (c : Cell). c.value) no_cell n row.cells i h)
 
-pub put-row-cell-spec : {M : Type 1} → statement M
-put-row-cell-spec =
-    tie.close
-    (tie.spec
-    (λ c. search rules)
-    (λ c. search rules)
-    (λ c κs. (search rules, search value-ok))
-    (λ c κs. search rules)
-    (λ c. search rules)
-    (λ c. search there)
-    (λ c. search rules)
-    (λ c. search missing))
+pub put_value-requires : goal.put_value-requires
+put_value-requires c = (search rules, search value-ok)
+
+pub returns-then-i-columns : goal.returns-then-i-columns
+returns-then-i-columns c = search there
+
+pub returns-else-i-columns : goal.returns-else-i-columns
+returns-else-i-columns c = search missing

@@ -6,7 +6,6 @@ use native.Mathlib.Nat.{sub-zero}
 use native.Mathlib.Omega.{arith}
 use lib.Dec.{T}
 use lib.ListN.{length, drop}
-use borrow.Author.Rules.{rules}
 use borrow.Rule.Slice.PartMut.{put_mid}
 use Rattle.values.proofs.Firsts.{length-firsts}
 use Rattle.value_bytes.specs.Bytes.{end_to_end}
@@ -17,8 +16,7 @@ use Rattle.rows.specs.View.{no_row, values_of, relation_of}
 use Rattle.nets.specs.Sound.{rows_ok}
 use Rattle.page_rules.specs.Pages.{line_of, sum_cell, page_of}
 use Rattle.page_lines.proofs.LineLaws.{row_line, rows-length, page-parts}
-use Rattle.page_lines.proofs.lines.put_page.Statement.{statement}
-use Rattle.page_lines.proofs.lines.put_page.Tie as tie
+use Rattle.page_lines.proofs.lines.put_page.Goals as goal
 
 -- x is the rows' lines
 module _ (r : Relation) (ok : T (rows_ok (relation_of r).rows)) (o x : List ℕ) (lo : length o ≡ (r.count + 1) * 53) (hx : x ≡ end_to_end (map row_line (relation_of r).rows)) where
@@ -28,19 +26,5 @@ module _ (r : Relation) (ok : T (rows_ok (relation_of r).rows)) (o x : List ℕ)
   filled : (y : List ℕ) → y ≡ line_of (sum_cell (relation_of r)) → put_mid (r.count * 53) (r.count * 53 + 53 - r.count * 53) (x ++ drop (r.count * 53 - 0) o) y ≡ page_of (relation_of r)
   filled y hy = rw (part-size, sub-zero, two_fill o x y (r.count * 53) 53 rows_long (omega arith), hx, hy) (sym (page-parts (relation_of r) ok))
 
-pub put-page-spec : {M : Type 1} → statement M
-put-page-spec =
-    tie.close
-    (tie.spec
-    (λ c. search rules)
-    (λ c. search rules)
-    (λ c. search rules)
-    (λ c. search rules)
-    (λ c κs. search rules)
-    (λ c. search rules)
-    (λ c. search rules)
-    (λ c. search rules)
-    (λ c. search rules)
-    (λ c κs. search rules)
-    (λ c. search rules)
-    (λ c. search filled))
+pub returns : goal.returns
+returns c = search filled

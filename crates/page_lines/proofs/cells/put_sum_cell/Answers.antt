@@ -21,8 +21,7 @@ use Rattle.nets.specs.Sound.{rows_ok}
 use Rattle.page_rules.specs.Pages.{sum_cell}
 use Rattle.page_lines.proofs.CellLaws.{right_filled}
 use Rattle.page_lines.proofs.SumLaws.{few_in_sum, sum-there, sum-missing}
-use Rattle.page_lines.proofs.cells.put_sum_cell.Statement.{statement}
-use Rattle.page_lines.proofs.cells.put_sum_cell.Tie as tie
+use Rattle.page_lines.proofs.cells.put_sum_cell.Goals as goal
 
 -- z is the column's sum, as the machine has it
 module _ (o : List ℕ) (r : Relation) (i : ℕ) (z : ℤ) (p : SFits w64 z) (e : z ≡ total (column i (relation_of r).rows)) (l : length o ≡ 13) where
@@ -44,15 +43,14 @@ blank o r i k out l q t e = e ∙ ap blanks l ∙ sym (sum-missing (relation_of 
 there : (r : Relation) (i k : ℕ) → k ≡ get_or (relation_of r).columns i 0 → k ≡ 1 → i < r.columns
 there r i k q t = column-there i r.columns r.kinds (T_of (eqb (get_or (relation_of r).columns i 0) 1) (eq-eqb (get_or (relation_of r).columns i 0) 1 (sym q ∙ t)))
 
-pub put-sum-cell-spec : {M : Type 1} → statement M
-put-sum-cell-spec =
-    tie.close
-    (tie.spec
-    (λ c κs. search rules)
-    (λ c κs. (search rules, search there))
-    (λ c κs. search (sum_fits, sfits_of))
-    (λ c κs. search rules)
-    (λ c. search rules)
-    (λ c. search (summed, sfits_of))
-    (λ c. search rules)
-    (λ c. search blank))
+pub total_of-requires : goal.total_of-requires
+total_of-requires c = (search rules, search there)
+
+pub put_signed-requires : goal.put_signed-requires
+put_signed-requires c = search (sum_fits, sfits_of)
+
+pub returns-then-kind_at-eq1 : goal.returns-then-kind_at-eq1
+returns-then-kind_at-eq1 c = search (summed, sfits_of)
+
+pub returns-else-kind_at-eq1 : goal.returns-else-kind_at-eq1
+returns-else-kind_at-eq1 c = search blank

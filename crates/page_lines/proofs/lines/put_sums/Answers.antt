@@ -4,8 +4,7 @@ use mathlib.Core.Path.{◌≡◌, refl}
 use mathlib.Core.List.{List, ◌++◌}
 use native.Mathlib.Omega.{arith}
 use lib.Dec.{T}
-use lib.ListN.{length, drop, set, length-set, length-take, length-drop}
-use borrow.Author.Rules.{rules}
+use lib.ListN.{length, drop, set}
 use borrow.Rule.Slice.PartMut.{put_mid}
 use Rattle.value_bytes.proofs.Parts.{along, along-more}
 use Rattle.value_bytes.proofs.Stores.{kept-length}
@@ -15,8 +14,7 @@ use Rattle.nets.specs.Sound.{rows_ok}
 use Rattle.page_rules.specs.Pages.{line_of, sum_cell}
 use Rattle.page_lines.proofs.SumLaws.{sum-cell-length}
 use Rattle.page_lines.proofs.LineLaws.{line-ended}
-use Rattle.page_lines.proofs.lines.put_sums.Statement.{statement}
-use Rattle.page_lines.proofs.lines.put_sums.Tie as tie
+use Rattle.page_lines.proofs.lines.put_sums.Goals as goal
 
 module _ (r : Relation) (ok : T (rows_ok (relation_of r).rows)) where
   one_more : (i : ℕ) (o out ys : List ℕ) → out ≡ along (sum_cell (relation_of r)) i ++ drop (i * 13) o → ys ≡ sum_cell (relation_of r) i →
@@ -28,33 +26,12 @@ module _ (r : Relation) (ok : T (rows_ok (relation_of r).rows)) where
       let q : i ≡ 4 = omega arith in
       line-ended (sum_cell (relation_of r)) (sum-cell-length (relation_of r) ok) o out l (rw q at e)
 
-abbrev invariant-loop : tie.invariant-loop
-invariant-loop out₀ r i₀ out i = (i ≤ 4) × (length out₀ ≡ 53) × (length out ≡ 53) × (out ≡ along (sum_cell (relation_of r)) i ++ drop (i * 13) out₀)
-
-abbrev decreases-loop : tie.decreases-loop
-decreases-loop out₀ r i₀ out i = 4 - i
-
-loop-holds : tie.Need-loop-init invariant-loop decreases-loop
+pub loop-i-init : goal.loop-i-init
 unfolding along
-loop-holds c = (omega arith, omega arith, omega arith, refl)
+loop-i-init c = record { within = omega arith; was_full = omega arith; full = omega arith; filled = refl }
 
-pub put-sums-spec : {M : Type 1} → statement M
-put-sums-spec =
-    tie.close
-    (tie.spec
-    invariant-loop
-    decreases-loop
-    loop-holds
-    (λ c. search rules)
-    (λ c. search rules)
-    (λ c. search rules)
-    (λ c. search rules)
-    (λ c. search rules)
-    (λ c. search rules)
-    (λ c κs. (simp (length-take, length-drop) (omega arith), search rules, search rules, search rules))
-    (λ c. search rules)
-    (λ c. search rules)
-    (λ c. (omega arith, omega arith, search kept-length, search one_more))
-    (λ c. search rules)
-    (λ c. simp length-set (omega arith))
-    (λ c. search ended))
+pub loop-i-preserved : goal.loop-i-preserved
+loop-i-preserved c = record { within = omega arith; was_full = omega arith; full = search kept-length; filled = search one_more }
+
+pub returns : goal.returns
+returns c = search ended
