@@ -1,7 +1,7 @@
 -- `net_sound::threads::thread_ok` meets its contract: site, variables and table variables first, then the stack.
 use Prim.Native.Nat.{ℕ, zero, suc, ◌<◌}
 use mathlib.Core.Path.{◌≡◌, sym, ap, ◌∙◌}
-use mathlib.Core.Bool.{Bool, true, true≢false, ◌&&◌, and-true}
+use mathlib.Core.Bool.{Bool, true, ◌&&◌, and-true}
 use mathlib.Core.List.{List, map}
 use native.Mathlib.Omega.{arith}
 use lib.Dec.{leb}
@@ -12,15 +12,14 @@ use Rattle.values.specs.Lists.{all}
 use Rattle.values.specs.Values.{site_ok}
 use Rattle.values.specs.Operands.{vars_of}
 use Rattle.values.proofs.Arrays.{long}
-use Rattle.values.proofs.Bools.{and_assoc, and_first, and_last, and-go, and-stop}
+use Rattle.values.proofs.Bools.{and_assoc, and_first, and_last, and-go}
 use Rattle.nets.specs.declared.Thread.{Thread}
 use Rattle.nets.specs.declared.TableVariable.{TableVariable}
 use Rattle.nets.specs.Sound.{relation_ok, variable_ok, bindings_ok}
 use Rattle.nets.specs.View.{no_variable, variable_of, bindings_of}
 use Rattle.net_parts.proofs.EntryLaws.{extents_are, both_of}
 use borrow.Author.Rules.{rules}
-use Rattle.net_sound.proofs.threads.thread_ok.Statement.{statement}
-use Rattle.net_sound.proofs.threads.thread_ok.Tie as tie
+use Rattle.net_sound.proofs.threads.thread_ok.Goals as goal
 
 tidied : (s v a b : Bool) → (s && v && (a && b)) ≡ (s && (v && true && (a && (b && true))))
 tidied s v a b = rw (and-true v, and-true b) (sym (and_assoc s v (a && b)))
@@ -51,56 +50,25 @@ each_right l a b zero h = a
 each_right l a b (suc zero) h = b
 each_right l a b (suc (suc m)) h = absurd (omega arith)
 
-vars-long : (s : tie.Start) → length s.args.t3.vars ≡ 16
-vars-long s = search (long, rules)
-
-relations-long : (s : tie.Start) → length s.args.t3.relations ≡ 2
-relations-long s = search (long, rules)
-
-returns : tie.Need-returns
-returns c =
-    let s = c.before.before.before.before.before.before.before.before.before.before.before.before.before in
-    let t = s.args.t3 in
-    let e = c.before.before.before.before.before.before.before.before.extent-of in
-    let f = c.before.before.before.before.before.before.before.extent-of2 in
-    let x = c.before.before.before.before.before.site-ok in
-    let y = c.before.before.before.before.vars-ok in
-    let p = first-low x.result y.result e.result.rows f.result.rows c.before.if1.true in
-    let q = second-low x.result y.result e.result.rows f.result.rows c.before.if1.true in (
+pub returns-then-site_ok-vars_ok : goal.returns-then-site_ok-vars_ok
+returns-then-site_ok-vars_ok c =
+    let t = c.args.t in
+    let e = c.extent_of-m in
+    let f = c.extent_of-n in
+    let x = c.site_ok in
+    let y = c.vars_ok in
+    let p = first-low x.result y.result e.result.rows f.result.rows c.if-site_ok-vars_ok.true in
+    let q = second-low x.result y.result e.result.rows f.result.rows c.if-site_ok-vars_ok.true in (
       λ ds bs h.
           and-go
-          (parts_are t (vars-long s) (relations-long s) x.ensures y.ensures e.ensures.0 f.ensures.0)
-          c.before.if1.true
-          (c.stack-ok.ensures.0 ds (map variable_of t.relations) bs h
-          (extents_are t.relations (relations-long s) (e.ensures.1 (leb-true _ 16 p)) (f.ensures.1 (leb-true _ 16 q)))),
+          (parts_are t (search (long, rules)) (search (long, rules)) x.ensures y.ensures e.ensures.0 f.ensures.0)
+          c.if-site_ok-vars_ok.true
+          (c.stack_ok.ensures.0 ds (map variable_of t.relations) bs h
+          (extents_are t.relations (search (long, rules)) (e.ensures.1 (leb-true _ 16 p)) (f.ensures.1 (leb-true _ 16 q)))),
       λ h.
           record {
-            depth = c.stack-ok.ensures.1 h;
-            long = relations-long s;
+            depth = c.stack_ok.ensures.1 h;
+            long = search (long, rules);
             relations = each_right t.relations (sym e.ensures.0 ∙ p) (sym f.ensures.0 ∙ q);
           },
     )
-
-returns-2 : tie.Need-returns-2
-returns-2 c =
-    let s = c.before.before.before.before.before.before.before.before.before.before.before.before in (
-      λ ds bs h.
-          and-stop
-          (parts_are s.args.t3 (vars-long s) (relations-long s) c.before.before.before.before.site-ok.ensures c.before.before.before.vars-ok.ensures c.before.before.before.before.before.before.before.extent-of.ensures.0 c.before.before.before.before.before.before.extent-of2.ensures.0)
-          _ c.if1.false,
-      λ h. absurd (true≢false (sym h)),
-    )
-
-pub thread-ok-spec : {M : Type 1} → statement M
-thread-ok-spec =
-    tie.close
-    (tie.spec
-    (λ c. search rules)
-    (λ c. search rules)
-    (λ c κs. search rules)
-    (λ c κs. search rules)
-    (λ c κs. search rules)
-    (λ c κs. search rules)
-    (λ c κs. search rules)
-    returns
-    returns-2)

@@ -1,6 +1,6 @@
 -- `net_sound::whole::sound_parts` meets its contract: tables, aliases, nodes and threads are tested apart, and the clauses are those of `sound`.
 use Prim.Native.Nat.{ℕ}
-use mathlib.Core.Path.{◌≡◌, refl, sym, ◌∙◌, subst}
+use mathlib.Core.Path.{◌≡◌, sym, ◌∙◌, subst}
 use mathlib.Core.Bool.{Bool, true, false, ◌&&◌}
 use mathlib.Core.List.{List}
 use lib.Dec.{T, leb}
@@ -9,15 +9,12 @@ use Rattle.values.specs.Lists.{all}
 use Rattle.values.proofs.Bools.{and_l, and_r, and_in, T_of, same_test}
 use Rattle.values.proofs.ByPlace.{length_by}
 use Rattle.values.proofs.Firsts.{length-firsts}
-use Rattle.values.proofs.Sizes.{size_is}
 use Rattle.nets.specs.declared.Alias.{Alias}
 use Rattle.nets.specs.Nets.{Table, Node, Thread}
 use Rattle.nets.specs.Tables.{rows_fit, distinct}
 use Rattle.nets.specs.Sound.{table_ok, alias_ok, aliases_differ, nodes_ok, thread_ok, sound}
 use Rattle.nets.specs.View.{no_node, node_of, nodes_of, thread_at, threads_of, aliases_of, tables_of, view}
-use borrow.Author.Rules.{rules}
-use Rattle.net_sound.proofs.whole.sound_parts.Statement.{statement}
-use Rattle.net_sound.proofs.whole.sound_parts.Tie as tie
+use Rattle.net_sound.proofs.whole.sound_parts.Goals as goal
 
 -- the clauses in the order of the code
 sorted : (lt ln lh tk fr di ao ad nd th : Bool) → (ln && nd) ≡ true
@@ -47,34 +44,20 @@ module _ (xs : List Alias) (ts : List Table) (ds : List Node) (hs : List Thread)
       rw p
       (stopped (leb (length ts) 8) (leb n 128) (leb (length hs) 8) (all table_ok ts) (all rows_fit ts) (distinct ts) (all alias_ok xs) (aliases_differ xs) (nodes_ok n 0 ds) (all (thread_ok ds) hs) (sym e ∙ t))
 
-threads-ok-requires : tie.Need-threads-ok-requires
-threads-ok-requires c κs = size_is 128 _ refl c.before.before.before.before.nodes-ok.ensures.0 c.before.before.if1.true
-
-returns : tie.Need-returns
+pub returns-then-judged : goal.returns-then-judged
 unfolding view
-returns c =
-    let net = c.before.before.before.before.before.before.args in
+returns-then-judged c =
+    let net = c.args in
     let ds = nodes_of net.nodecount net.nodes in
     all_tested (aliases_of net.aliascount net.aliases) (tables_of net.tablecount net.tables) ds (threads_of ds net.saved net.threadcount net.threads)
     (length-firsts node_of no_node net.nodecount net.nodes) (length_by (thread_at ds net.saved net.threads) 0 net.threadcount)
-    c.before.before.before.before.before.nodes-ok.ensures.0 c.before.before.before.if1.true c.before.before.tables-ok.ensures c.before.aliases-ok.ensures (c.threads-ok.ensures ds (c.before.before.before.before.before.nodes-ok.ensures.1 c.before.before.before.if1.true))
+    c.nodes_ok-judged.ensures.0 c.if-judged.true c.tables_ok-a.ensures c.aliases_ok-b.ensures (c.threads_ok-c.ensures ds (c.nodes_ok-judged.ensures.1 c.if-judged.true))
 
-returns-2 : tie.Need-returns-2
+pub returns : goal.returns
 unfolding view
-returns-2 c =
-    let net = c.before.before.before.args in
+returns c =
+    let net = c.args in
     let ds = nodes_of net.nodecount net.nodes in
     nodes-fail (aliases_of net.aliascount net.aliases) (tables_of net.tablecount net.tables) ds (threads_of ds net.saved net.threadcount net.threads)
     (length-firsts node_of no_node net.nodecount net.nodes) (length_by (thread_at ds net.saved net.threads) 0 net.threadcount)
-    c.before.before.nodes-ok.ensures.0 c.if1.false
-
-pub sound-parts-spec : {M : Type 1} → statement M
-sound-parts-spec =
-    tie.close
-    (tie.spec
-    (λ c κs. search rules)
-    (λ c κs. search rules)
-    (λ c κs. search rules)
-    threads-ok-requires
-    returns
-    returns-2)
+    c.nodes_ok-judged.ensures.0 c.if-judged.false
