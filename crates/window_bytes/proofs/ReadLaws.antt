@@ -2,9 +2,9 @@
 use Prim.Native.Nat.{ℕ, zero, suc, ◌≤◌, ◌<◌, ◌+◌, ◌-◌, ◌*◌}
 use native.Mathlib.Omega.{arith}
 use mathlib.Core.Path.{◌≡◌, refl, sym, ap, ap₂, ◌∙◌}
-use mathlib.Core.Bool.{Bool, true, false, ◌&&◌}
+use mathlib.Core.Bool.{Bool, true, false}
 use mathlib.Core.List.{List, [], ◌∷◌, map}
-use lib.Dec.{T, leb, leb→le, ltb}
+use lib.Dec.{leb, leb→le, ltb}
 use lib.IntN.{ℤ, pos}
 use lib.ListN.{length, get_or, set, take, drop, length-drop}
 use lib.Seq.{take_all, get_or-set_same, get_or-set_other, drop-drop}
@@ -20,9 +20,6 @@ use Rattle.window.specs.WindowCalls.{ints_of, window_of}
 
 abbrev pub Filled : (ℕ → ℤ) → List ℤ → ℕ → Type 0
 Filled f xs i = (j : ℕ) → j < i → get_or xs j (pos 0) ≡ f j
-
-pub fill_none : (f : ℕ → ℤ) (xs : List ℤ) → Filled f xs 0
-fill_none f xs j h = absurd (omega arith)
 
 pub fill_more : (f : ℕ → ℤ) (xs : List ℤ) (i : ℕ) (v : ℤ) → i < length xs → v ≡ f i → Filled f xs i → Filled f (set xs i v) (i + 1)
 fill_more f xs i v room e old j h = go (ltb j i) refl

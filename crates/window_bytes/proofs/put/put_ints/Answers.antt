@@ -4,24 +4,16 @@ use native.Mathlib.Omega.{arith}
 use mathlib.Core.Path.{◌≡◌, refl, sym, ap, ap₂, ◌∙◌}
 use mathlib.Core.List.{List, ◌++◌, map}
 use lib.IntN.{ℤ, pos}
-use lib.ListN.{length, get_or, drop, replicate, length-take, length-drop}
-use mir.Syntax.{w32}
-use mir.Val.{SFits}
+use lib.ListN.{get_or, drop, replicate}
 use borrow.Author.Rules.{rules}
 use borrow.Rule.Slice.PartMut.{put_mid}
-use Rattle.values.specs.Lists.{firsts}
 use Rattle.values.proofs.Firsts.{map-firsts}
-use Rattle.values.proofs.Ints.{back}
 use Rattle.value_bytes.specs.Bytes.{end_to_end}
 use Rattle.value_bytes.proofs.Stores.{kept-length, drop-replicate, ends_more}
 use Rattle.window_rules.specs.WindowBytes.{int_bytes}
 use Rattle.window.specs.WindowCalls.{ints_of}
-use Rattle.window.proofs.IntLaws.{int-fits}
-use Rattle.window_bytes.proofs.put.put_ints.Statement.{statement}
-use Rattle.window_bytes.proofs.put.put_ints.Tie as tie
-
-abbrev passed : ℕ → List ℤ → List ℕ
-passed i xs = end_to_end (firsts int_bytes (pos 0) i xs)
+use Rattle.window_bytes.proofs.put.put_ints.Invariants.{passed}
+use Rattle.window_bytes.proofs.put.put_ints.Goals as goal
 
 -- `v` is the Int as it was handed on
 one_more : (xs : List ℤ) (i : ℕ) (v : ℤ) (o out ys : List ℕ) → v ≡ get_or xs i (pos 0) → out ≡ passed i xs ++ drop (i * 4) o → ys ≡ int_bytes v →
@@ -36,31 +28,8 @@ ended xs n i o out small a b z e =
     ∙ ap₂ (λ (k : ℕ) (l : List ℕ). passed k xs ++ l) q (ap (drop (i * 4)) z ∙ drop-replicate (i * 4) 64 0 ∙ ap (λ (k : ℕ). replicate k 0) m)
     ∙ ap (λ (l : List (List ℕ)). end_to_end l ++ replicate (64 - 4 * n) 0) (sym (map-firsts int_bytes (λ (y : ℤ). y) (pos 0) n xs))
 
-abbrev invariant-loop : tie.invariant-loop
-invariant-loop out₀ count ints i₀ out i = (i ≤ count) × (count ≤ 16) × (length out ≡ 64) × (out₀ ≡ replicate 64 0) × (out ≡ passed i ints ++ drop (i * 4) out₀)
+pub loop-i-preserved : goal.loop-i-preserved
+loop-i-preserved c = record { within = omega arith; few = omega arith; full = search kept-length; cleared = c.loop-i.invariant.cleared; filled = search (one_more, rules) }
 
-abbrev decreases-loop : tie.decreases-loop
-decreases-loop out₀ count ints i₀ out i = count - i
-
-pub put-ints-spec : {M : Type 1} → statement M
-put-ints-spec =
-    tie.close
-    (tie.spec
-    invariant-loop
-    decreases-loop
-    (λ c κs. search rules)
-    (λ c. (omega arith, omega arith, omega arith, c.before.before.clear.ensures, refl))
-    (λ c. search rules)
-    (λ c. search rules)
-    (λ c. search rules)
-    (λ c. search rules)
-    (λ c. search rules)
-    (λ c. search rules)
-    (λ c. search rules)
-    (λ c. search rules)
-    (λ c κs. simp (length-take, length-drop) (omega arith))
-    (λ c. search rules)
-    (λ c. search rules)
-    ?
-    (λ c. search rules)
-    (λ c. search ended))
+pub returns : goal.returns
+returns c = search ended
