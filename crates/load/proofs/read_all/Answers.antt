@@ -11,9 +11,7 @@ use Rattle.record_bytes.specs.Decoding.{records_in}
 use Rattle.load_walk.specs.declared.Reach.{Reach}
 use Rattle.files.specs.Loading.{nothing_read, read_all}
 use Rattle.load_walk.specs.Walking.{put_aliases, put_tables, put_nodes, put_threads, put_picks, rest, Leads, Ends, ending}
-use borrow.Author.Rules.{rules}
-use Rattle.load.proofs.read_all.Statement.{statement}
-use Rattle.load.proofs.read_all.Tie as tie
+use Rattle.load.proofs.read_all.Goals as goal
 
 -- each group on what those before it gave
 joined : (file : List ℕ) (a t r d h p e : Reach) (ls : List Alias) (ts us : List Table) (ds : List Node) (hs : List Thread) (ps : List Pick) →
@@ -30,29 +28,9 @@ joined file a t r d h p e ls ts us ds hs ps q1 q2 q3 q4 q5 q6 q7 =
     ∙ q6.leads (put_threads hs (put_nodes ds (put_tables us (put_aliases ls nothing_read))))
     ∙ q7.ends (put_picks ps (put_threads hs (put_nodes ds (put_tables us (put_aliases ls nothing_read)))))
 
-returns : tie.Need-returns
+pub returns : goal.returns
 unfolding view
 returns c =
-    let p = c.before.before.before.before.before.before in
-    let s = p.before in
-    let h = s.before in
-    let d = h.before in
-    let r = d.before in
-    let t = r.before in
-    let n = d.nodes-from.result in
-    joined _ _ _ _ _ _ _ _ _ _ _ _ _ _ t.before.aliases-from.ensures.0 t.tables-from.ensures.0 r.rows-from.ensures.0 d.nodes-from.ensures.0
-    (h.starts_from.ensures.0 (nodes_of n.count n.nodes) (replicate 64 c.blank-saved.result)) s.picks-from.ensures.0 p.reach-end.ensures
-
-pub read-all-spec : {M : Type 1} → statement M
-read-all-spec =
-    tie.close
-    (tie.spec
-    (λ c κs. search rules)
-    (λ c κs. search rules)
-    (λ c κs. search rules)
-    (λ c κs. search rules)
-    (λ c κs. search rules)
-    (λ c κs. search rules)
-    (λ c κs. search rules)
-    (λ c κs. search rules)
-    returns)
+    let n = c.nodes_from-n.result in
+    joined _ _ _ _ _ _ _ _ _ _ _ _ _ _ c.aliases_from-a.ensures.0 c.tables_from-t.ensures.0 c.rows_from-c.ensures.0 c.nodes_from-n.ensures.0
+    (c.starts_from-s.ensures.0 (nodes_of n.count n.nodes) (replicate 64 c.blank_saved-saved.result)) c.picks_from-p.ensures.0 c.reach_end-reach.ensures
