@@ -4,8 +4,7 @@ use mathlib.Core.Bool.{Bool, true, false}
 use borrow.Author.Tests.{not-true, not-false}
 use Rattle.load_walk.specs.Walking.{form_then}
 use Rattle.load_walk.proofs.WalkLaws.{list_checks}
-use Rattle.load_walk.proofs.walking.first_fault.Statement.{statement}
-use Rattle.load_walk.proofs.walking.first_fault.Tie as tie
+use Rattle.load_walk.proofs.walking.first_fault.Goals as goal
 
 module _ (form new room : Bool) where
   four : form ≡ false → 4 ≡ form_then form (list_checks new room)
@@ -24,5 +23,14 @@ module _ (form new room : Bool) where
   unfolding form_then
   fine a b c = rw (a, b, c)
 
-pub first-fault-spec : {M : Type 1} → statement M
-first-fault-spec = tie.close (tie.spec (λ c. search (four, not-true)) (λ c. search (six, not-true, not-false)) (λ c. search (fine, not-false)) (λ c. search (eight, not-false)))
+pub returns-then-not-form : goal.returns-then-not-form
+returns-then-not-form c = search (four, not-true)
+
+pub returns-then-not-new : goal.returns-then-not-new
+returns-then-not-new c = search (six, not-true, not-false)
+
+pub returns-then-room : goal.returns-then-room
+returns-then-room c = search (fine, not-false)
+
+pub returns-else-room : goal.returns-else-room
+returns-else-room c = search (eight, not-false)

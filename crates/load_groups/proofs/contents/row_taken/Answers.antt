@@ -26,8 +26,7 @@ use Rattle.load_walk.specs.Walking.{first_failing, form_then}
 use Rattle.load_walk.proofs.FormLaws.{unformed}
 use Rattle.load_groups.proofs.RowLaws.{row_fits_lem}
 use borrow.Author.Rules.{rules}
-use Rattle.load_groups.proofs.contents.row_taken.Statement.{statement}
-use Rattle.load_groups.proofs.contents.row_taken.Tie as tie
+use Rattle.load_groups.proofs.contents.row_taken.Goals as goal
 
 constants : (bs : List ℕ) (b : Bool) → b ≡ row_form bs → b ≡ true → T (operands_ok 3 (operands_in (part 56 88 bs)))
 unfolding row_form
@@ -53,13 +52,11 @@ module _ (t : Table) (bs : List ℕ) (d : Draft) (given : draft_of d ≡ map (ev
       let e = h.rows ∙ ap (λ (g : List Got). (relation_of t.content).rows ++ (values_in g ∷ [])) given in
       λ i. record { site = t.site; name = t.name; content = record { columns = h.columns i; rows = e i } }
 
-pub row-taken-spec : {M : Type 1} → statement M
-row-taken-spec =
-    tie.close
-    (tie.spec
-    (λ c κs. search rules)
-    (λ c. (search (unformed, not-true), λ z. absurd (omega (arith, z)), search rules))
-    (λ c κs. search rules)
-    (λ c. (search (judged, not-false), λ z. absurd (c.if2.true z), search rules))
-    (λ c κs. search rules)
-    (λ c. (search (passed, not-false), λ z. search added, c.content-with.ensures.shaped)))
+pub returns-then-not-read : goal.returns-then-not-read
+returns-then-not-read c = (search (unformed, not-true), λ z. absurd (omega (arith, z)), search rules)
+
+pub returns-then-fault-ne0 : goal.returns-then-fault-ne0
+returns-then-fault-ne0 c = (search (judged, not-false), λ z. absurd (c.if-fault-ne0.true z), search rules)
+
+pub returns : goal.returns
+returns c = (search (passed, not-false), λ z. search added, c.content_with-content.ensures.shaped)

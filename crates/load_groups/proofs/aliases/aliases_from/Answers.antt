@@ -1,29 +1,28 @@
 -- `load_groups::aliases::aliases_from` meets its contract: record by record, while they are aliases. No two are alike, so there is room for all.
-use Prim.Native.Nat.{ℕ, ◌+◌, ◌-◌, ◌≤◌, ◌<◌}
+use Prim.Native.Nat.{ℕ, ◌+◌, ◌≤◌, ◌<◌}
 use mathlib.Core.Path.{◌≡◌, refl, ap, subst, sym, ◌∙◌}
 use mathlib.Core.Bool.{Bool, true, not}
 use mathlib.Core.List.{List, [], ◌∷◌, ◌++◌, append-nil}
 use native.Mathlib.Omega.{arith}
 use lib.ListN.{length, length-set, set, length-append}
-use borrow.Author.Rules.{rules}
 use borrow.Author.Tests.{le-leb}
 use lib.Dec.{T}
 use Rattle.values.specs.Lists.{all, any}
 use Rattle.values.proofs.Bools.{and_l, and_in}
 use Rattle.values.proofs.Firsts.{length-firsts, firsts_push}
 use Rattle.values.proofs.ListLaws.{all_append}
-use Rattle.record_bytes.specs.Decoding.{Record, whole_records, alias_record, alias_in, alias_form}
+use Rattle.record_bytes.specs.Decoding.{Record, alias_record, alias_in, alias_form}
 use Rattle.files.specs.Loading.{Progress, load_checks, failing, put, advance}
-use Rattle.load_walk.specs.Walking.{Leads, Going, form_then, put_aliases}
+use Rattle.load_walk.specs.Walking.{form_then, put_aliases}
 use Rattle.nets.specs.declared.Alias.{Alias}
 use Rattle.nets.specs.Sound.{alias_ok, same_alias, aliases_differ}
 use Rattle.nets.specs.View.{no_alias, aliases_of}
 use Rattle.record_bytes.specs.Bytes.{part, zeros}
 use Rattle.files.proofs.PutLaws.{alias-append}
 use Rattle.load_groups.proofs.AliasLaws.{few-aliases}
-use Rattle.load_walk.proofs.WalkLaws.{Group, with_group, list_checks, leads_refl, list_stops, list_grows, next_in, next_fits, next_less, went_on, went_off, went_by, passed}
-use Rattle.load_groups.proofs.aliases.aliases_from.Statement.{statement}
-use Rattle.load_groups.proofs.aliases.aliases_from.Tie as tie
+use Rattle.load_walk.proofs.WalkLaws.{Group, with_group, list_checks, list_stops, list_grows, next_in, went_on, went_off, passed}
+use Rattle.load_groups.proofs.aliases.aliases_from.Invariants.{Different}
+use Rattle.load_groups.proofs.aliases.aliases_from.Goals as goal
 
 pos : 1 ≤ 1
 pos = omega arith
@@ -62,11 +61,6 @@ group =
 
 -- ── room: no two aliases are alike ──
 
-record Different (c : ℕ) (ls : List Alias) : Type 0 where
-  few : c ≤ 56
-  ranged : T (all alias_ok (aliases_of c ls))
-  differ : T (aliases_differ (aliases_of c ls))
-
 module _ (ls : List Alias) (c : ℕ) (bs : List ℕ) (f : ℕ) (form new : Bool) (y : f ≡ 0) (w : f ≡ form_then form (list_checks new true)) (hf : form ≡ alias_form bs)
     (hn : new ≡ not (any (λ b. same_alias b (alias_in bs)) (aliases_of c ls))) (d : Different c ls) where
   abbrev more : List Alias
@@ -89,47 +83,24 @@ module _ (ls : List Alias) (c : ℕ) (bs : List ℕ) (f : ℕ) (form new : Bool)
       let e : more ≡ aliases_of (c + 1) (set ls c a) = ap (λ (x : Alias). aliases_of c ls ++ (x ∷ [])) (sym q) ∙ sym (firsts_push (λ (x : Alias). x) no_alias c ls a (omega (arith, long, one_left))) in
       record { few = omega (arith, one_left); ranged = subst (λ (x : List Alias). T (all alias_ok x)) e ranged; differ = subst (λ (x : List Alias). T (aliases_differ x)) e differ }
 
-abbrev invariant-loop : tie.invariant-loop
-invariant-loop file aliases₀ count₀ at₀ aliases count at = (length aliases ≡ 56) × Different count aliases × Leads file at₀ at (put_aliases []) (put_aliases (aliases_of count aliases)) × Going file 1 at
+pub record_at-r-requires : goal.record_at-r-requires
+record_at-r-requires c = search (next_in 1 pos)
 
-abbrev decreases-loop : tie.decreases-loop
-decreases-loop file aliases₀ count₀ at₀ aliases count at = whole_records file - at.place
+pub returns-then-fault-ne0 : goal.returns-then-fault-ne0
+returns-then-fault-ne0 c = search (list_stops group (λ (a : Alias). a) no_alias, went_off 1 pos)
 
-loop-again : tie.Need-loop-preserved invariant-loop decreases-loop
-loop-again c =
-    let i = c.before.before in
-    let f = i.before.first-fault in
-    let n = i.before.before.alias-first in
-    let m = i.before.before.before.alias-form in
-    let b = i.before.before.before.before in
-    let t = b.before in
-    let l = t.before.before.loop in (
+pub bounds-aliases-count : goal.bounds-aliases-count
+bounds-aliases-count c = search one_left
+
+pub loop-r-preserved : goal.loop-r-preserved
+loop-r-preserved c =
+    let f = c.first_fault-fault in
+    let n = c.alias_first in
+    let m = c.alias_form in
+    let l = c.loop-r in (
       search length-set,
-      one_more l.aliases l.count _ _ _ _ i.if2.false f.ensures m.ensures n.ensures l.invariant.1 l.invariant.0 _ c.before.alias-in.ensures,
-      list_grows group (λ (a : Alias). a) no_alias _ _ _ _ t.before.next-group.ensures l.count l.aliases l.invariant.2 l.invariant.3 t.if1.true _ b.record-at.ensures.0 _ _ m.ensures n.ensures _ f.ensures _ _ i.if2.false l.invariant.0
-          (one_left l.aliases l.count _ _ _ _ i.if2.false f.ensures m.ensures n.ensures l.invariant.1) c.before.alias-in.ensures,
+      one_more l.aliases l.count _ _ _ _ c.if-fault-ne0.false f.ensures m.ensures n.ensures l.invariant.1 l.invariant.0 _ c.alias_in.ensures,
+      list_grows group (λ (a : Alias). a) no_alias _ _ _ _ c.next_group.ensures l.count l.aliases l.invariant.2 l.invariant.3 c.loop-r-test.true _ c.record_at-r.ensures.0 _ _ m.ensures n.ensures _ f.ensures _ _ c.if-fault-ne0.false l.invariant.0
+          (one_left l.aliases l.count _ _ _ _ c.if-fault-ne0.false f.ensures m.ensures n.ensures l.invariant.1) c.alias_in.ensures,
       search (went_on 1 pos),
     )
-
-pub aliases-from-spec : {M : Type 1} → statement M
-aliases-from-spec =
-    tie.close
-    (tie.spec
-    invariant-loop
-    decreases-loop
-    (λ c κs. search rules)
-    (λ c. (search rules, record { few = omega arith; ranged = tt; differ = tt }, leads_refl _ _ _, c.before.before.requires))
-    (λ c κs. search rules)
-    (λ c κs. search (next_in 1 pos))
-    (λ c κs. search rules)
-    (λ c κs. search rules)
-    (λ c κs. search rules)
-    (λ c. search (list_stops group (λ (a : Alias). a) no_alias, went_off 1 pos))
-    (λ c κs. search rules)
-    (λ c. omega arith)
-    (λ c. search one_left)
-    (λ c. omega arith)
-    (λ c. search (next_fits 1 pos))
-    (λ c. search (next_less 1 pos))
-    loop-again
-    (λ c. search (went_by 1)))

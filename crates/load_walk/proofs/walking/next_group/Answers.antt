@@ -8,9 +8,7 @@ use Rattle.record_bytes.specs.Bytes.{at}
 use Rattle.record_bytes.specs.RecordKinds.{group_at}
 use Rattle.load_walk.specs.declared.Reach.{Reach}
 use Rattle.load_walk.specs.Walking.{record_at, group_next}
-use borrow.Author.Rules.{rules}
-use Rattle.load_walk.proofs.walking.next_group.Statement.{statement}
-use Rattle.load_walk.proofs.walking.next_group.Tie as tie
+use Rattle.load_walk.proofs.walking.next_group.Goals as goal
 
 module _ (file : List ℕ) (r : Reach) where
   faulted : (r.fault ≡ 0 → ⊥) → 0 ≡ group_next file r
@@ -25,14 +23,11 @@ module _ (file : List ℕ) (r : Reach) where
   unfolding group_next
   ended z h = rw (eq-eqb r.fault 0 z, le-ltb (r.place * 104) (length file) h)
 
-pub next-group-spec : {M : Type 1} → statement M
-next-group-spec =
-    tie.close
-    (tie.spec
-    (λ c. search faulted)
-    (λ c. search rules)
-    (λ c κs. search rules)
-    (λ c. search rules)
-    (λ c κs. search rules)
-    (λ c. search next)
-    (λ c. search ended))
+pub returns-then-r-ne0 : goal.returns-then-r-ne0
+returns-then-r-ne0 c = search faulted
+
+pub returns-then-place-file : goal.returns-then-place-file
+returns-then-place-file c = search next
+
+pub returns : goal.returns
+returns c = search ended

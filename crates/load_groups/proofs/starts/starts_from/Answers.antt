@@ -1,16 +1,15 @@
 -- `load_groups::starts::starts_from` meets its contract: record by record, while they are starts.
-use Prim.Native.Nat.{ℕ, ◌+◌, ◌-◌, ◌≤◌, ◌<◌}
+use Prim.Native.Nat.{ℕ, ◌+◌, ◌≤◌, ◌<◌}
 use mathlib.Core.Path.{◌≡◌, refl, ap, ap₂, ◌∙◌}
 use mathlib.Core.Bool.{Bool, true}
 use mathlib.Core.List.{List, [], ◌∷◌, ◌++◌, append-nil}
 use native.Mathlib.Omega.{arith}
 use lib.ListN.{length, set, length-set}
 use lib.Seq.{get_or-set_same, get_or-set_other}
-use borrow.Author.Rules.{rules}
 use borrow.Author.Tests.{le-leb}
 use lib.Dec.{ltb}
 use Rattle.values.proofs.ByPlace.{length_by, by_next, by_same}
-use Rattle.record_bytes.specs.Decoding.{Record, whole_records, start_record, site_at, start_form}
+use Rattle.record_bytes.specs.Decoding.{Record, start_record, site_at, start_form}
 use Rattle.files.specs.Loading.{Progress, load_checks, failing, put, advance, fresh}
 use Rattle.load_walk.specs.declared.Reach.{Reach}
 use Rattle.load_walk.specs.Walking.{record_at, Leads, group_next, Going, form_then, put_threads}
@@ -19,9 +18,8 @@ use Rattle.nets.specs.declared.Thread.{Thread}
 use Rattle.nets.specs.Nets as M
 use Rattle.nets.specs.View.{no_thread, thread_of, saved_at, thread_at, threads_of}
 use Rattle.record_bytes.specs.Bytes.{at}
-use Rattle.load_walk.proofs.WalkLaws.{Group, with_group, past, stop, list_checks, leads_refl, group_stops, group_grows, next_in, next_fits, next_less, went_on, went_off, went_by, room-left, room_after}
-use Rattle.load_groups.proofs.starts.starts_from.Statement.{statement}
-use Rattle.load_groups.proofs.starts.starts_from.Tie as tie
+use Rattle.load_walk.proofs.WalkLaws.{Group, with_group, past, stop, list_checks, group_stops, group_grows, next_in, went_on, went_off, room-left, room_after}
+use Rattle.load_groups.proofs.starts.starts_from.Goals as goal
 
 pos : 1 ≤ 5
 pos = omega arith
@@ -79,43 +77,21 @@ module _ (file : List ℕ) (from r : Reach) (n : ℕ) (e : n ≡ group_next file
       group_grows group file from r n e c (threads_of ds saved c xs) (length_by (thread_at ds saved xs) 0 c) (h ds saved) g e' bs eb form true hf refl f w (threads_of ds saved (c + 1) (set xs c t)) y
       (more ds saved c xs t (fresh (site_at 1 bs) (at bs 2)) (omega (arith, long, room-left f form true c 8 y w)) q)
 
-abbrev invariant-loop : tie.invariant-loop
-invariant-loop file threads₀ count₀ at₀ threads count at = (length threads ≡ 8) × (count ≤ 8) × Started file at₀ at count threads × Going file 5 at
+pub record_at-r-requires : goal.record_at-r-requires
+record_at-r-requires c = search (next_in 5 pos)
 
-abbrev decreases-loop : tie.decreases-loop
-decreases-loop file threads₀ count₀ at₀ threads count at = whole_records file - at.place
+pub returns-then-fault-ne0 : goal.returns-then-fault-ne0
+returns-then-fault-ne0 c = search (stops, went_off 5 pos)
 
-loop-again : tie.Need-loop-preserved invariant-loop decreases-loop
-loop-again c =
-    let i = c.before.before in
-    let f = i.before.first-fault in
-    let b = i.before.before.before in
-    let t = b.before in
-    let l = t.before.before.loop in (
+pub bounds-threads-count : goal.bounds-threads-count
+bounds-threads-count c = search room-left
+
+pub loop-r-preserved : goal.loop-r-preserved
+loop-r-preserved c =
+    let f = c.first_fault-fault in
+    let l = c.loop-r in (
       search length-set,
       search room_after,
-      grows _ _ _ _ t.before.next-group.ensures l.count l.threads l.invariant.2 l.invariant.3 t.if1.true _ b.record-at.ensures.0 _ i.before.before.start-form.ensures _ f.ensures _ i.if2.false l.invariant.0 c.before.start-in.ensures,
+      grows _ _ _ _ c.next_group.ensures l.count l.threads l.invariant.2 l.invariant.3 c.loop-r-test.true _ c.record_at-r.ensures.0 _ c.start_form.ensures _ f.ensures _ c.if-fault-ne0.false l.invariant.0 c.start_in.ensures,
       search (went_on 5 pos),
     )
-
-pub starts-from-spec : {M : Type 1} → statement M
-starts-from-spec =
-    tie.close
-    (tie.spec
-    invariant-loop
-    decreases-loop
-    (λ c κs. search rules)
-    (λ c. (search rules, omega arith, λ ds saved. leads_refl _ _ _, c.before.before.requires))
-    (λ c κs. search rules)
-    (λ c κs. search (next_in 5 pos))
-    (λ c κs. search rules)
-    (λ c κs. search rules)
-    (λ c. search (stops, went_off 5 pos))
-    (λ c κs. search rules)
-    (λ c. omega arith)
-    (λ c. search room-left)
-    (λ c. omega arith)
-    (λ c. search (next_fits 5 pos))
-    (λ c. search (next_less 5 pos))
-    loop-again
-    (λ c. search (went_by 5)))
