@@ -1,10 +1,9 @@
 -- `write::tables::put_tables` meets its contract: the records of the tables passed, then the bytes that stood there.
 use Prim.Native.Nat.{ℕ, ◌+◌, ◌-◌, ◌*◌, ◌≤◌}
-use mathlib.Core.Path.{◌≡◌, refl, sym, ap, ◌∙◌}
+use mathlib.Core.Path.{◌≡◌, sym, ap, ◌∙◌}
 use mathlib.Core.List.{List, ◌++◌, map}
-use lib.ListN.{length, get_or, drop, length-take, length-drop}
+use lib.ListN.{length, get_or, drop}
 use native.Mathlib.Omega.{arith}
-use borrow.Author.Rules.{rules}
 use borrow.Rule.Slice.PartMut.{put_mid}
 use Rattle.values.specs.Lists.{firsts}
 use Rattle.values.proofs.Firsts.{map-firsts}
@@ -14,11 +13,8 @@ use Rattle.record_bytes.specs.Encoding.{table_bytes}
 use Rattle.value_bytes.specs.Bytes.{end_to_end}
 use Rattle.value_bytes.proofs.Stores.{kept-length, ends_more, ends-all}
 use Rattle.write_fields.proofs.WriteLaws.{table-length}
-use Rattle.write.proofs.tables.put_tables.Statement.{statement}
-use Rattle.write.proofs.tables.put_tables.Tie as tie
-
-abbrev record_of : Table → List ℕ
-record_of t = table_bytes (table_of t)
+use Rattle.write.proofs.tables.put_tables.Invariants.{record_of}
+use Rattle.write.proofs.tables.put_tables.Goals as goal
 
 one_more : (ts : List Table) (i : ℕ) (o out ys : List ℕ) → out ≡ end_to_end (firsts record_of no_table i ts) ++ drop (i * 104) o → ys ≡ record_of (get_or ts i no_table) →
     put_mid (i * 104) (i * 104 + 104 - i * 104) out ys ≡ end_to_end (firsts record_of no_table (i + 1) ts) ++ drop ((i + 1) * 104) o
@@ -28,30 +24,8 @@ ended : (ts : List Table) (n i : ℕ) (o out : List ℕ) → i ≤ n → n ≤ i
 ended ts n i o out a b l e =
     ends-all record_of no_table 104 n i ts o out a b l e ∙ ap end_to_end (sym (map-firsts table_bytes table_of no_table n ts))
 
-abbrev invariant-loop : tie.invariant-loop
-invariant-loop out₀ count tables i₀ out i = (i ≤ count) × (length out ≡ count * 104) × (out ≡ end_to_end (firsts record_of no_table i tables) ++ drop (i * 104) out₀)
+pub loop-i-preserved : goal.loop-i-preserved
+loop-i-preserved c = record { within = omega arith; full = search kept-length; filled = search one_more }
 
-abbrev decreases-loop : tie.decreases-loop
-decreases-loop out₀ count tables i₀ out i = count - i
-
-pub put-tables-spec : {M : Type 1} → statement M
-put-tables-spec =
-    tie.close
-    (tie.spec
-    invariant-loop
-    decreases-loop
-    (λ c. (omega arith, omega arith, refl))
-    (λ c. search rules)
-    (λ c. search rules)
-    (λ c. search rules)
-    (λ c. search rules)
-    (λ c. search rules)
-    (λ c. search rules)
-    (λ c. search rules)
-    (λ c. search rules)
-    (λ c κs. simp (length-take, length-drop) (omega arith))
-    (λ c. search rules)
-    (λ c. search rules)
-    (λ c. (omega arith, search kept-length, search one_more))
-    (λ c. search rules)
-    (λ c. search ended))
+pub returns : goal.returns
+returns c = search ended

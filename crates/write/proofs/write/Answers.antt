@@ -15,9 +15,7 @@ use Rattle.files.specs.declared.Written.{Written}
 use Rattle.files.specs.Writing.{not_written, refusing, write, written, written_answer, buffer_after}
 use Rattle.files.specs.Engine.{said_written}
 use Rattle.write.specs.WriteCall.{if_room}
-use borrow.Author.Rules.{rules}
-use Rattle.write.proofs.write.Statement.{statement}
-use Rattle.write.proofs.write.Tie as tie
+use Rattle.write.proofs.write.Goals as goal
 
 write-sound : (m : M.Net) (o : List ℕ) → sound m ≡ true → write m o ≡ if_room (written m.tables) o
 unfolding write if_room
@@ -46,6 +44,11 @@ module _ (net : Net) (b : Bool) (e : b ≡ sound (view net)) where
   unsound-buffer : (o : List ℕ) → b ≡ false → o ≡ buffer_after o (write (view net) o)
   unsound-buffer o h = rw (write-unsound (view net) o (sym e ∙ h))
 
-pub write_spec : {M : Type 1} → statement M
-write_spec =
-    tie.close (tie.spec (λ c κs. search rules) (λ c κs. (search few, search ranged)) (λ c. search rules) (λ c. record { answer = search sound-answer; buffer = search sound-buffer }) (λ c. record { answer = search unsound-answer; buffer = search unsound-buffer }))
+pub write_tables-requires : goal.write_tables-requires
+write_tables-requires c = (search few, search ranged)
+
+pub returns-then-sound_net : goal.returns-then-sound_net
+returns-then-sound_net c = record { answer = search sound-answer; buffer = search sound-buffer }
+
+pub returns : goal.returns
+returns c = record { answer = search unsound-answer; buffer = search unsound-buffer }

@@ -4,7 +4,6 @@ use mathlib.Core.Path.{◌≡◌, sym, ap, ◌∙◌}
 use mathlib.Core.Bool.{Bool, true, false}
 use mathlib.Core.List.{List, []}
 use lib.Dec.{T}
-use borrow.Author.Rules.{rules}
 use Rattle.values.specs.declared.Site.{Site}
 use Rattle.values.specs.Lists.{all}
 use Rattle.values.proofs.Bools.{T_of}
@@ -18,8 +17,7 @@ use Rattle.page_rules.specs.Pages.{PageOutcome, page_refused, page_for, page, pa
 use Rattle.page_lines.proofs.OutcomeLaws.{by_sound}
 use Rattle.page.specs.declared.Paged.{Paged}
 use Rattle.page.specs.PageCall.{answer_of}
-use Rattle.page.proofs.page.Statement.{statement}
-use Rattle.page.proofs.page.Tie as tie
+use Rattle.page.proofs.page.Goals as goal
 
 module _ (net : Net) (b : Bool) (e : b ≡ sound (view net)) where
   few : b ≡ true → net.tablecount ≤ 8
@@ -47,12 +45,11 @@ module _ (net : Net) (b : Bool) (e : b ≡ sound (view net)) where
     unsound-buffer : b ≡ false → o ≡ buffer_after o (page (view net) s n o)
     unsound-buffer h = sym (ap (buffer_after o) (by_sound (view net) s n o false (sym h ∙ e)))
 
-pub page-spec : {M : Type 1} → statement M
-page-spec =
-    tie.close
-    (tie.spec
-    (λ c κs. search rules)
-    (λ c κs. (search few, search ranged))
-    (λ c. search rules)
-    (λ c. record { answer = search sound-answer; buffer = search sound-buffer })
-    (λ c. record { answer = search unsound-answer; buffer = search unsound-buffer }))
+pub page_tables-requires : goal.page_tables-requires
+page_tables-requires c = (search few, search ranged)
+
+pub returns-then-sound_net : goal.returns-then-sound_net
+returns-then-sound_net c = record { answer = search sound-answer; buffer = search sound-buffer }
+
+pub returns : goal.returns
+returns c = record { answer = search unsound-answer; buffer = search unsound-buffer }

@@ -13,9 +13,7 @@ use Rattle.value_bytes.proofs.Stores.{part-written}
 use Rattle.files.specs.Writing.{written, refusing, writing, written_answer, buffer_after}
 use Rattle.write.specs.WriteCall.{if_room}
 use Rattle.write.proofs.WholeLaws.{bodies, heads, written_is, heads-length}
-use borrow.Author.Rules.{rules}
-use Rattle.write.proofs.tables.write_tables.Statement.{statement}
-use Rattle.write.proofs.tables.write_tables.Tie as tie
+use Rattle.write.proofs.tables.write_tables.Goals as goal
 
 module _ (ts : List Table) (n size : ℕ) (o : List ℕ) (l : size ≡ length (written (tables_of n ts))) where
   short-answer : length o < size → refusing 21 ≡ written_answer (if_room (written (tables_of n ts)) o)
@@ -42,26 +40,22 @@ module _ (ts : List Table) (n size : ℕ) (o : List ℕ) (l : size ≡ length (w
       let e : n * 104 + (size - n * 104) ≡ size = omega (arith, rest) in
       rw (sym l, le-leb size (length o) k, sym l, sub-zero, part-written h o t (n * 104) (size - n * 104) lh, e, hh, ht, written_is n ts)
 
--- the heads fit, and the rows fill the rest
-divided : (c : tie.Else1) → c.before.tables-size.result ≡ c.before.before.before.args.count * 104 + length (bodies c.before.before.before.args.count c.before.before.before.args.tables)
-divided c =
-    let a = c.before.before.before.args in
-    rest a.tables a.count c.before.tables-size.result a.out.now c.before.tables-size.ensures.0
+pub returns-then-out-size : goal.returns-then-out-size
+returns-then-out-size c = (search short-answer, search short-buffer)
 
-pub write-tables-spec : {M : Type 1} → statement M
-write-tables-spec =
-    tie.close
-    (tie.spec
-    (λ c. search rules)
-    (λ c κs. search rules)
-    (λ c. (search short-answer, search short-buffer))
-    (λ c. search rules)
-    (λ c. search rules)
-    (λ c. omega (arith, divided c))
-    (λ c κs. search rules)
-    (λ c. omega (arith, divided c.before.before.before.before))
-    (λ c. omega (arith, divided c.before.before.before.before))
-    (λ c. search rules)
-    (λ c κs. let d = divided c.before.before.before.before.before in (c.before.before.before.before.before.before.before.before.requires.0, c.before.before.before.before.before.before.before.before.requires.1, simp (length-take, length-drop) (omega (arith, d))))
-    (λ c. search rules)
-    (λ c. (search done-answer, search done-buffer)))
+pub slice_bounds-put_tables-end : goal.slice_bounds-put_tables-end
+slice_bounds-put_tables-end c = omega (arith, rest c.args.tables c.args.count c.tables_size-size.result c.args.out.now c.tables_size-size.ensures.0)
+
+pub slice_bounds-put_contents-count : goal.slice_bounds-put_contents-count
+slice_bounds-put_contents-count c = omega (arith, rest c.args.tables c.args.count c.tables_size-size.result c.args.out.now c.tables_size-size.ensures.0)
+
+pub slice_bounds-put_contents-start : goal.slice_bounds-put_contents-start
+slice_bounds-put_contents-start c = omega (arith, rest c.args.tables c.args.count c.tables_size-size.result c.args.out.now c.tables_size-size.ensures.0)
+
+pub put_contents-requires : goal.put_contents-requires
+put_contents-requires c =
+    let d = rest c.args.tables c.args.count c.tables_size-size.result c.args.out.now c.tables_size-size.ensures.0 in
+    (c.requires.0, c.requires.1, simp (length-take, length-drop) (omega (arith, d)))
+
+pub returns : goal.returns
+returns c = (search done-answer, search done-buffer)

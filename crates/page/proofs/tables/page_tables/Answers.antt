@@ -8,7 +8,6 @@ use native.Mathlib.Nat.{sub-zero}
 use native.Mathlib.Omega.{arith}
 use lib.Dec.{leb}
 use lib.ListN.{length, get_or, drop, length-take}
-use borrow.Author.Rules.{rules}
 use borrow.Author.Tests.{le-ltb, le-leb, lt-leb}
 use Rattle.values.specs.declared.Site.{Site}
 use Rattle.values.specs.Lists.{is_some, place_of}
@@ -23,8 +22,7 @@ use Rattle.nets.proofs.ShapeLaws.{shaped-at, rows-ok-at}
 use Rattle.nets.proofs.TableLaws.{none_of}
 use Rattle.nets.proofs.TablePlaces.{table-there, table-at}
 use Rattle.page_rules.specs.Pages.{page_of, no_page, a_page, page_refused, page_length, page_for, page_answer, buffer_after}
-use Rattle.page.proofs.tables.page_tables.Statement.{statement}
-use Rattle.page.proofs.tables.page_tables.Tie as tie
+use Rattle.page.proofs.tables.page_tables.Goals as goal
 
 module _ (ts : List Table) (count place : ℕ) (s : Site) (n : ℕ) (o : List ℕ) (e : place ≡ place_of (is_at s n) (tables_of count ts)) where
   abbrev table : Option M.Table
@@ -75,19 +73,17 @@ module _ (ts : List Table) (count place : ℕ) (s : Site) (n : ℕ) (o : List �
       put-buffer : (out : List ℕ) → size ≤ length o → out ≡ bytes → out ++ drop (size - 0) o ≡ buffer_after o (page_for table o)
       put-buffer out h q = rw (q, sub-zero) (ap (λ (k : ℕ). bytes ++ drop k o) long ∙ sym (ap (buffer_after o) (by_room true (le-leb size (length o) h))))
 
-pub page-tables-spec : {M : Type 1} → statement M
-page-tables-spec =
-    tie.close
-    (tie.spec
-    (λ c κs. search rules)
-    (λ c. (search absent-answer, search absent-buffer))
-    (λ c. search rules)
-    (λ c. search rules)
-    (λ c κs. (search shaped-at, search rows-ok-at))
-    (λ c. (search short-answer, search short-buffer))
-    (λ c. search rules)
-    (λ c. search rules)
-    (λ c. search rules)
-    (λ c κs. (simp length-take (omega arith), search shaped-at, search rows-ok-at))
-    (λ c. search rules)
-    (λ c. (search put-answer, search put-buffer)))
+pub returns-then-place-count : goal.returns-then-place-count
+returns-then-place-count c = (search absent-answer, search absent-buffer)
+
+pub page_size-size-requires : goal.page_size-size-requires
+page_size-size-requires c = (search shaped-at, search rows-ok-at)
+
+pub returns-then-out-size : goal.returns-then-out-size
+returns-then-out-size c = (search short-answer, search short-buffer)
+
+pub put_page-requires : goal.put_page-requires
+put_page-requires c = (simp length-take (omega arith), search shaped-at, search rows-ok-at)
+
+pub returns : goal.returns
+returns c = (search put-answer, search put-buffer)

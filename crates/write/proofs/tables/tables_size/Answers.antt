@@ -8,12 +8,10 @@ use Rattle.nets.specs.declared.Table.{Table}
 use Rattle.nets.specs.View.{tables_of}
 use Rattle.files.specs.Writing.{written}
 use Rattle.write.proofs.WholeLaws.{bodies, written_is, heads-length}
-use borrow.Author.Rules.{rules}
-use Rattle.write.proofs.tables.tables_size.Statement.{statement}
-use Rattle.write.proofs.tables.tables_size.Tie as tie
+use Rattle.write.proofs.tables.tables_size.Goals as goal
 
 size : (ts : List Table) (n r : ℕ) → length (bodies n ts) ≡ r * 104 → n * 104 + r * 104 ≡ length (written (tables_of n ts))
 size ts n r rows = rw (written_is n ts, length-append, heads-length n ts, rows)
 
-pub tables-size-spec : {M : Type 1} → statement M
-tables-size-spec = tie.close (tie.spec (λ c. search rules) (λ c κs. search rules) (λ c. search rules) (λ c. search rules) (λ c. (search size, omega arith)))
+pub returns : goal.returns
+returns c = (search size, omega arith)
