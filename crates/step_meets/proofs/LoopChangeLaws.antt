@@ -25,7 +25,7 @@ use Rattle.step_meets.specs.Situations.{Situation, Change, saved_after}
 use Rattle.nets.specs.Nets as M
 use Rattle.nets.specs.Nets.{Kind, is_loop, is_parallel, binds_relation, to_run, visiting}
 use Rattle.nets.specs.Sound.{entry_node}
-use Rattle.nets.specs.Scenes.{Scene, below, still_to_visit, vars, row_at}
+use Rattle.nets.specs.Scenes.{Scene, below, still_to_visit, row_at}
 use Rattle.nets.specs.Steps.{room_for_round, check12, first_met, loop_entry, round_bindings, with_bindings, with_stack, with_vars, go_on, settle}
 use Rattle.nets.specs.Answers.{answer_of, said_of}
 use Rattle.nets.specs.View.{kind_at, marked, node_in, entry_of, variable_of, bindings_of, thread_of}

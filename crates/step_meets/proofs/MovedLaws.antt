@@ -22,7 +22,7 @@ use Rattle.nets.specs.Steps.{with_stack, with_bindings, keep_thread, restored, g
 use Rattle.nets.specs.View.{no_frame, kind_at, node_in, entry_with, entry_of, stack_of, bindings_of, thread_of}
 use Rattle.nets.proofs.StackView.{stack_same}
 use Rattle.step_thread.specs.ThreadContracts.{is_run, Stacked, goes_on}
-use Rattle.step_thread.proofs.ThreadLaws.{stack-past, stack_set, goes_on_with}
+use Rattle.step_thread.proofs.ThreadLaws.{stack-past, stack_set}
 use Rattle.step_meets.specs.declared.Decided.{Decided}
 use Rattle.step_meets.specs.Situations.{Situation, over_of, moved, saved_after, Onward}
 use Rattle.step_meets.specs.MeetContracts.{Framed}
