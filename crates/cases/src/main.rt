@@ -8,7 +8,6 @@ ghost use Rattle.values.specs.Operands.{vars_of};
 ghost use Rattle.rows.specs.View.{Shaped, Short};
 ghost use Rattle.cases.specs.Kld.{Kld};
 
-use libc::STDOUT_FILENO;
 use print_lines::buffer::{put_byte, write_buffer};
 use print_lines::cells::{put_rows, put_value};
 use row_aggregate::aggregate;
@@ -21,6 +20,7 @@ use row_plan::plan_of;
 use row_sweep::swept;
 use row_terms::terms_of;
 use rows::{Cell, Field, Function, Operands, Relation, Row, Selector, Test};
+use std::io;
 use values::{Got, Operand, Slot, Value};
 
 const SHOE1: u32 = 0x30303120;
@@ -155,55 +155,51 @@ fn replaced(r: Relation, s: Selector, t: Operands, any: bool, kinds: [u8; 4]) ->
 
 // ---- printing
 
-fn print_rows(r: Relation) {
+fn print_rows(rt: &impl Print, r: Relation) -> io::Result<()> {
     let mut buffer = [0u8; 4096];
-    let at = put_rows(&mut buffer, 0, r);
-    write_buffer(&buffer, at);
+    let at = put_rows(rt, &mut buffer, 0, r)?;
+    write_buffer(rt, &buffer, at)
 }
 
-fn print_one(v: Value) {
+fn print_one(rt: &impl Print, v: Value) -> io::Result<()> {
     let mut buffer = [0u8; 4096];
-    let mut at = put_byte(&mut buffer, 0, b' ');
-    at = put_value(&mut buffer, at, v);
-    at = put_byte(&mut buffer, at, b'\n');
-    write_buffer(&buffer, at);
+    let mut at = put_byte(rt, &mut buffer, 0, b' ')?;
+    at = put_value(rt, &mut buffer, at, v)?;
+    at = put_byte(rt, &mut buffer, at, b'\n')?;
+    write_buffer(rt, &buffer, at)
 }
 
-fn print_got(g: Got) {
+fn print_got(rt: &impl Print, g: Got) -> io::Result<()> {
     match g {
-        Got::Nothing => {
-            io::write_all(STDOUT_FILENO, b" none\n");
-        }
-        Got::One(v) => {
-            print_one(v);
-        }
+        Got::Nothing => rt.write_all(b" none\n"),
+        Got::One(v) => print_one(rt, v),
     }
 }
 
 // How many fields matching looks at, of each row of the table that T is held against, in its order.
-fn print_looks(r: Relation, template: Operands)
+fn print_looks(rt: &impl Print, r: Relation, template: Operands) -> io::Result<()>
     requires { Shaped r × Short template }
 {
-    io::write_all(STDOUT_FILENO, b"fields looked at");
+    rt.write_all(b"fields looked at")?;
     let vars = nothing_bound();
     let mut i: usize = 0;
     while i < r.count {
         let row = r.rows[i];
         let m = match_row(template, vars, r.columns, row);
-        io::write_all(STDOUT_FILENO, b" ");
-        io::print_decimal(STDOUT_FILENO, m.looked as u64);
+        rt.write_all(b" ")?;
+        print!(rt; "{}", m.looked)?;
         i += 1;
     }
-    io::write_all(STDOUT_FILENO, b"\n");
+    rt.write_all(b"\n")
 }
 
 // ---- the cases
 
 // Example 4: the shoes that are not red; their colour, size and sales.
-fn not_red(r: Relation)
+fn not_red(rt: &impl Print, r: Relation) -> io::Result<()>
     requires { Kld r }
 {
-    io::write_all(STDOUT_FILENO, b"001, not red\n");
+    rt.write_all(b"001, not red\n")?;
     let template = operands(
         Operand::ConstText(SHOE1),
         Operand::Formal(1),
@@ -235,15 +231,15 @@ fn not_red(r: Relation)
         rows,
         count: r.count,
     };
-    print_rows(sifted(made, flags, true));
-    print_looks(r, template);
+    print_rows(rt, sifted(made, flags, true))?;
+    print_looks(rt, r, template)
 }
 
 // Example 6: the sum of the sales of shoe 001.
-fn sales(r: Relation)
+fn sales(rt: &impl Print, r: Relation) -> io::Result<()>
     requires { Kld r }
 {
-    io::write_all(STDOUT_FILENO, b"001, sales");
+    rt.write_all(b"001, sales")?;
     let template = operands(
         Operand::ConstText(SHOE1),
         Operand::Formal(1),
@@ -253,17 +249,17 @@ fn sales(r: Relation)
     );
     let s = selector(template, Test::Always, Operand::Absent, Operand::Absent);
     let taken = sifted(r, marked(r, s), true);
-    print_got(aggregate(Function::Sum, 3, taken));
-    print_looks(r, template);
+    print_got(rt, aggregate(Function::Sum, 3, taken))?;
+    print_looks(rt, r, template)
 }
 
 // Examples 2 and 3: white inserted, and deleted by "White".
-fn white(r: Relation)
+fn white(rt: &impl Print, r: Relation) -> io::Result<()>
     requires { Kld r × (r.count ≡ 7) }
 {
-    io::write_all(STDOUT_FILENO, b"white inserted\n");
+    rt.write_all(b"white inserted\n")?;
     let more = push(r, shoe(SHOE1, WHITE, 37, 0));
-    print_rows(more);
+    print_rows(rt, more)?;
     let template = operands(
         Operand::ConstText(SHOE1),
         Operand::ConstText(CAPITAL_WHITE),
@@ -275,15 +271,15 @@ fn white(r: Relation)
     let flags = marked(more, s);
     let kept = sifted(more, flags, false);
     let taken = sifted(more, flags, true);
-    io::write_all(STDOUT_FILENO, b"deleted by White\n");
-    print_rows(taken);
-    print_looks(more, template);
-    io::write_all(STDOUT_FILENO, b"left\n");
-    print_rows(kept);
+    rt.write_all(b"deleted by White\n")?;
+    print_rows(rt, taken)?;
+    print_looks(rt, more, template)?;
+    rt.write_all(b"left\n")?;
+    print_rows(rt, kept)
 }
 
 // Example 5: two more red ones of size 37 are sold.
-fn sold(r: Relation)
+fn sold(rt: &impl Print, r: Relation) -> io::Result<()>
     requires { Kld r }
 {
     let template = operands(
@@ -312,19 +308,19 @@ fn sold(r: Relation)
         rows,
         count: r.count,
     };
-    io::write_all(STDOUT_FILENO, b"two red 37 sold, rows replaced ");
-    io::print_decimal(STDOUT_FILENO, count_marks(flags) as u64);
-    io::write_all(STDOUT_FILENO, b"\n");
-    print_rows(next);
-    print_looks(r, template);
+    rt.write_all(b"two red 37 sold, rows replaced ")?;
+    print!(rt; "{}", count_marks(flags))?;
+    rt.write_all(b"\n")?;
+    print_rows(rt, next)?;
+    print_looks(rt, r, template)
 }
 
-fn main() {
+fn main(rt: HostRuntime) -> io::Result<()> {
     let r = kld();
-    io::write_all(STDOUT_FILENO, b"KLD\n");
-    print_rows(r);
-    not_red(r);
-    sales(r);
-    white(r);
-    sold(r);
+    rt.write_all(b"KLD\n")?;
+    print_rows(&rt, r)?;
+    not_red(&rt, r)?;
+    sales(&rt, r)?;
+    white(&rt, r)?;
+    sold(&rt, r)
 }

@@ -2,6 +2,7 @@
 ghost use Rattle.std.specs.Prelude.{◌≤◌, length};
 
 use crate::trying::try_net;
+use std::io;
 
 // A hexadecimal digit, of small letters.
 fn digit(b: u8) -> u8
@@ -42,17 +43,19 @@ fn line_end(input: &[u8], from: usize) -> usize
     i
 }
 
-fn try_line(line: &[u8]) {
+fn try_line(rt: &impl Print, line: &[u8]) -> io::Result<()> {
     if 49 <= line.len() {
-        try_net(&line[49..], bytes_of(line));
+        return try_net(rt, &line[49..], bytes_of(line));
     }
+    Ok(())
 }
 
-pub fn try_lines(input: &[u8]) {
+pub fn try_lines(rt: &impl Print, input: &[u8]) -> io::Result<()> {
     let mut from = 0;
     while from < input.len() {
         let end = line_end(input, from);
-        try_line(&input[from..end]);
+        try_line(rt, &input[from..end])?;
         from = end + 1;
     }
+    Ok(())
 }

@@ -5,11 +5,12 @@
 mod lines;
 mod trying;
 
-use libc::STDIN_FILENO;
 use lines::try_lines;
+use print_lines::input::read_full;
+use std::io;
 
-fn main() {
-    let mut input = io::large_buffer();
-    let n = io::read_full(STDIN_FILENO, &mut input);
-    try_lines(&input[..n]);
+fn main(rt: HostRuntime) -> io::Result<()> {
+    let mut input = [0u8; 65536];
+    let n = read_full(&mut rt.stdin(), &mut input);
+    try_lines(&rt, &input[..n])
 }

@@ -4,33 +4,44 @@ use nets::{Answer, Net, Pick, Stepped};
 use page::{Paged, page};
 use print_lines::buffer::{put_byte, put_bytes, put_decimal, write_buffer};
 use print_lines::lines::put_answer;
+use std::io;
 use steps::step;
 use test_compare::whole::same_net;
 use test_nets::exchanged::exchanged;
 use write::write;
 
-fn put_same(buffer: &mut [u8; 4096], at: usize, same: bool) -> usize {
+fn put_same(rt: &impl Print, buffer: &mut [u8; 4096], at: usize, same: bool) -> io::Result<usize> {
     if same {
-        return put_bytes(buffer, at, b" same");
+        return put_bytes(rt, buffer, at, b" same");
     }
-    put_bytes(buffer, at, b" changed")
+    put_bytes(rt, buffer, at, b" changed")
 }
 
 // The length, or the number of the refusal.
-fn put_written(buffer: &mut [u8; 4096], at: usize, written: Written) -> usize {
+fn put_written(
+    rt: &impl Print,
+    buffer: &mut [u8; 4096],
+    at: usize,
+    written: Written,
+) -> io::Result<usize> {
     match written {
-        Written::Length(n) => put_decimal(buffer, at, n as u64),
-        Written::Unsound => put_bytes(buffer, at, b"no 10"),
-        Written::Short => put_bytes(buffer, at, b"no 21"),
+        Written::Length(n) => put_decimal(rt, buffer, at, n as u64),
+        Written::Unsound => put_bytes(rt, buffer, at, b"no 10"),
+        Written::Short => put_bytes(rt, buffer, at, b"no 21"),
     }
 }
 
-fn put_paged(buffer: &mut [u8; 4096], at: usize, paged: Paged) -> usize {
+fn put_paged(
+    rt: &impl Print,
+    buffer: &mut [u8; 4096],
+    at: usize,
+    paged: Paged,
+) -> io::Result<usize> {
     match paged {
-        Paged::Length(n) => put_decimal(buffer, at, n as u64),
-        Paged::Unsound => put_bytes(buffer, at, b"no 10"),
-        Paged::NoTable => put_bytes(buffer, at, b"no 14"),
-        Paged::Short(_) => put_bytes(buffer, at, b"no 22"),
+        Paged::Length(n) => put_decimal(rt, buffer, at, n as u64),
+        Paged::Unsound => put_bytes(rt, buffer, at, b"no 10"),
+        Paged::NoTable => put_bytes(rt, buffer, at, b"no 14"),
+        Paged::Short(_) => put_bytes(rt, buffer, at, b"no 22"),
     }
 }
 
@@ -111,30 +122,35 @@ fn run(net: Net, thread: u8, row: u8) -> Outcome {
     }
 }
 
-fn put_outcome(buffer: &mut [u8; 4096], at: usize, outcome: Outcome) -> usize {
+fn put_outcome(
+    rt: &impl Print,
+    buffer: &mut [u8; 4096],
+    at: usize,
+    outcome: Outcome,
+) -> io::Result<usize> {
     let answer = outcome.answer;
     let written = outcome.written;
-    let mut end = put_answer(buffer, at, answer);
-    end = put_same(buffer, end, outcome.same);
-    end = put_bytes(buffer, end, b", written ");
-    end = put_written(buffer, end, written);
-    end = put_same(buffer, end, outcome.kept);
-    end = put_bytes(buffer, end, b", page ");
+    let mut end = put_answer(rt, buffer, at, answer)?;
+    end = put_same(rt, buffer, end, outcome.same)?;
+    end = put_bytes(rt, buffer, end, b", written ")?;
+    end = put_written(rt, buffer, end, written)?;
+    end = put_same(rt, buffer, end, outcome.kept)?;
+    end = put_bytes(rt, buffer, end, b", page ")?;
     let paged = outcome.paged;
-    end = put_paged(buffer, end, paged);
-    put_same(buffer, end, outcome.page_kept)
+    end = put_paged(rt, buffer, end, paged)?;
+    put_same(rt, buffer, end, outcome.page_kept)
 }
 
-fn print(name: &[u8], outcome: Outcome) {
+fn print(rt: &impl Print, name: &[u8], outcome: Outcome) -> io::Result<()> {
     let mut buffer = [0u8; 4096];
-    let mut at = put_bytes(&mut buffer, 0, name);
-    at = put_bytes(&mut buffer, at, b": ");
-    at = put_outcome(&mut buffer, at, outcome);
-    at = put_byte(&mut buffer, at, b'\n');
-    write_buffer(&buffer, at);
+    let mut at = put_bytes(rt, &mut buffer, 0, name)?;
+    at = put_bytes(rt, &mut buffer, at, b": ")?;
+    at = put_outcome(rt, &mut buffer, at, outcome)?;
+    at = put_byte(rt, &mut buffer, at, b'\n')?;
+    write_buffer(rt, &buffer, at)
 }
 
 // The net that 24 bytes say, with a pick of the first two.
-pub fn try_net(name: &[u8], e: [u8; 24]) {
-    print(name, run(exchanged(e), e[0], e[1]));
+pub fn try_net(rt: &impl Print, name: &[u8], e: [u8; 24]) -> io::Result<()> {
+    print(rt, name, run(exchanged(e), e[0], e[1]))
 }

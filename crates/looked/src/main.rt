@@ -6,39 +6,43 @@ ghost use Rattle.std.specs.Prelude.{◌≤◌};
 ghost use Rattle.rows.specs.View.{Short};
 
 use files::Verdict;
-use libc::STDERR_FILENO;
 use load::{length_fault, load};
 use nets::kinds::{has_test, is_loop};
 use nets::{Net, Node, Pick};
+use print_lines::arguments::has_argument;
 use print_lines::buffer::{at_most, put_byte, put_bytes, put_decimal, write_buffer};
+use print_lines::endings::{status_after, tell_failed};
 use print_lines::faults::print_refused;
 use print_lines::input::read_input;
 use row_match::match_row;
 use rows::{Matched, Operands, Relation};
 use runs::bytes::run_bytes;
+use std::io;
+use std::process::ExitCode;
 use step_bytes::picks::pick_bytes;
 use values::Slot;
 
 // ---- one line
 
-fn put_place(buffer: &mut [u8; 4096], at: usize, n: usize) -> usize {
-    let place = put_byte(buffer, at, b' ');
-    put_decimal(buffer, place, n as u64)
+fn put_place(rt: &impl Print, buffer: &mut [u8; 4096], at: usize, n: usize) -> io::Result<usize> {
+    let place = put_byte(rt, buffer, at, b' ')?;
+    put_decimal(rt, buffer, place, n as u64)
 }
 
-fn put_look(buffer: &mut [u8; 4096], at: usize, m: Matched) -> usize {
-    let place = put_place(buffer, at, m.looked);
-    put_byte(buffer, place, if m.matches { b'+' } else { b'-' })
+fn put_look(rt: &impl Print, buffer: &mut [u8; 4096], at: usize, m: Matched) -> io::Result<usize> {
+    let place = put_place(rt, buffer, at, m.looked)?;
+    put_byte(rt, buffer, place, if m.matches { b'+' } else { b'-' })
 }
 
 // Each row of a relation.
 fn put_looks(
+    rt: &impl Print,
     buffer: &mut [u8; 4096],
     at: usize,
     template: Operands,
     vars: [Slot; 16],
     r: Relation,
-) -> usize
+) -> io::Result<usize>
     requires { Short template }
 {
     let columns = at_most(r.columns, 4);
@@ -47,26 +51,27 @@ fn put_looks(
     while i < 16 {
         if i < r.count {
             let row = r.rows[i];
-            place = put_look(buffer, place, match_row(template, vars, columns, row));
+            place = put_look(rt, buffer, place, match_row(template, vars, columns, row))?;
         }
         i += 1;
     }
-    place
+    Ok(place)
 }
 
-// ---- all of them. Every print_ function answers whether all of it was written.
+// ---- all of them. Every print_ function gives an error where not all of it was written.
 
 fn has_template(kind: u8) -> bool {
     has_test(kind) | is_loop(kind)
 }
 
 fn print_tables(
+    rt: &impl Print,
     net: Net,
     thread: usize,
     number: usize,
     template: Operands,
     vars: [Slot; 16],
-) -> bool
+) -> io::Result<()>
     requires { Short template }
 {
     let mut buffer = [0u8; 4096];
@@ -76,54 +81,57 @@ fn print_tables(
         if i < net.tablecount {
             let table = net.tables[i];
             let content = table.content;
-            at = put_bytes(&mut buffer, at, b"looked");
-            at = put_place(&mut buffer, at, thread);
-            at = put_place(&mut buffer, at, number);
-            at = put_place(&mut buffer, at, i);
-            at = put_looks(&mut buffer, at, template, vars, content);
-            at = put_byte(&mut buffer, at, b'\n');
+            at = put_bytes(rt, &mut buffer, at, b"looked")?;
+            at = put_place(rt, &mut buffer, at, thread)?;
+            at = put_place(rt, &mut buffer, at, number)?;
+            at = put_place(rt, &mut buffer, at, i)?;
+            at = put_looks(rt, &mut buffer, at, template, vars, content)?;
+            at = put_byte(rt, &mut buffer, at, b'\n')?;
         }
         i += 1;
     }
-    write_buffer(&buffer, at)
+    write_buffer(rt, &buffer, at)
 }
 
-fn print_node(net: Net, thread: usize, number: usize, node: Node, vars: [Slot; 16]) -> bool {
+fn print_node(
+    rt: &impl Print,
+    net: Net,
+    thread: usize,
+    number: usize,
+    node: Node,
+    vars: [Slot; 16],
+) -> io::Result<()> {
     let selector = node.selector;
     let template = selector.template;
     if !has_template(node.kind) | (template.count > 4) {
-        return true;
+        return Ok(());
     }
-    print_tables(net, thread, number, template, vars)
+    print_tables(rt, net, thread, number, template, vars)
 }
 
-fn print_nodes(net: Net, thread: usize, vars: [Slot; 16]) -> bool {
+fn print_nodes(rt: &impl Print, net: Net, thread: usize, vars: [Slot; 16]) -> io::Result<()> {
     let mut i: usize = 0;
     while i < 128 {
         if i < net.nodecount {
             let node = net.nodes[i];
-            if !print_node(net, thread, i, node, vars) {
-                return false;
-            }
+            print_node(rt, net, thread, i, node, vars)?;
         }
         i += 1;
     }
-    true
+    Ok(())
 }
 
-fn print_net(net: Net) -> bool {
+fn print_net(rt: &impl Print, net: Net) -> io::Result<()> {
     let mut i: usize = 0;
     while i < 8 {
         if i < net.threadcount {
             let thread = net.threads[i];
             let vars = thread.vars;
-            if !print_nodes(net, i, vars) {
-                return false;
-            }
+            print_nodes(rt, net, i, vars)?;
         }
         i += 1;
     }
-    true
+    Ok(())
 }
 
 // ---- the file
@@ -138,43 +146,48 @@ fn after(net: Net, picks: [Pick; 256], count: usize) -> Net
     ran.net
 }
 
-fn print_file(file: &[u8]) -> bool {
+fn print_file(rt: &(impl Print + Eprint), file: &[u8]) -> io::Result<()> {
     let loaded = load(file);
     let verdict = loaded.verdict;
     match verdict {
         Verdict::Accepted => {
             let net = loaded.net;
             let picks = loaded.picks;
-            print_net(after(net, picks, at_most(loaded.pickcount, 256)))
+            print_net(rt, after(net, picks, at_most(loaded.pickcount, 256)))
         }
-        Verdict::Fault(number, place) => print_refused(file, number, place),
+        Verdict::Fault(number, place) => print_refused(rt, file, number, place),
     }
 }
 
 // An input that fills the buffer is too long for a file, whatever its bytes.
-fn print_input(space: &[u8], length: usize) -> bool {
+fn print_input(rt: &(impl Print + Eprint), space: &[u8], length: usize) -> io::Result<()> {
     if length >= space.len() {
         let fault = length_fault(length);
-        return print_refused(space, fault.number, fault.place);
+        return print_refused(rt, space, fault.number, fault.place);
     }
-    print_file(&space[..length])
+    print_file(rt, &space[..length])
 }
 
-fn main() {
-    if os::arg_count() > 1 {
-        io::write_all(
-            STDERR_FILENO,
-            b"looked takes no arguments: it reads a file of records on standard input, as in: looked < NET.net\n",
+fn main(rt: HostRuntime) -> ExitCode {
+    if has_argument(&rt, 1) {
+        let _ = eprintln!(rt;
+            "looked takes no arguments: it reads a file of records on standard input, as in: looked < NET.net"
         );
-        return;
+        return ExitCode::SUCCESS;
     }
-    let mut space = io::large_buffer();
-    let input = read_input(&mut space);
+    let mut space = [0u8; 65536];
+    let input = read_input(&mut rt.stdin(), &mut space);
     if !input.whole {
-        os::fail(b"looked: nothing was run: standard input could not be read to its end");
-        return;
+        tell_failed(
+            &rt,
+            "looked: nothing was run: standard input could not be read to its end",
+            input.failed,
+        );
+        return ExitCode::SUCCESS;
     }
-    if !print_input(&space, input.length) {
-        os::fail(b"looked: standard output could not be written");
-    }
+    status_after(
+        &rt,
+        print_input(&rt, &space, input.length),
+        "looked: standard output could not be written",
+    )
 }

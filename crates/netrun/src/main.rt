@@ -9,13 +9,16 @@ ghost use Rattle.step_bytes.specs.AnswerBytes.{answers_put};
 ghost use Rattle.step_left.specs.Leaving.{left_by};
 
 use files::Verdict;
-use libc::STDERR_FILENO;
 use load::{length_fault, load};
 use nets::{Net, Pick};
+use print_lines::arguments::has_argument;
 use print_lines::buffer::{at_most, write_buffer};
+use print_lines::endings::{status_after, tell_failed};
 use print_lines::faults::print_refused;
 use print_lines::input::read_input;
 use print_lines::lines::{put_picks, put_tables};
+use std::io;
+use std::process::ExitCode;
 use step_bytes::picks::pick_bytes;
 use step_left::Carried;
 use step_picks::carry_out;
@@ -30,57 +33,62 @@ fn run(start: Net, picks: [Pick; 256], count: usize, answers: &mut [u8]) -> Carr
     carry_out(start, &bytes[..length], answers)
 }
 
-// Every print_ function answers whether all of it was written.
-fn print_run(start: Net, picks: [Pick; 256], count: usize) -> bool
+// Every print_ function gives an error where not all of it was written.
+fn print_run(rt: &impl Print, start: Net, picks: [Pick; 256], count: usize) -> io::Result<()>
     requires { T (sound (view start)) }
 {
     let n = at_most(count, 256);
     let mut answers = [0u8; 6144];
     let left = run(start, picks, n, &mut answers);
     let mut buffer = [0u8; 4096];
-    let mut at = put_picks(&mut buffer, 0, &answers, n);
+    let mut at = put_picks(rt, &mut buffer, 0, &answers, n)?;
     let tables = left.tables;
-    at = put_tables(&mut buffer, at, tables, left.tablecount);
-    write_buffer(&buffer, at)
+    at = put_tables(rt, &mut buffer, at, tables, left.tablecount)?;
+    write_buffer(rt, &buffer, at)
 }
 
-fn print_file(file: &[u8]) -> bool {
+fn print_file(rt: &(impl Print + Eprint), file: &[u8]) -> io::Result<()> {
     let loaded = load(file);
     let verdict = loaded.verdict;
     match verdict {
         Verdict::Accepted => {
             let net = loaded.net;
             let picks = loaded.picks;
-            print_run(net, picks, loaded.pickcount)
+            print_run(rt, net, picks, loaded.pickcount)
         }
-        Verdict::Fault(number, place) => print_refused(file, number, place),
+        Verdict::Fault(number, place) => print_refused(rt, file, number, place),
     }
 }
 
 // An input that fills the buffer is too long for a file, whatever its bytes.
-fn print_input(space: &[u8], length: usize) -> bool {
+fn print_input(rt: &(impl Print + Eprint), space: &[u8], length: usize) -> io::Result<()> {
     if length >= space.len() {
         let fault = length_fault(length);
-        return print_refused(space, fault.number, fault.place);
+        return print_refused(rt, space, fault.number, fault.place);
     }
-    print_file(&space[..length])
+    print_file(rt, &space[..length])
 }
 
-fn main() {
-    if os::arg_count() > 1 {
-        io::write_all(
-            STDERR_FILENO,
-            b"netrun takes no arguments: it reads a file of records on standard input, as in: netrun < NET.net\n",
+fn main(rt: HostRuntime) -> ExitCode {
+    if has_argument(&rt, 1) {
+        let _ = eprintln!(rt;
+            "netrun takes no arguments: it reads a file of records on standard input, as in: netrun < NET.net"
         );
-        return;
+        return ExitCode::SUCCESS;
     }
-    let mut space = io::large_buffer();
-    let input = read_input(&mut space);
+    let mut space = [0u8; 65536];
+    let input = read_input(&mut rt.stdin(), &mut space);
     if !input.whole {
-        os::fail(b"netrun: nothing was run: standard input could not be read to its end");
-        return;
+        tell_failed(
+            &rt,
+            "netrun: nothing was run: standard input could not be read to its end",
+            input.failed,
+        );
+        return ExitCode::SUCCESS;
     }
-    if !print_input(&space, input.length) {
-        os::fail(b"netrun: standard output could not be written");
-    }
+    status_after(
+        &rt,
+        print_input(&rt, &space, input.length),
+        "netrun: standard output could not be written",
+    )
 }

@@ -2,6 +2,7 @@
 ghost use Rattle.std.specs.Prelude.{◌≤◌};
 
 use print_lines::buffer::at_most;
+use std::env::Env;
 
 #[derive(Clone, Copy)]
 pub enum Number {
@@ -44,9 +45,10 @@ fn number_in(text: &[u8]) -> Number {
 }
 
 // An argument that is missing or longer than a path can be reads as empty, which is no number.
-pub fn argument(i: usize) -> Number {
-    let mut text = io::buffer();
-    let view: &mut [u8] = &mut text;
-    let length = os::arg(i, view);
-    number_in(&text[..length])
+pub fn argument(rt: &impl Env, i: usize) -> Number {
+    let mut text = [0u8; 4096];
+    match rt.arg(i, &mut text) {
+        Ok(length) => number_in(&text[..length]),
+        Err(_) => Number::Other,
+    }
 }

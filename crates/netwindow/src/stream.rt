@@ -1,17 +1,19 @@
 // A stream of any length, read in pieces: all that is kept of it is the window and the start of a record whose end is still to come.
-ghost use Rattle.std.specs.Prelude.{◌≡◌, ◌≤◌, ◌<◌, length};
+ghost use Rattle.std.specs.Prelude.{◌≡◌, ◌+◌, ◌≤◌, ◌<◌, length, IfOk};
 
 use crate::lines::put_line;
-use libc::STDIN_FILENO;
-use print_lines::buffer::{LOST, write_buffer};
+use print_lines::buffer::write_buffer;
 use record_bytes::RECORD;
+use std::io;
+use std::io::Read;
 use window::{Window, take};
 
+// Unread where a read failed; with no error where the tries are used up.
 #[derive(Clone, Copy)]
 pub enum Ended {
     Whole,
-    Unread,
-    Unwritten,
+    Unread(Option<io::Error>),
+    Unwritten(io::Error),
 }
 
 // The window that the next record meets, the place of that record, and where its line goes in the buffer of lines.
@@ -30,29 +32,39 @@ fn next_place(place: u64) -> u64 {
     place
 }
 
-fn take_record(buffer: &mut [u8; 4096], reached: Reached, record: &[u8]) -> Reached {
+fn take_record(
+    rt: &impl Print,
+    buffer: &mut [u8; 4096],
+    reached: Reached,
+    record: &[u8],
+) -> io::Result<Reached> {
     let window = reached.window;
     let taken = take(window, record);
     let answer = taken.answer;
-    let at = put_line(buffer, reached.at, reached.place, answer);
+    let at = put_line(rt, buffer, reached.at, reached.place, answer)?;
     let next = taken.window;
-    Reached {
+    Ok(Reached {
         window: next,
         place: next_place(reached.place),
         at,
-    }
+    })
 }
 
 // Each whole record of a piece.
-fn take_piece(buffer: &mut [u8; 4096], reached: Reached, piece: &[u8]) -> Reached {
+fn take_piece(
+    rt: &impl Print,
+    buffer: &mut [u8; 4096],
+    reached: Reached,
+    piece: &[u8],
+) -> io::Result<Reached> {
     let count = piece.len() / RECORD;
     let mut now = reached;
     let mut i: usize = 0;
     while i < count {
-        now = take_record(buffer, now, &piece[i * RECORD..i * RECORD + RECORD]);
+        now = take_record(rt, buffer, now, &piece[i * RECORD..i * RECORD + RECORD])?;
         i += 1;
     }
-    now
+    Ok(now)
 }
 
 // Moves what is left behind the whole records of a piece to the front, and gives how much that is.
@@ -70,32 +82,24 @@ fn keep_rest(space: &mut [u8], filled: usize) -> usize
     left
 }
 
-fn read_more(space: &mut [u8], held: usize) -> isize
+// Reads behind what is held, and gives how many bytes.
+fn read_more(from: &mut impl Read, space: &mut [u8], held: usize) -> io::Result<usize>
     requires { held ≤ length space.old }
+    ensures count { IfOk result (λ n. held + n ≤ length space.new) }
+    ensures kept { length space.new ≡ length space.old }
 {
-    libc::read(STDIN_FILENO, &mut space[held..])
-}
-
-// How much of the space holds bytes after a read.
-fn filled_to(space: &[u8], held: usize, got: isize) -> usize
-    requires { held ≤ length space.now }
-    ensures { result ≤ length space.now }
-{
-    held + io::count(got, &space[held..])
+    from.read(&mut space[held..])
 }
 
 // The lines gathered so far go out with every piece, so that whoever sends records slowly sees each answer.
-fn flushed(buffer: &[u8; 4096], reached: Reached) -> Reached {
+fn flushed(rt: &impl Print, buffer: &[u8; 4096], reached: Reached) -> io::Result<Reached> {
     let window = reached.window;
-    let mut at: usize = 0;
-    if !write_buffer(buffer, reached.at) {
-        at = LOST;
-    }
-    Reached {
+    write_buffer(rt, buffer, reached.at)?;
+    Ok(Reached {
         window,
         place: reached.place,
-        at,
-    }
+        at: 0,
+    })
 }
 
 // One piece more: its whole records are answered, and what is left of it is kept.
@@ -105,33 +109,41 @@ struct Piece {
     held: usize,
 }
 
-fn take_read(buffer: &mut [u8; 4096], reached: Reached, space: &mut [u8], filled: usize) -> Piece
+fn take_read(
+    rt: &impl Print,
+    buffer: &mut [u8; 4096],
+    reached: Reached,
+    space: &mut [u8],
+    filled: usize,
+) -> io::Result<Piece>
     requires { filled ≤ length space.old }
-    ensures { (result.held < 104) × (length space.new ≡ length space.old) }
+    ensures { IfOk result (λ piece. piece.held < 104) × (length space.new ≡ length space.old) }
 {
-    let taken = take_piece(buffer, reached, &space[..filled]);
-    let out = flushed(buffer, taken);
-    Piece {
+    let taken = take_piece(rt, buffer, reached, &space[..filled])?;
+    let out = flushed(rt, buffer, taken)?;
+    Ok(Piece {
         reached: out,
         held: keep_rest(space, filled),
-    }
+    })
 }
 
 // The end of the stream: what is left of it is a record too.
-fn take_last(buffer: &mut [u8; 4096], reached: Reached, last: &[u8]) -> Ended {
+fn take_last(
+    rt: &impl Print,
+    buffer: &mut [u8; 4096],
+    reached: Reached,
+    last: &[u8],
+) -> io::Result<()> {
     let mut at = reached.at;
     if last.len() > 0 {
-        let end = take_record(buffer, reached, last);
+        let end = take_record(rt, buffer, reached, last)?;
         at = end.at;
     }
-    if write_buffer(buffer, at) {
-        return Ended::Whole;
-    }
-    Ended::Unwritten
+    write_buffer(rt, buffer, at)
 }
 
 // A proved loop has to end, so it counts its tries down from a number that no run uses up.
-fn print_stream(window: Window, space: &mut [u8]) -> Ended
+fn print_stream(rt: &impl Print, from: &mut impl Read, window: Window, space: &mut [u8]) -> Ended
     requires { 65536 ≡ length space.old }
 {
     let mut buffer = [0u8; 4096];
@@ -143,26 +155,28 @@ fn print_stream(window: Window, space: &mut [u8]) -> Ended
     let mut held: usize = 0;
     let mut tries: usize = 1152921504606846976;
     while tries > 0 {
-        let got = read_more(space, held);
-        if got < 0 {
-            return Ended::Unread;
-        }
+        let got = match read_more(from, space, held) {
+            Ok(got) => got,
+            Err(why) => return Ended::Unread(Some(why)),
+        };
         if got == 0 {
-            return take_last(&mut buffer, reached, &space[..held]);
+            return match take_last(rt, &mut buffer, reached, &space[..held]) {
+                Ok(()) => Ended::Whole,
+                Err(why) => Ended::Unwritten(why),
+            };
         }
-        let filled = filled_to(space, held, got);
-        let piece = take_read(&mut buffer, reached, space, filled);
+        let piece = match take_read(rt, &mut buffer, reached, space, held + got) {
+            Ok(piece) => piece,
+            Err(why) => return Ended::Unwritten(why),
+        };
         reached = piece.reached;
         held = piece.held;
-        if reached.at == LOST {
-            return Ended::Unwritten;
-        }
         tries -= 1;
     }
-    Ended::Unread
+    Ended::Unread(None)
 }
 
-pub fn print_answers(window: Window) -> Ended {
-    let mut space = io::large_buffer();
-    print_stream(window, &mut space)
+pub fn print_answers(rt: &impl Print, from: &mut impl Read, window: Window) -> Ended {
+    let mut space = [0u8; 65536];
+    print_stream(rt, from, window, &mut space)
 }

@@ -1,11 +1,8 @@
 // Bytes and numbers into the buffer.
-ghost use Rattle.std.specs.Prelude.{◌≤◌, length};
+ghost use Rattle.std.specs.Prelude.{◌<◌, ◌≤◌, length, IfOk};
 
-use libc::STDOUT_FILENO;
+use std::io;
 use value_decimal::{PLACES, put_number, put_signed};
-
-// The place that is given once a full buffer could not be written: from then on nothing is put and nothing is written.
-pub const LOST: usize = 4097;
 
 pub fn at_most(n: usize, most: usize) -> usize
     ensures { result ≤ most }
@@ -17,64 +14,85 @@ pub fn at_most(n: usize, most: usize) -> usize
 }
 
 // Where the next byte goes: `at`, or the buffer's start once a full buffer is written.
-fn room(buffer: &[u8; 4096], at: usize) -> usize {
+fn room(rt: &impl Print, buffer: &[u8; 4096], at: usize) -> io::Result<usize>
+    ensures { IfOk result (λ place. place < 4096) }
+{
     if at == 4096 {
-        if io::write_all(STDOUT_FILENO, buffer) {
-            return 0;
-        }
-        return LOST;
+        rt.write_all(buffer)?;
+        return Ok(0);
     }
-    at
+    if at > 4096 {
+        return Err(io::Error::from(io::ErrorKind::InvalidInput));
+    }
+    Ok(at)
 }
 
-pub fn put_byte(buffer: &mut [u8; 4096], at: usize, byte: u8) -> usize {
-    let place = room(buffer, at);
-    if place < 4096 {
-        buffer[place] = byte;
-        return place + 1;
-    }
-    LOST
+pub fn put_byte(
+    rt: &impl Print,
+    buffer: &mut [u8; 4096],
+    at: usize,
+    byte: u8,
+) -> io::Result<usize> {
+    let place = room(rt, buffer, at)?;
+    buffer[place] = byte;
+    Ok(place + 1)
 }
 
-pub fn put_bytes(buffer: &mut [u8; 4096], at: usize, bytes: &[u8]) -> usize {
+pub fn put_bytes(
+    rt: &impl Print,
+    buffer: &mut [u8; 4096],
+    at: usize,
+    bytes: &[u8],
+) -> io::Result<usize> {
     let mut place = at;
     let mut i = 0;
     while i < bytes.len() {
-        place = put_byte(buffer, place, bytes[i]);
+        place = put_byte(rt, buffer, place, bytes[i])?;
         i += 1;
     }
-    place
+    Ok(place)
 }
 
 // What stands in `text` from place `start` on.
-fn put_from(buffer: &mut [u8; 4096], at: usize, text: &[u8], start: usize) -> usize
+fn put_from(
+    rt: &impl Print,
+    buffer: &mut [u8; 4096],
+    at: usize,
+    text: &[u8],
+    start: usize,
+) -> io::Result<usize>
     requires { start ≤ length text.now }
 {
-    put_bytes(buffer, at, &text[start..])
+    put_bytes(rt, buffer, at, &text[start..])
 }
 
-pub fn put_decimal(buffer: &mut [u8; 4096], at: usize, n: u64) -> usize {
+pub fn put_decimal(
+    rt: &impl Print,
+    buffer: &mut [u8; 4096],
+    at: usize,
+    n: u64,
+) -> io::Result<usize> {
     let mut text = [0u8; PLACES];
     let start = put_number(&mut text, false, n);
-    put_from(buffer, at, &text, start)
+    put_from(rt, buffer, at, &text, start)
 }
 
-pub fn put_int(buffer: &mut [u8; 4096], at: usize, i: i32) -> usize {
+pub fn put_int(rt: &impl Print, buffer: &mut [u8; 4096], at: usize, i: i32) -> io::Result<usize> {
     let mut text = [0u8; PLACES];
     let start = put_signed(&mut text, i as i64);
-    put_from(buffer, at, &text, start)
+    put_from(rt, buffer, at, &text, start)
 }
 
-fn write_start(bytes: &[u8], n: usize) -> bool
+fn write_start(rt: &impl Print, bytes: &[u8], n: usize) -> io::Result<()>
     requires { n ≤ length bytes.now }
 {
-    io::write_all(STDOUT_FILENO, &bytes[..n])
+    rt.write_all(&bytes[..n])
 }
 
-// Writes out what the buffer holds before place `at`, and answers whether everything went out, the buffer before this one too.
-pub fn write_buffer(buffer: &[u8; 4096], at: usize) -> bool {
+// Writes out what the buffer holds before place `at`.
+pub fn write_buffer(rt: &impl Print, buffer: &[u8; 4096], at: usize) -> io::Result<()> {
     if at > 4096 {
-        return false;
+        return Err(io::Error::from(io::ErrorKind::InvalidInput));
     }
-    write_start(buffer, at)
+    write_start(rt, buffer, at)
 }

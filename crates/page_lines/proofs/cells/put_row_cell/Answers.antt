@@ -1,0 +1,36 @@
+-- `page_lines::cells::put_row_cell` meets its contract: the value of the column, or none.
+use Prim.Native.Nat.{ℕ, ◌≤◌, ◌<◌}
+use mathlib.Core.Path.{◌≡◌, sym, ap, ◌∙◌}
+use mathlib.Core.List.{List}
+use lib.Dec.{T}
+use lib.ListN.{length, get_or}
+use borrow.Author.Rules.{rules}
+use Rattle.values.specs.Lists.{all}
+use Rattle.values.specs.Values.{in_range}
+use Rattle.values.proofs.Firsts.{all_firsts}
+use Rattle.value_decimal.specs.Decimals.{blanks}
+use Rattle.rows.specs.declared.Cell.{Cell}
+use Rattle.rows.specs.declared.Row.{Row}
+use Rattle.rows.specs.View.{no_cell, values_of}
+use Rattle.page_rules.specs.Pages.{cell, row_cell}
+use Rattle.page_lines.proofs.CellLaws.{cell-there, cell-missing}
+use Rattle.page_lines.proofs.cells.put_row_cell.Goals as goal
+
+module _ (row : Row) (n i : ℕ) where
+  value-ok : i < n → T (all in_range (values_of n row)) → T (in_range (get_or row.cells i no_cell).value)
+  value-ok h ok = all_firsts in_range (λ (c : Cell). c.value) no_cell n row.cells i h ok
+
+  there : (out : List ℕ) → i < n → out ≡ cell (get_or row.cells i no_cell).value → out ≡ row_cell (values_of n row) i
+  there out h e = e ∙ sym (cell-there (λ (c : Cell). c.value) no_cell n row.cells i h)
+
+  missing : (o out : List ℕ) → n ≤ i → length o ≡ 13 → out ≡ blanks (length o) → out ≡ row_cell (values_of n row) i
+  missing o out h l e = e ∙ ap blanks l ∙ sym (cell-missing (λ (c : Cell). c.value) no_cell n row.cells i h)
+
+pub put_value-requires : goal.put_value-requires
+put_value-requires c = (search rules, search value-ok)
+
+pub returns-then-i-columns : goal.returns-then-i-columns
+returns-then-i-columns c = search there
+
+pub returns-else-i-columns : goal.returns-else-i-columns
+returns-else-i-columns c = search missing
