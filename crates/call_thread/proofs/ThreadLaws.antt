@@ -16,7 +16,6 @@ use Rattle.nets.specs.declared.Saved.{Saved}
 use Rattle.nets.specs.declared.Thread.{Thread}
 use Rattle.nets.specs.Nets as M
 use Rattle.nets.specs.Sound.{entry_node}
-use Rattle.nets.specs.Scenes.{top}
 use Rattle.nets.specs.View.{no_frame, no_thread, node_in, entry_of, thread_of, thread_at, threads_of}
 use Rattle.nets.proofs.StackView.{length-stack, stack_cons, entry-node_in}
 use Rattle.step_loop.proofs.MarkLaws.{marked-among}
@@ -129,7 +128,7 @@ bytes_same bs t = go t.depth
     go zero = refl
     go (suc n) =
         let f = get_or t.stack n no_frame in
-        rw (length-stack bs n t.stack, length-stack _ n t.stack, alone-kind (bs n) f, alone-node (bs n) f, alone-visit (bs n) f) refl
+        rw (length-stack bs n t.stack, length-stack (λ (j : ℕ). record { vars = []; relations = [] }) n t.stack, alone-kind (bs n) f, alone-node (bs n) f, alone-visit (bs n) f) refl
 
 module _ (ds : List M.Node) (saved : List Saved) (ts : List Thread) where
   bytes-from : (i n : ℕ) → map (bytes_at ts) (places i n) ≡ map thread_bytes (map (thread_at ds saved ts) (places i n))
