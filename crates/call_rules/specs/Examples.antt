@@ -90,9 +90,9 @@ pub thread-at-start : handing threads_put 30 [] ≡ putting (0 ∷ 1 ∷ z 22)
 unfolding opened
 thread-at-start = refl
 
-pub bytes_after_lem : buffer_in (replicate 30 7) (handing threads_put 30 []) ≡ 0 ∷ 1 ∷ z 22 ++ replicate 6 7
+pub bytes_after : buffer_in (replicate 30 7) (handing threads_put 30 []) ≡ 0 ∷ 1 ∷ z 22 ++ replicate 6 7
 unfolding opened
-bytes_after_lem = refl
+bytes_after = refl
 
 pub no-thread-left : handing threads_put 0 twice ≡ putting []
 unfolding opened

@@ -1,19 +1,16 @@
--- An array of Ints: each fits 32 bits, stores, and what is in use of it.
-use Prim.Native.Nat.{ℕ, zero, suc, ◌≤◌, ◌<◌, ◌+◌, ◌-◌}
+-- An array of Ints: each fits 32 bits, and what is in use of it, moved to the front.
+use Prim.Native.Nat.{ℕ, zero, suc, ◌≤◌, ◌<◌, ◌-◌}
 use native.Mathlib.Omega.{arith}
-use mathlib.Core.Path.{◌≡◌, refl, ap, subst, ◌∙◌}
-use mathlib.Core.Bool.{Bool, true, false}
+use mathlib.Core.Path.{◌≡◌, subst}
 use mathlib.Core.List.{List, [], ◌∷◌}
-use lib.Dec.{ltb, lit<}
+use lib.Dec.{lit<}
 use lib.IntN.{ℤ, pos}
-use lib.ListN.{length, get_or, set, drop}
-use lib.Seq.{get_or-set_same, get_or-set_other}
+use lib.ListN.{get_or, drop}
 use mir.Syntax.{w32}
 use mir.Val.{Val, SFits}
 use denote.Array.{each}
 use denote.Shadow.{shadow}
 use denote.Signed.{SInt}
-use borrow.Author.Tests.{ltb-true, ltb-false}
 use Rattle.values.proofs.Firsts.{firsts_same}
 use Rattle.window.specs.WindowCalls.{ints_of}
 
@@ -28,22 +25,6 @@ int-fits (x ∷ xs) (u ∷ us) (suc i) p = int-fits xs us i p.1
 
 abbrev pub Shifted : List ℤ → List ℤ → ℕ → Type 0
 Shifted xs ys i = (j : ℕ) → suc j < i → get_or ys j (pos 0) ≡ get_or xs (suc j) (pos 0)
-
-pub shift_none : (xs ys : List ℤ) → Shifted xs ys 1
-shift_none xs ys j h = absurd (omega arith)
-
-pub shift_more : (xs ys : List ℤ) (i : ℕ) (v : ℤ) → 1 ≤ i → i - 1 < length ys → v ≡ get_or xs i (pos 0) → Shifted xs ys i → Shifted xs (set ys (i - 1) v) (i + 1)
-shift_more xs ys i v low room e old j h = go (ltb (suc j) i) refl
-  where
-    go : (t : Bool) → ltb (suc j) i ≡ t → get_or (set ys (i - 1) v) j (pos 0) ≡ get_or xs (suc j) (pos 0)
-    go true t =
-        let q = ltb-true (suc j) i t in
-        get_or-set_other ys (i - 1) j v (pos 0) (λ (s : j ≡ i - 1). absurd (omega arith)) ∙ old j q
-    go false t =
-        let q = ltb-false (suc j) i t in
-        let s : j ≡ i - 1 = omega arith in
-        let u : i ≡ suc j = omega arith in
-        ap (λ (k : ℕ). get_or (set ys (i - 1) v) k (pos 0)) s ∙ get_or-set_same ys (i - 1) v (pos 0) room ∙ e ∙ ap (λ (k : ℕ). get_or xs k (pos 0)) u
 
 shift_all : (n i : ℕ) (xs ys : List ℤ) → suc n ≤ i → Shifted xs ys i → ints_of n ys ≡ drop 1 (ints_of (suc n) xs)
 shift_all n i [] ys h old = firsts_same (λ (z : ℤ). z) (pos 0) (λ (z : ℤ). z) (pos 0) n ys [] (λ j q. old j (omega arith))

@@ -1,7 +1,7 @@
 -- The records taken since a beginning: each call meets the window that the records before it say.
 use Prim.Native.Nat.{ℕ, ◌-◌}
 use mathlib.Core.Path.{◌≡◌, refl, sym, ap, ap₂, subst, ◌∙◌}
-use mathlib.Core.Bool.{Bool, true, false, cond, ◌&&◌}
+use mathlib.Core.Bool.{Bool, true, false, cond}
 use mathlib.Core.List.{List, [], ◌∷◌, ◌++◌, map, append-nil}
 use mathlib.Core.Option.{Option, none, some}
 use lib.Dec.{T, leb}
@@ -12,9 +12,8 @@ use borrow.Author.Tests.{le-leb}
 use Rattle.values.specs.Lists.{present}
 use Rattle.window_rules.specs.Windows.{counted_int, width_ok, window_ok, begun, refused, figures_of, last_of, slid, not_taken, taken_int, taken}
 use Rattle.window_rules.specs.Windows as rule
-use Rattle.window_rules.specs.Since.{counted_ints, window_after, answer_to, answer_after, each_after, answers_since, windows_since}
+use Rattle.window_rules.specs.Since.{counted_ints, window_after, answer_after, each_after}
 use Rattle.window.specs.declared.Window.{Window}
-use Rattle.window.specs.declared.Begun.{Begun}
 use Rattle.window.specs.declared.WindowAnswer.{WindowAnswer}
 use Rattle.window.specs.declared.WindowAnswer.TheVariants.{Figures, BadWindow, BadRecord}
 use Rattle.window.specs.declared.Taken.{Taken}
@@ -102,6 +101,8 @@ module _ (w c : ℕ) where
   answers_of : (before : List (List ℕ)) (s : Window) (rs : List (List ℕ)) (ts : List Taken) → window_of s ≡ window_after w c before → Series s rs ts →
       map (λ (t : Taken). answer_of t.answer) ts ≡ each_after (answer_after w c) before rs
   answers_of before s [] [] e ended = refl
+  answers_of before s [] (t ∷ ts) e more = elim more [ ]
+  answers_of before s (r ∷ rs) [] e more = elim more [ ]
   answers_of before s (r ∷ rs) (t ∷ ts) e (further h more) =
       let g = h.gives ∙ ap (λ (u : rule.Window). taken u r) e in
       ap₂ ◌∷◌ (ap (λ (u : rule.Taken). u.answer) g ∙ (steps w c before r).answer)
@@ -110,6 +111,8 @@ module _ (w c : ℕ) where
   windows_of : (before : List (List ℕ)) (s : Window) (rs : List (List ℕ)) (ts : List Taken) → window_of s ≡ window_after w c before → Series s rs ts →
       map (λ (t : Taken). window_of t.window) ts ≡ each_after next_window before rs
   windows_of before s [] [] e ended = refl
+  windows_of before s [] (t ∷ ts) e more = elim more [ ]
+  windows_of before s (r ∷ rs) [] e more = elim more [ ]
   windows_of before s (r ∷ rs) (t ∷ ts) e (further h more) =
       let n = ap (λ (u : rule.Taken). u.next) (h.gives ∙ ap (λ (u : rule.Window). taken u r) e) ∙ (steps w c before r).next in
       ap₂ ◌∷◌ n (windows_of (before ++ (r ∷ [])) t.window rs ts n more)
@@ -143,6 +146,8 @@ refused-kept BadRecord n e = tt
 
 pub refused_state : RefusedState
 refused_state s [] [] e ended = record { answers = refl; windows = refl }
+refused_state s [] (t ∷ ts) e more = elim more [ ]
+refused_state s (r ∷ rs) [] e more = elim more [ ]
 refused_state s (r ∷ rs) (t ∷ ts) e (further h more) =
     let g = h.gives ∙ stays s r e in
     let a = ap (λ (u : rule.Taken). u.answer) g in

@@ -1,12 +1,11 @@
 -- A record taken: what each way through `take` gives back.
 use Prim.Native.Nat.{ℕ, ◌≤◌}
 use mathlib.Core.Path.{◌≡◌, refl, sym, ap, subst, ◌∙◌}
-use mathlib.Core.Bool.{Bool, true, false, cond, not, ◌&&◌}
+use mathlib.Core.Bool.{Bool, true, false, ◌&&◌}
 use mathlib.Core.List.{List}
-use mathlib.Core.Option.{Option, none, some}
+use mathlib.Core.Option.{none, some}
 use lib.Dec.{T, leb, leb→le}
 use lib.IntN.{ℤ, pos}
-use lib.ListN.{length}
 use Rattle.values.proofs.Bools.{and_l, and_r, is_true, T_of}
 use Rattle.values.proofs.Firsts.{length-firsts}
 use Rattle.window_rules.specs.Windows.{counted_int, width_ok, window_ok, figures, refused, figures_of, slid, taken_int, taken}

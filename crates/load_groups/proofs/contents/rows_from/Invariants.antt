@@ -1,0 +1,13 @@
+use Prim.Native.Nat.{◌-◌}
+use mathlib.Core.Path.{◌≡◌}
+use lib.ListN.{length}
+use Rattle.nets.specs.View.{tables_of}
+use Rattle.record_bytes.specs.Decoding.{whole_records}
+use Rattle.load_walk.specs.Walking.{put_tables, AllShaped, Leads, Going}
+use Rattle.load_groups.proofs.contents.rows_from.Given as goal
+
+abbrev pub invariant-loop-r : goal.invariant-loop-r
+invariant-loop-r l = (length l.tables ≡ 8) × AllShaped l.count l.tables × Leads l.file l.initial.at l.at (put_tables (tables_of l.count l.initial.tables)) (put_tables (tables_of l.count l.tables)) × Going l.file 3 l.at
+
+abbrev pub decreases-loop-r : goal.decreases-loop-r
+decreases-loop-r l = whole_records l.file - l.at.place

@@ -1,0 +1,69 @@
+-- `load_groups::picks::picks_from` meets its contract: record by record, while they are picks.
+use Prim.Native.Nat.{ℕ, ◌≤◌, ◌<◌}
+use mathlib.Core.Path.{◌≡◌, refl}
+use mathlib.Core.Bool.{true}
+use mathlib.Core.List.{List, [], ◌∷◌, ◌++◌}
+use native.Mathlib.Omega.{arith}
+use lib.ListN.{length, length-set}
+use borrow.Author.Tests.{le-leb}
+use Rattle.record_bytes.specs.Decoding.{Record, pick_record, pick_in, pick_form}
+use Rattle.files.specs.Loading.{Progress, load_checks, failing, put, advance}
+use Rattle.load_walk.specs.declared.Reach.{Reach}
+use Rattle.load_walk.specs.Walking.{group_next, Going, put_picks}
+use Rattle.nets.specs.declared.Pick.{Pick}
+use Rattle.nets.specs.View.{no_pick}
+use Rattle.load_walk.proofs.WalkLaws.{Group, with_group, list_checks, list_stops, list_grows, next_in, went_on, went_off}
+use Rattle.load_groups.proofs.picks.picks_from.Goals as goal
+
+pos : 1 ≤ 6
+pos = omega arith
+
+-- ── the group ──
+
+abbrev said : List ℕ → Record
+said bs = pick_record (pick_in bs)
+
+checks : (g c : ℕ) (xs : List Pick) (bs : List ℕ) (l : Progress) → g ≤ 6 → length xs ≡ c → failing (load_checks (with_group g (put_picks xs l)) (said bs)) ≡ failing (list_checks true true)
+unfolding load_checks
+checks g c xs bs l h e = rw (le-leb g 6 h)
+
+added : (g : ℕ) (xs : List Pick) (bs : List ℕ) (l : Progress) → advance (with_group g (put_picks xs l)) (said bs) ≡ with_group 6 (put_picks (xs ++ (pick_in bs ∷ [])) l)
+unfolding advance put
+added g xs bs l = refl
+
+abbrev group : Group Pick
+group =
+    record {
+      number = 6;
+      some = pos;
+      put = put_picks;
+      form = pick_form;
+      new = λ xs bs. true;
+      room = λ c. true;
+      said = said;
+      element = λ bs. pick_in bs;
+      same = λ bs. refl;
+      checks = checks;
+      added = added;
+    }
+
+-- no more picks than records
+below-256 : (file : List ℕ) (r : Reach) (n c : ℕ) → n ≡ group_next file r → n ≡ 6 → Going file 6 r → c ≤ r.place → c < 256
+below-256 file r n c e e' g h = omega (arith, next_in 6 pos file r n e e' g, g.whole.few, h)
+
+pub record_at-r-requires : goal.record_at-r-requires
+record_at-r-requires c = search (next_in 6 pos)
+
+pub returns-then-fault-ne0 : goal.returns-then-fault-ne0
+returns-then-fault-ne0 c = search (list_stops group (λ (p : Pick). p) no_pick, went_off 6 pos)
+
+pub loop-r-preserved : goal.loop-r-preserved
+loop-r-preserved c =
+    let f = c.first_fault-fault in
+    let l = c.loop-r in (
+      search length-set,
+      omega (arith, l.invariant.1),
+      list_grows group (λ (p : Pick). p) no_pick _ _ _ _ c.next_group.ensures l.count l.picks l.invariant.2 l.invariant.3 c.loop-r-test.true _ c.record_at-r.ensures.0 _ _ c.pick_form.ensures refl _ f.ensures _ _ c.if-fault-ne0.false l.invariant.0
+          (below-256 _ _ _ _ c.next_group.ensures c.loop-r-test.true l.invariant.3 l.invariant.1) c.pick_in.ensures,
+      search (went_on 6 pos),
+    )

@@ -1,0 +1,77 @@
+-- `load_walk::tables::tables_from` meets its contract: record by record, while they are tables.
+use Prim.Native.Nat.{ℕ, ◌≤◌, ◌<◌}
+use mathlib.Core.Path.{◌≡◌, refl}
+use mathlib.Core.Bool.{Bool, not}
+use mathlib.Core.List.{List, [], ◌∷◌, ◌++◌, append-nil}
+use native.Mathlib.Omega.{arith}
+use lib.Dec.{ltb}
+use lib.ListN.{length, length-set}
+use borrow.Author.Tests.{le-leb}
+use Rattle.values.specs.Lists.{is_some}
+use Rattle.nets.specs.Nets as M
+use Rattle.nets.specs.Tables.{table_at}
+use Rattle.nets.specs.View.{no_table, table_of}
+use Rattle.record_bytes.specs.Bytes.{part, columns_in}
+use Rattle.record_bytes.specs.Decoding.{Record, table_record, site_at, name_in, table_form}
+use Rattle.files.specs.Loading.{Progress, load_checks, failing, bare, put, advance}
+use Rattle.load_walk.specs.Walking.{put_tables}
+use Rattle.load_walk.proofs.PlaceTies.{more-shaped}
+use Rattle.load_walk.proofs.WalkLaws.{Group, with_group, list_checks, list_stops, list_grows, next_in, went_on, went_off, room-left}
+use Rattle.load_walk.proofs.tables.tables_from.Goals as goal
+
+pos : 1 ≤ 2
+pos = omega arith
+
+abbrev said : List ℕ → Record
+said bs = table_record (site_at 1 bs) (name_in bs) (columns_in (part 8 12 bs))
+
+abbrev element : List ℕ → M.Table
+element bs = bare (site_at 1 bs) (name_in bs) (columns_in (part 8 12 bs))
+
+abbrev new : List M.Table → List ℕ → Bool
+new xs bs = not (is_some (table_at (site_at 1 bs) (name_in bs) xs))
+
+checks : (g c : ℕ) (xs : List M.Table) (bs : List ℕ) (l : Progress) → g ≤ 2 → length xs ≡ c → failing (load_checks (with_group g (put_tables xs l)) (said bs)) ≡ failing (list_checks (new xs bs) (ltb c 8))
+unfolding load_checks
+checks g c xs bs l h e = rw (le-leb g 2 h, e)
+
+added : (g : ℕ) (xs : List M.Table) (bs : List ℕ) (l : Progress) → advance (with_group g (put_tables xs l)) (said bs) ≡ with_group 2 (put_tables (xs ++ (element bs ∷ [])) l)
+unfolding advance put
+added g xs bs l = rw (append-nil l.picks)
+
+abbrev tables : Group M.Table
+tables =
+    record {
+      number = 2;
+      some = pos;
+      put = put_tables;
+      form = table_form;
+      new = new;
+      room = λ c. ltb c 8;
+      said = said;
+      element = element;
+      same = λ bs. refl;
+      checks = checks;
+      added = added;
+    }
+
+pub record_at-r-requires : goal.record_at-r-requires
+record_at-r-requires c = search (next_in 2 pos)
+
+pub returns-then-fault-ne0 : goal.returns-then-fault-ne0
+returns-then-fault-ne0 c = search (list_stops tables table_of no_table, went_off 2 pos)
+
+pub bounds-tables-count : goal.bounds-tables-count
+bounds-tables-count c = search room-left
+
+pub loop-r-preserved : goal.loop-r-preserved
+loop-r-preserved c =
+    let f = c.first_fault-fault in
+    let l = c.loop-r in
+    let room : l.count < 8 = room-left _ _ _ _ _ c.if-fault-ne0.false f.ensures in (
+      search length-set,
+      more-shaped l.tables l.count _ (omega (arith, l.invariant.0, room)) c.table_in.ensures.1 room l.invariant.1,
+      list_grows tables table_of no_table _ _ _ _ c.next_group.ensures l.count l.tables l.invariant.2 l.invariant.3 c.loop-r-test.true _ c.record_at-r.ensures.0 _ _
+          c.table_form.ensures c.table_new.ensures _ f.ensures _ _ c.if-fault-ne0.false l.invariant.0 room c.table_in.ensures.0,
+      search (went_on 2 pos),
+    )

@@ -1,0 +1,55 @@
+-- `page::page` meets its contract: an unsound net is refused, a sound one has tables in their ranges.
+use Prim.Native.Nat.{ℕ, ◌≤◌}
+use mathlib.Core.Path.{◌≡◌, sym, ap, ◌∙◌}
+use mathlib.Core.Bool.{Bool, true, false}
+use mathlib.Core.List.{List, []}
+use lib.Dec.{T}
+use Rattle.values.specs.declared.Site.{Site}
+use Rattle.values.specs.Lists.{all}
+use Rattle.values.proofs.Bools.{T_of}
+use Rattle.nets.specs.declared.Net.{Net}
+use Rattle.nets.specs.Nets as M
+use Rattle.nets.specs.Tables.{table_at}
+use Rattle.nets.specs.Sound.{table_ok, sound}
+use Rattle.nets.specs.View.{tables_of, view}
+use Rattle.nets.proofs.ShapeLaws.{tables_of_lem, few-tables, tables-ok}
+use Rattle.page_rules.specs.Pages.{PageOutcome, page_refused, page_for, page, page_answer, buffer_after}
+use Rattle.page_lines.proofs.OutcomeLaws.{by_sound}
+use Rattle.page.specs.declared.Paged.{Paged}
+use Rattle.page.specs.PageCall.{answer_of}
+use Rattle.page.proofs.page.Goals as goal
+
+module _ (net : Net) (b : Bool) (e : b ≡ sound (view net)) where
+  few : b ≡ true → net.tablecount ≤ 8
+  few h = few-tables net (T_of (sound (view net)) (sym e ∙ h))
+
+  ranged : b ≡ true → T (all table_ok (tables_of net.tablecount net.tables))
+  ranged h = tables-ok net (T_of (sound (view net)) (sym e ∙ h))
+
+  module _ (s : Site) (n : ℕ) (o : List ℕ) where
+    abbrev outcome : PageOutcome
+    outcome = page_for (table_at s n (tables_of net.tablecount net.tables)) o
+
+    is-outcome : b ≡ true → page (view net) s n o ≡ outcome
+    is-outcome h = by_sound (view net) s n o true (sym h ∙ e) ∙ ap (λ (ts : List M.Table). page_for (table_at s n ts) o) (tables_of_lem net)
+
+    sound-answer : (r : Paged) → b ≡ true → answer_of r ≡ page_answer outcome → answer_of r ≡ page_answer (page (view net) s n o)
+    sound-answer r h k = k ∙ sym (ap page_answer (is-outcome h))
+
+    sound-buffer : (out : List ℕ) → b ≡ true → out ≡ buffer_after o outcome → out ≡ buffer_after o (page (view net) s n o)
+    sound-buffer out h k = k ∙ sym (ap (buffer_after o) (is-outcome h))
+
+    unsound-answer : b ≡ false → page_refused 10 [] ≡ page_answer (page (view net) s n o)
+    unsound-answer h = sym (ap page_answer (by_sound (view net) s n o false (sym h ∙ e)))
+
+    unsound-buffer : b ≡ false → o ≡ buffer_after o (page (view net) s n o)
+    unsound-buffer h = sym (ap (buffer_after o) (by_sound (view net) s n o false (sym h ∙ e)))
+
+pub page_tables-requires : goal.page_tables-requires
+page_tables-requires c = (search few, search ranged)
+
+pub returns-then-sound_net : goal.returns-then-sound_net
+returns-then-sound_net c = record { answer = search sound-answer; buffer = search sound-buffer }
+
+pub returns : goal.returns
+returns c = record { answer = search unsound-answer; buffer = search unsound-buffer }

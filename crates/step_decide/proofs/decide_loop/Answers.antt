@@ -1,0 +1,80 @@
+-- `step_decide::decide_loop` meets its contract: the round's answer is the step's, and a done one changes the threads as the step does. Assumes nothing.
+use Prim.Native.Nat.{◌<◌}
+use mathlib.Core.Path.{refl, ap, sym, ◌∙◌}
+use mathlib.Core.Bool.{Bool, cond}
+use lib.Dec.{ltb}
+use borrow.Author.Tests.{ltb-true}
+use Rattle.nets.specs.Scenes.{Scene}
+use Rattle.step_meets.specs.Situations.{Situation, situation, Rest, whole}
+use Rattle.step_meets.specs.MeetContracts.{Meets, Known, SourceIs}
+use Rattle.step_meets.proofs.SituationLaws.{fine-template, known_12, loop-read, visits-there}
+use Rattle.step_meets.proofs.DecideLaws.{refused-at}
+use Rattle.step_meets.proofs.LoopChangeLaws.{round_room_lem, room-met, RoundAt, round_stops}
+use Rattle.step_meets.proofs.LoopLaws.{over-at, runs-at, forks-at}
+use Rattle.step_decide.proofs.decide_loop.Goals as goal
+use Rattle.step_decide.proofs.decide_loop.Goals.{After-round-r, Start}
+
+abbrev start : After-round-r → Start
+start r = r.before.before.before.before.before
+
+abbrev meant : Start → Rest → Situation
+meant s w = let a = s.args in situation (whole a.vars a.depth w) w.saved a.frame a.node a.content a.s
+
+abbrev met : After-round-r → Rest → Situation
+met r w = meant (start r) w
+
+round-at : (r : After-round-r) (w : Rest) → Known (met r w) → SourceIs (met r w) (start r).args.source → (n : Scene) → Meets (met r w) n → RoundAt (met r w) n r.round-r.result
+round-at r w known source n m =
+    let s = start r in
+    record {
+      meets = m;
+      loop = s.requires.0;
+      twelve = known_12 (met r w) n m known;
+      source = s.args.source;
+      held = loop-read (met r w) s.args.source source s.requires.0;
+      room = _;
+      space = room-met (met r w) n m r.is_parallel-parallel.ensures r.room_for_round-room.ensures;
+      got = r.round-r.ensures;
+    }
+
+pub round-r-requires : goal.round-r-requires
+round-r-requires c =
+    let s = c.before.before.before.before in
+    let w = c.requires.1.rest in
+    let f = c.requires.1.facts in
+    (f.2.shaped, fine-template (meant s w) f.0, visits-there (meant s w) c.args.source f.2 f.0 c.requires.0)
+
+pub onward-requires : goal.onward-requires
+onward-requires c = (start c.before).requires.1.facts.0.stacked.some
+
+-- a round in a new thread
+pub returns-then-parallel : goal.returns-then-parallel
+returns-then-parallel c w fine known source n m =
+    let r = c.before.before.before.before.before.before in
+    let s = start r in
+    forks-at (met r w) s.args.source n c.round-r.result (round-at r w known source n m) fine.stacked w.long _ refl c.in-Opened.is c.is_run-saves.ensures c.node_of.ensures refl (λ b. refl) (sym c.is_parallel-parallel.ensures ∙ c.if-parallel.true) refl refl refl refl
+
+-- refused
+pub returns-in-Stopped : goal.returns-in-Stopped
+returns-in-Stopped c w fine known source n m =
+    let r = c.before.before in
+    refused-at n (met r w) (start r).args.source c.refuses.result c.in-Stopped.why c.refuses.ensures.0 (round_stops (met r w) n c.round-r.result (round-at r w known source n m) c.in-Stopped.why c.in-Stopped.is)
+
+-- over
+pub returns-in-Over : goal.returns-in-Over
+returns-in-Over c w fine known source n m =
+    let r = c.before.before in
+    let s = start r in
+    let o = c.onward in
+    over-at (met r w) s.args.source n c.round-r.result (round-at r w known source n m) fine.stacked w.long o.result o.ensures.0 c.in-Over.is o.ensures.1 o.ensures.2 o.ensures.3
+
+-- a round in the thread
+pub returns-else-parallel : goal.returns-else-parallel
+returns-else-parallel c w fine known source n m =
+    let r = c.before.before.before.before.before.before in
+    let s = start r in
+    let e = c.in-Opened.is in
+    let deep : s.args.depth < 8 =
+    ltb-true s.args.depth 8
+    (sym (ap (λ (b : Bool). cond b (ltb s.args.s.threads 8) (ltb s.args.depth 8)) c.if-parallel.false) ∙ sym c.room_for_round-room.ensures ∙ round_room_lem c.round-r.ensures e) in
+    runs-at (met r w) s.args.source n c.round-r.result (round-at r w known source n m) fine.stacked w.long _ refl e c.is_run-saves.ensures c.node_of.ensures refl (λ b. refl) (sym c.is_parallel-parallel.ensures ∙ c.if-parallel.false) deep refl refl refl
