@@ -21,7 +21,7 @@ use Rattle.call_rules.specs.Moments.{bindings_records, entry_record, held_record
 use Rattle.call_rules.specs.Openings.{entry_alone}
 use Rattle.call_thread.proofs.ThreadLaws.{alone-kind, alone-visit, alone-node}
 use Rattle.call_hold.proofs.HoldLaws.{none-given}
-use Rattle.call_hold.specs.Holdings.{holds_by, HoldsAre, held_by, held_given, held_at, stack_given, thread_given}
+use Rattle.call_hold.specs.Holdings.{holds_by, HoldsAre, held_by, held_given, stack_given, thread_given}
 
 -- ── an entry ──
 

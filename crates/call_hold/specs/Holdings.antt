@@ -1,4 +1,4 @@
--- What a thread holds, by the parts that the code is handed: counts within their arrays, and the records that come of them. Only the code speaks of it: the rule is `threadRecords`.
+-- What a thread holds, by the parts that the code is handed: counts within their arrays, and the records that come of them. Only the code speaks of it: the rule is `thread_records`.
 use Rattle.std.specs.Prelude.{ℕ, zero, suc, ◌+◌, ◌<◌, ◌≤◌, ◌≡◌, true, cond, List, [], ◌∷◌, ◌++◌, eqb, get_or}
 use Rattle.rows.specs.View.{Shaped}
 use Rattle.nets.specs.declared.Entry.{Entry}

@@ -16,9 +16,7 @@ use Rattle.call_rules.specs.Moments.{bindings_records, entry_record}
 use Rattle.call_rules.specs.Openings.{entry_alone}
 use Rattle.call_hold.specs.Holdings.{records_given, pair_held, held_given}
 use Rattle.call_hold.proofs.HoldLaws.{entry_length, none-given, some-given, pair_ok, held-count}
-use borrow.Author.Rules.{rules}
-use Rattle.call_hold.proofs.entries.put_with_held.Statement.{statement}
-use Rattle.call_hold.proofs.entries.put_with_held.Tie as tie
+use Rattle.call_hold.proofs.entries.put_with_held.Goals as goal
 
 module _ (f : Frame) (h : ℕ) (rs : List TableVariable) (s : Saved) (o : List ℕ) (l : length o ≡ suc (length (held_given h rs s)) * 104) where
   alone : h ≡ 0 → length o ≡ 104
@@ -37,30 +35,26 @@ module _ (f : Frame) (h : ℕ) (rs : List TableVariable) (s : Saved) (o : List �
         rw (part-size 104 (n * 104), some-given h rs s some, sym e)
         (two_fill o x y 104 (n * 104) (ap length hx ∙ entry_length (entry_alone f)) whole ∙ rw (hx, hy) refl)
 
--- the parts fill the buffer
-fits : (c : tie.After-bindings-records) → length c.before.before.before.before.before.before.args.out.now ≡ 104 + c.bindings-records.result * 104
-fits c =
-    let s = c.before.before.before.before.before.before in
-    whole s.args.f s.args.held s.args.relations s.args.saved s.args.out.now s.requires.2 c.before.before.before.before.if1.false c.before.Pair-held.result c.before.Pair-held.ensures c.bindings-records.result c.bindings-records.ensures.0
+pub put_entry-requires : goal.put_entry-requires
+put_entry-requires c = search alone
 
-pub put-with-held-spec : {M : Type 1} → statement M
-put-with-held-spec =
-    tie.close
-    (tie.spec
-    (λ c κs. search alone)
-    (λ c. search rules)
-    (λ c. search alone-put)
-    (λ c κs. search rules)
-    (λ c κs. search pair_ok)
-    (λ c. search rules)
-    (λ c. search rules)
-    (λ c. search rules)
-    (λ c. search rules)
-    (λ c. search rules)
-    (λ c κs. search rules)
-    (λ c. search rules)
-    (λ c. search rules)
-    (λ c. omega (arith, fits c.before.before.before.before))
-    (λ c κs. (search pair_ok, simp (length-take, length-drop) (omega (arith, fits c.before.before.before.before.before))))
-    (λ c. search rules)
-    (λ c. search both-put))
+pub returns-then-held-eq0 : goal.returns-then-held-eq0
+returns-then-held-eq0 c = search alone-put
+
+pub bindings_records-requires : goal.bindings_records-requires
+bindings_records-requires c = search pair_ok
+
+pub slice_bounds-put_bindings-end : goal.slice_bounds-put_bindings-end
+slice_bounds-put_bindings-end c =
+    let a = c.args in
+    let w = whole a.f a.held a.relations a.saved a.out.now c.requires.2 c.if-held-eq0.false c.pair_held-pair.result c.pair_held-pair.ensures c.bindings_records.result c.bindings_records.ensures.0 in
+    omega (arith, w)
+
+pub put_bindings-requires : goal.put_bindings-requires
+put_bindings-requires c =
+    let a = c.args in
+    let w = whole a.f a.held a.relations a.saved a.out.now c.requires.2 c.if-held-eq0.false c.pair_held-pair.result c.pair_held-pair.ensures c.bindings_records.result c.bindings_records.ensures.0 in
+    (search pair_ok, simp (length-take, length-drop) (omega (arith, w)))
+
+pub returns : goal.returns
+returns c = search both-put

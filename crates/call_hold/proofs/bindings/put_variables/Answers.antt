@@ -3,7 +3,7 @@ use Prim.Native.Nat.{ℕ, ◌+◌, ◌-◌, ◌*◌, ◌≤◌}
 use mathlib.Core.Path.{◌≡◌, refl, sym, ap, ◌∙◌}
 use mathlib.Core.List.{List, [], ◌∷◌, ◌++◌}
 use native.Mathlib.Omega.{arith}
-use lib.ListN.{length, get_or, drop, length-take, length-drop, get_or-map}
+use lib.ListN.{length, get_or, drop, get_or-map}
 use borrow.Rule.Slice.PartMut.{put_mid}
 use Rattle.values.specs.declared.Got.{Got}
 use Rattle.values.specs.declared.Slot.{Slot}
@@ -14,12 +14,8 @@ use Rattle.value_bytes.proofs.Stores.{kept-length}
 use Rattle.call_rules.specs.Moments.{values_record, variable_record, variable_records}
 use Rattle.value_bytes.proofs.Parts.{along, along-more, along-all}
 use Rattle.call_hold.proofs.HoldLaws.{variable-length}
-use borrow.Author.Rules.{rules}
-use Rattle.call_hold.proofs.bindings.put_variables.Statement.{statement}
-use Rattle.call_hold.proofs.bindings.put_variables.Tie as tie
-
-abbrev passed : List Slot → ℕ → List ℕ
-passed vs n = along (variable_record (vars_of vs)) n
+use Rattle.call_hold.proofs.bindings.put_variables.Invariants.{passed}
+use Rattle.call_hold.proofs.bindings.put_variables.Goals as goal
 
 one_more : (vs : List Slot) (i : ℕ) (o out ys : List ℕ) → out ≡ passed vs i ++ drop (i * 104) o → ys ≡ values_record 66 i (values_in ((get_or vs i no_slot).held ∷ [])) →
     put_mid (i * 104) (i * 104 + 104 - i * 104) out ys ≡ passed vs (i + 1) ++ drop ((i + 1) * 104) o
@@ -31,35 +27,12 @@ ended : (vs : List Slot) (i : ℕ) (o out : List ℕ) → i ≤ 16 → 16 ≤ i 
 unfolding variable_records
 ended vs i o out a b l e = along-all (variable_record (vars_of vs)) 104 16 i o out a b l e
 
-abbrev invariant-loop : tie.invariant-loop
-invariant-loop out₀ vars i₀ out i = (i ≤ 16) × (length out ≡ 1664) × (out ≡ passed vars i ++ drop (i * 104) out₀)
-
-abbrev decreases-loop : tie.decreases-loop
-decreases-loop out₀ vars i₀ out i = 16 - i
-
-loop-holds : tie.Need-loop-init invariant-loop decreases-loop
+pub loop-i-init : goal.loop-i-init
 unfolding along
-loop-holds c = (omega arith, omega arith, refl)
+loop-i-init c = record { within = omega arith; full = omega arith; filled = refl }
 
-pub put-variables-spec : {M : Type 1} → statement M
-put-variables-spec =
-    tie.close
-    (tie.spec
-    invariant-loop
-    decreases-loop
-    loop-holds
-    (λ c. search rules)
-    (λ c. search rules)
-    (λ c. search rules)
-    (λ c. search rules)
-    (λ c. search rules)
-    (λ c. search rules)
-    (λ c. search rules)
-    (λ c. search rules)
-    (λ c. search rules)
-    (λ c κs. simp (length-take, length-drop) (omega arith))
-    (λ c. search rules)
-    (λ c. search rules)
-    (λ c. (omega arith, search kept-length, search one_more))
-    (λ c. search rules)
-    (λ c. search ended))
+pub loop-i-preserved : goal.loop-i-preserved
+loop-i-preserved c = record { within = omega arith; full = search kept-length; filled = search one_more }
+
+pub returns : goal.returns
+returns c = search ended

@@ -7,9 +7,7 @@ use lib.ListN.{get_or}
 use Rattle.nets.specs.declared.TableVariable.{TableVariable}
 use Rattle.nets.specs.View.{no_variable}
 use Rattle.call_hold.specs.Holdings.{pair_held}
-use borrow.Author.Rules.{rules}
-use Rattle.call_hold.proofs.entries.pair_held.Statement.{statement}
-use Rattle.call_hold.proofs.entries.pair_held.Tie as tie
+use Rattle.call_hold.proofs.entries.pair_held.Goals as goal
 
 module _ (h : ℕ) (rs : List TableVariable) (v : TableVariable) where
   reads_first_lem : h ≡ 1 → get_or rs 0 no_variable ∷ v ∷ [] ≡ pair_held h rs v
@@ -18,11 +16,8 @@ module _ (h : ℕ) (rs : List TableVariable) (v : TableVariable) where
   reads_second_lem : (h ≡ 1 → ⊥) → v ∷ get_or rs 1 no_variable ∷ [] ≡ pair_held h rs v
   reads_second_lem n = rw (ne_eqb h 1 n) refl
 
-pub pair-held-spec : {M : Type 1} → statement M
-pair-held-spec =
-    tie.close
-    (tie.spec
-    (λ c. search rules)
-    (λ c. search reads_first_lem)
-    (λ c. search rules)
-    (λ c. search reads_second_lem))
+pub returns-then-held-eq1 : goal.returns-then-held-eq1
+returns-then-held-eq1 c = search reads_first_lem
+
+pub returns : goal.returns
+returns c = search reads_second_lem

@@ -13,10 +13,8 @@ use Rattle.value_bytes.proofs.Stores.{part-size}
 use Rattle.call_rules.specs.Moments.{bindings_records, thread_head}
 use Rattle.call_hold.specs.Holdings.{records_given, stack_given, thread_given, ThreadShaped}
 use Rattle.value_bytes.proofs.Parts.{three_fill, part_left}
-use Rattle.call_hold.proofs.HoldLaws.{thread_are, thread-count, thread-long, bindings-long, thread-head}
-use borrow.Author.Rules.{rules}
-use Rattle.call_hold.proofs.threads.put_records.Statement.{statement}
-use Rattle.call_hold.proofs.threads.put_records.Tie as tie
+use Rattle.call_hold.proofs.HoldLaws.{thread_are, thread-count, bindings-long, thread-head}
+use Rattle.call_hold.proofs.threads.put_records.Goals as goal
 
 module _ (holds : List ℕ) (ss : List Saved) (t : Thread) (k : ThreadShaped holds ss t) (o : List ℕ) (l : length o ≡ length (thread_given holds ss t) * 104) (b : ℕ) (eb : b ≡ records_given t.relations) where
   abbrev n : ℕ
@@ -38,41 +36,28 @@ module _ (holds : List ℕ) (ss : List Saved) (t : Thread) (k : ThreadShaped hol
       rw (part-size 104 (b * 104), rest)
       (three_fill o x y z 104 (b * 104) n (ap length hx ∙ thread-head t.site.0 t.depth) (long y hy) filled ∙ rw (hx, hy, hz) (sym (thread_are holds ss t)))
 
-  same : (x y z : List ℕ) → x ≡ thread_head t.site.0 t.depth → y ≡ end_to_end (bindings_records (bindings_of t.vars t.relations)) → z ≡ end_to_end (stack_given holds ss t t.depth) →
-      length (put_mid (104 + b * 104) (length o - (104 + b * 104)) (put_mid 104 (104 + b * 104 - 104) (x ++ drop 104 o) y) z) ≡ length o
-  same x y z hx hy hz = ap length (put_all x y z hx hy hz) ∙ thread-long holds ss t k ∙ sym l
-
   last-part : (x y : List ℕ) → x ≡ thread_head t.site.0 t.depth → y ≡ end_to_end (bindings_records (bindings_of t.vars t.relations)) →
       length (take (length o - (104 + b * 104)) (drop (104 + b * 104) (put_mid 104 (104 + b * 104 - 104) (x ++ drop 104 o) y))) ≡ n
   last-part x y hx hy =
       rw (part-size 104 (b * 104), rest) (part_left o x y 104 (b * 104) n (ap length hx ∙ thread-head t.site.0 t.depth) (long y hy) filled)
 
--- the parts fill the buffer
-fits : (c : tie.After-bindings-records) →
-    let a = c.before.before.before.before.args in
-    length a.out.now ≡ 104 + c.bindings-records.result * 104 + length (stack_given a.holds a.saved a.t a.t.depth) * 104
-fits c =
-    let s = c.before.before.before.before in
-    filled s.args.holds s.args.saved s.args.t s.requires.0 s.args.out.now s.requires.1 c.bindings-records.result c.bindings-records.ensures.0
+pub slice_bounds-put_bindings-end : goal.slice_bounds-put_bindings-end
+slice_bounds-put_bindings-end c =
+    let w = filled c.args.holds c.args.saved c.args.t c.requires.0 c.args.out.now c.requires.1 c.bindings_records.result c.bindings_records.ensures.0 in
+    omega (arith, w)
 
-pub put-records-spec : {M : Type 1} → statement M
-put-records-spec =
-    tie.close
-    (tie.spec
-    (λ c κs. search rules)
-    (λ c. search rules)
-    (λ c. search rules)
-    (λ c. search rules)
-    (λ c. search rules)
-    (λ c. omega (arith, fits c))
-    (λ c κs. search rules)
-    (λ c. search rules)
-    (λ c. search rules)
-    (λ c. omega (arith, fits c.before.before.before.before))
-    (λ c κs. search rules)
-    (λ c. omega (arith, fits c.before.before.before.before.before.before.before.before))
-    (λ c. omega (arith, fits c.before.before.before.before.before.before.before.before))
-    (λ c. search rules)
-    (λ c κs. (c.before.before.before.before.before.before.before.before.before.before.before.before.before.requires.0, search last-part))
-    (λ c. search same)
-    (λ c. search put_all))
+pub slice_bounds-put_stack-count : goal.slice_bounds-put_stack-count
+slice_bounds-put_stack-count c =
+    let w = filled c.args.holds c.args.saved c.args.t c.requires.0 c.args.out.now c.requires.1 c.bindings_records.result c.bindings_records.ensures.0 in
+    omega (arith, w)
+
+pub slice_bounds-put_stack-start : goal.slice_bounds-put_stack-start
+slice_bounds-put_stack-start c =
+    let w = filled c.args.holds c.args.saved c.args.t c.requires.0 c.args.out.now c.requires.1 c.bindings_records.result c.bindings_records.ensures.0 in
+    omega (arith, w)
+
+pub put_stack-requires : goal.put_stack-requires
+put_stack-requires c = (c.requires.0, search last-part)
+
+pub returns : goal.returns
+returns c = search put_all

@@ -1,27 +1,20 @@
 -- `call_hold::loops::all_holds` meets its contract: what is said of the nodes passed, and 0 of all others. Assumes nothing.
-use Prim.Native.Nat.{ℕ, zero, suc, ◌+◌, ◌-◌, ◌<◌, ◌≤◌}
+use Prim.Native.Nat.{ℕ, zero, suc, ◌+◌, ◌<◌, ◌≤◌}
 use mathlib.Core.Path.{◌≡◌, refl, sym, ap, ◌∙◌}
 use mathlib.Core.Bool.{Bool, true, false}
 use mathlib.Core.List.{List, [], ◌∷◌}
 use native.Mathlib.Omega.{arith}
 use borrow.Author.Tests.{ltb-true, ltb-false}
 use lib.Dec.{ltb}
-use lib.ListN.{length, get_or, set, replicate, length-set}
+use lib.ListN.{get_or, set, replicate, length-set}
 use lib.Seq.{get_or-set_same, get_or-set_other}
 use Rattle.values.proofs.Firsts.{firsts_at}
 use Rattle.nets.specs.declared.Node.{Node}
 use Rattle.nets.specs.Sound as S
 use Rattle.nets.specs.View.{no_node, node_of, nodes_of}
 use Rattle.call_hold.specs.Holdings.{holds_by, HoldsAre}
-use borrow.Author.Rules.{rules}
-use Rattle.call_hold.proofs.loops.all_holds.Statement.{statement}
-use Rattle.call_hold.proofs.loops.all_holds.Tie as tie
-
--- what is said of the first `i` nodes
-pub record Said (ns : List Node) (i : ℕ) (holds : List ℕ) : Type 0 where
-  pub long : length holds ≡ 256
-  pub passed : (k : ℕ) → k < i → get_or holds k 0 ≡ holds_by (node_of (get_or ns k no_node))
-  pub others : (k : ℕ) → i ≤ k → get_or holds k 0 ≡ 0
+use Rattle.call_hold.proofs.loops.all_holds.Invariants.{Said}
+use Rattle.call_hold.proofs.loops.all_holds.Goals as goal
 
 said-none : (ns : List Node) → Said ns 0 (replicate {A = ℕ} 256 0)
 said-none ns = record { long = refl; passed = λ k h. absurd (omega arith); others = λ k h. zeros 256 k }
@@ -63,24 +56,11 @@ said_all ns n i holds a b s = record { at = λ k. go k (ltb k n) refl }
         let q = ltb-false k n t in
         s.others k (omega (arith, q)) ∙ sym (ap holds_by (past n ns k q))
 
-abbrev invariant-loop : tie.invariant-loop
-invariant-loop count nodes holds₀ i₀ holds i = (i ≤ count) × Said nodes i holds
+pub loop-i-init : goal.loop-i-init
+loop-i-init c = record { within = omega arith; said = said-none _ }
 
-abbrev decreases-loop : tie.decreases-loop
-decreases-loop count nodes holds₀ i₀ holds i = count - i
+pub loop-i-preserved : goal.loop-i-preserved
+loop-i-preserved c = record { within = omega arith; said = said_more _ _ _ _ (omega arith) c.loop-i.invariant.said c.holds_by.ensures }
 
-pub all-holds-spec : {M : Type 1} → statement M
-all-holds-spec =
-    tie.close
-    (tie.spec
-    invariant-loop
-    decreases-loop
-    (λ c. (omega arith, said-none _))
-    (λ c. search rules)
-    (λ c. search rules)
-    (λ c κs. search rules)
-    (λ c. search rules)
-    (λ c. search rules)
-    (λ c. search rules)
-    (λ c. (omega arith, said_more _ _ _ _ (omega arith) c.before.before.before.loop.invariant.1 c.Holds-by.ensures))
-    (λ c. search said_all))
+pub returns : goal.returns
+returns c = search said_all

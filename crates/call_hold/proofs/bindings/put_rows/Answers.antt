@@ -2,25 +2,19 @@
 use Prim.Native.Nat.{ℕ, ◌+◌, ◌-◌, ◌*◌, ◌≤◌}
 use mathlib.Core.Path.{◌≡◌, refl, sym, ap, ◌∙◌}
 use mathlib.Core.List.{List, ◌++◌, map}
-use lib.ListN.{length, get_or, drop, length-take, length-drop}
+use lib.ListN.{length, get_or, drop}
 use native.Mathlib.Omega.{arith}
 use borrow.Rule.Slice.PartMut.{put_mid}
 use Rattle.values.specs.Lists.{firsts}
 use Rattle.values.proofs.Firsts.{map-firsts}
-use Rattle.rows.specs.declared.Row.{Row}
 use Rattle.rows.specs.declared.Relation.{Relation}
 use Rattle.rows.specs.View.{no_row, values_of, relation_of}
 use Rattle.value_bytes.specs.Bytes.{end_to_end}
 use Rattle.value_bytes.proofs.Stores.{kept-length, ends_more, ends-all}
 use Rattle.call_rules.specs.Moments.{values_record}
 use Rattle.call_hold.proofs.RecordLaws.{values_length}
-use borrow.Author.Rules.{rules}
-use Rattle.call_hold.proofs.bindings.put_rows.Statement.{statement}
-use Rattle.call_hold.proofs.bindings.put_rows.Tie as tie
-
--- the record of a row
-abbrev record_of : ℕ → Relation → Row → List ℕ
-record_of i r x = values_record 68 i (values_of r.columns x)
+use Rattle.call_hold.proofs.bindings.put_rows.Invariants.{record_of}
+use Rattle.call_hold.proofs.bindings.put_rows.Goals as goal
 
 one_more : (m : ℕ) (r : Relation) (i : ℕ) (o out ys : List ℕ) → r.columns ≤ 4 → out ≡ end_to_end (firsts (record_of m r) no_row i r.rows) ++ drop (i * 104) o → ys ≡ values_record 68 m (values_of r.columns (get_or r.rows i no_row)) →
     put_mid (i * 104) (i * 104 + 104 - i * 104) out ys ≡ end_to_end (firsts (record_of m r) no_row (i + 1) r.rows) ++ drop ((i + 1) * 104) o
@@ -32,30 +26,8 @@ ended m r i o out a b l e =
     ends-all (record_of m r) no_row 104 r.count i r.rows o out a b l e
     ∙ ap end_to_end (sym (map-firsts (values_record 68 m) (values_of r.columns) no_row r.count r.rows))
 
-abbrev invariant-loop : tie.invariant-loop
-invariant-loop out₀ number content n i₀ out i = (i ≤ n) × (n ≡ content.count) × (length out ≡ n * 104) × (out ≡ end_to_end (firsts (record_of number content) no_row i content.rows) ++ drop (i * 104) out₀)
+pub loop-i-preserved : goal.loop-i-preserved
+loop-i-preserved c = record { within = omega arith; all_rows = refl; full = search kept-length; filled = search one_more }
 
-abbrev decreases-loop : tie.decreases-loop
-decreases-loop out₀ number content n i₀ out i = n - i
-
-pub put-rows-spec : {M : Type 1} → statement M
-put-rows-spec =
-    tie.close
-    (tie.spec
-    invariant-loop
-    decreases-loop
-    (λ c. (omega arith, refl, omega arith, refl))
-    (λ c. search rules)
-    (λ c. search rules)
-    (λ c. search rules)
-    (λ c. search rules)
-    (λ c. search rules)
-    (λ c. search rules)
-    (λ c. search rules)
-    (λ c. search rules)
-    (λ c κs. (simp (length-take, length-drop) (omega arith), omega arith))
-    (λ c. search rules)
-    (λ c. search rules)
-    (λ c. (omega arith, refl, search kept-length, search one_more))
-    (λ c. search rules)
-    (λ c. search ended))
+pub returns : goal.returns
+returns c = search ended

@@ -1,0 +1,27 @@
+use Prim.Native.Nat.{ℕ, ◌-◌, ◌*◌, ◌≤◌}
+use mathlib.Core.Path.{◌≡◌}
+use mathlib.Core.List.{List, ◌++◌}
+use lib.ListN.{length, drop}
+use Rattle.values.specs.Lists.{firsts}
+use Rattle.rows.specs.declared.Row.{Row}
+use Rattle.rows.specs.declared.Relation.{Relation}
+use Rattle.rows.specs.View.{no_row, values_of}
+use Rattle.value_bytes.specs.Bytes.{end_to_end}
+use Rattle.call_rules.specs.Moments.{values_record}
+use Rattle.call_hold.proofs.bindings.put_rows.Given as goal
+
+-- the record of a row
+abbrev pub record_of : ℕ → Relation → Row → List ℕ
+record_of i r x = values_record 68 i (values_of r.columns x)
+
+abbrev pub invariant-loop-i : goal.invariant-loop-i
+invariant-loop-i l =
+    record {
+      within : l.i ≤ l.n;
+      all_rows : l.n ≡ l.content.count;
+      full : length l.out ≡ l.n * 104;
+      filled : l.out ≡ end_to_end (firsts (record_of l.number l.content) no_row l.i l.content.rows) ++ drop (l.i * 104) l.initial.out;
+    }
+
+abbrev pub decreases-loop-i : goal.decreases-loop-i
+decreases-loop-i l = l.n - l.i
