@@ -9,7 +9,7 @@ use native.Mathlib.Omega.{arith}
 use borrow.Author.Rules.{rules}
 use borrow.Author.Tests.{ne_eqb, lt-ltb, ltb-true}
 use lib.Dec.{T, leb, leb→le, ltb, ltb→lt, eqb→eq}
-use lib.ListN.{length, take, get_or, set, length-set, length-map}
+use lib.ListN.{length, get_or, set, length-set, length-map}
 use lib.Seq.{take_all, get_or-set_other}
 use Rattle.value_bytes.specs.Bytes.{put_at}
 use Rattle.values.specs.declared.Site.{Site}
@@ -41,7 +41,7 @@ use Rattle.nets.specs.View.{no_content, no_variable, no_saved, no_frame, no_tabl
 use Rattle.step_bytes.specs.PickBytes.{picks_in}
 use Rattle.step_bytes.proofs.PickLaws.{picks-length}
 use Rattle.step_bytes.specs.AnswerBytes.{answer_bytes}
-use Rattle.step_bytes.proofs.AnswerLaws.{put_so_far, put-none, put-more, put-length, put-over}
+use Rattle.step_bytes.proofs.AnswerLaws.{put-none, put-more, put-length, put-over}
 use Rattle.step_meets.specs.Situations.{Situation, Rest, Change, over_of, moved, saved_after}
 use Rattle.row_change.specs.ChangeContracts.{Holds}
 use Rattle.step_effect.specs.EffectContracts.{puts_rows, StepReady}
@@ -51,7 +51,6 @@ use Rattle.step_meets.proofs.LoopChangeLaws.{loop-relations}
 use Rattle.step_meets.proofs.SituationLaws.{fine-read, fine-bound, sourced, judge_ready, step-ready}
 use Rattle.value_totals.specs.declared.Total.{Total}
 use Rattle.step_effect.specs.TableContracts.{tables_with}
-use Rattle.step_effect.proofs.KindTies.{either}
 use Rattle.nets.proofs.StackView.{entry-node_in}
 use Rattle.nets.proofs.StepLaws.{Pass}
 use Rattle.step_left.specs.Carried.{Reached, reached_by, CarriedIs}
@@ -71,7 +70,7 @@ use Rattle.step_picks.proofs.AgreeTies.{sees_bound, agrees-below}
 use Rattle.step_picks.proofs.carry_out.Lts.View as View
 use Rattle.step_picks.proofs.Behind.{Sized, Behind, with_tables, with_threads, with_saved}
 use Rattle.step_picks.proofs.carry_out.Goals as goal
-use Rattle.step_picks.proofs.carry_out.Goals.{After-add_count-taken, After-binds_relation-binds, After-bound_tables-bound_flags, After-content_after-content_put, After-decide-decided, After-ends_round, After-find_table-at, After-forked, After-loop-gap-then-decided-eq0, After-loop-i, After-node_of-outer_number, After-pick_at-pick, After-place_or_first-slot, After-run_frame, After-shown-content, After-site_of-located, After-site_or_any-site, After-slice_known-in-loop-i-1, After-source_of-source, After-struct_known-in-loop-i-2-1, At-loop-i, Else-decided-eq0, Else-threadcount-thread_place, In-23, In-24, In-Done, In-loop-gap, In-loop-gap-then-decided-eq0, In-loop-hole, In-loop-level, Joined-binds, Joined-binds-2, Joined-decided, Joined-decided-depth, Joined-kind, Then-decided, Then-decided-depth, Then-decided-eq0, Then-ends_round, Then-puts_rows, Then-threadcount-thread_place, then-binds+else-loop-level-test, else-binds, then-binds-2, else-binds-2, in-23, in-24+else-loop-gap-test, in_default-kind+then-puts_rows, in_default-kind+else-puts_rows, then-decided, else-decided, then-decided-depth+then-ends_round, then-decided-depth+else-ends_round, else-decided-depth, then-hole-net, else-hole-net}
+use Rattle.step_picks.proofs.carry_out.Goals.{After-add_count-taken, After-binds_relation-binds, After-bound_tables-bound_flags, After-content_after-content_put, After-decide-decided, After-ends_round, After-find_table-at, After-forked, After-loop-gap-then-decided-eq0, After-loop-i, After-node_of-outer_number, After-pick_at-pick, After-place_or_first-slot, After-run_frame, After-shown-content, After-site_of-located, After-site_or_any-site, After-source_of-source, After-struct_known-in-loop-i-2-1, At-loop-i, Else-decided-eq0, Else-threadcount-thread_place, In-23, In-24, In-Done, In-loop-gap, In-loop-gap-then-decided-eq0, In-loop-hole, In-loop-level, Joined-binds, Joined-binds-2, Joined-decided, Joined-decided-depth, Joined-kind, Then-decided, Then-decided-depth, Then-decided-eq0, Then-ends_round, Then-puts_rows, Then-threadcount-thread_place, then-binds+else-loop-level-test, else-binds, then-binds-2, else-binds-2, in-23, in-24+else-loop-gap-test, in_default-kind+then-puts_rows, in_default-kind+else-puts_rows, then-decided, else-decided, then-decided-depth+then-ends_round, then-decided-depth+else-ends_round, else-decided-depth, then-hole-net, else-hole-net}
 
 -- ── invariants ──
 
@@ -329,7 +328,7 @@ held_at j h =
     let n = net_of e in
     let t = thread_in n (pick_at e).thread in
     elim j.if-binds.branch [
-      then-binds+else-loop-level-test w ↦
+      | then-binds+else-loop-level-test w ↦
           let same : w.loop-level.level ≡ t.depth = omega (arith, w.loop-level.invariant.0, w.loop-level-test.false) in
           w.held-is
           ∙ subst (λ (q : ℕ). w.loop-level.held ≡ any (holds (nodes_of n.nodecount n.nodes) (node_read n (number_at (binds_of j))).bound) (stack_of (saved_in n (pick_at e).thread) q t.stack)) same w.loop-level.invariant.1
@@ -449,28 +448,20 @@ picked_in c = picked_of (there_in (shown_of c))
 pub put_answer_at-requires-in-loop-i : goal.put_answer_at-requires-in-loop-i
 put_answer_at-requires-in-loop-i c = within (picked_in (goal.at.put_answer_at-requires-in-loop-i c).After-decide-decided)
 
--- the buffer has the answer
-abbrev Said : Type 0
-Said = After-slice_known-in-loop-i-1
-
-abbrev decides_of : Said → Decides
-decides_of c = (View.at-After-slice_known-in-loop-i-1 _ _ _ _ _ _ _ _ _ _ _ _ _ c).After-decide-decided
-
 -- ── refused ──
 
 pub loop-i-smaller-in_default : goal.loop-i-smaller-in_default
-loop-i-smaller-in_default c = less (picked_in (decides_of (goal.at.loop-i-smaller-in_default c).After-slice_known-in-loop-i-1)).loop-i-test.true (omega arith)
+loop-i-smaller-in_default c = less (picked_in (goal.at.loop-i-smaller-in_default c).After-decide-decided).loop-i-test.true (omega arith)
 
 pub loop-i-preserved-in_default : goal.loop-i-preserved-in_default
 loop-i-preserved-in_default c =
-    let p = (goal.at.loop-i-preserved-in_default c).After-slice_known-in-loop-i-1 in
-    let o = decides_of p in
+    let o = (goal.at.loop-i-preserved-in_default c).After-decide-decided in
     let e = there_in (shown_of o) in
     let l = at_of (picked_of e) in
     more (picked_of e)
     (pick-refused (reached_at l) (pick_at e) o.decide-decided.result.answer c.in_default.is
     (change-refused (net_of e) (pick_at e) (okay e) (there e) ((decided o).at _ (meets (shown_of o))).answer c.in_default.is))
-    p.put_answer_at-in-loop-i.ensures l.loop-i.invariant.sized
+    c.put_answer_at-in-loop-i.ensures l.loop-i.invariant.sized
 
 -- ── a done step ──
 
@@ -478,7 +469,7 @@ abbrev Told : Type 0
 Told = In-Done
 
 abbrev decides_in : Told → Decides
-decides_in c = decides_of (goal.at.add_count-added-requires c).After-slice_known-in-loop-i-1
+decides_in c = (goal.at.add_count-added-requires c).After-decide-decided
 
 abbrev shown_in : Told → Shown
 shown_in c = shown_of (decides_in c)
@@ -586,7 +577,7 @@ moved_in j vs = moved (situation_by j).thread (decides_by j).decide-decided.resu
 moved-is : (j : Moved) → j.if-binds-2.thread ≡ moved_in j j.if-binds-2.thread.relations
 moved-is j =
     elim j.if-binds-2.branch [
-      then-binds-2 w ↦ as_moved (situation_by j).thread (decides_by j).decide-decided.result j.over-above.result j.run_frame.result w.thread-is refl
+      | then-binds-2 w ↦ as_moved (situation_by j).thread (decides_by j).decide-decided.result j.over-above.result j.run_frame.result w.thread-is refl
       | else-binds-2 w ↦ as_moved (situation_by j).thread (decides_by j).decide-decided.result j.over-above.result j.run_frame.result w.thread-is refl
     ]
 
@@ -601,7 +592,7 @@ bound-is : (j : Moved) → BoundIs j
 bound-is j =
     let b = (held_of (shown_by j)).binds_relation-binds.ensures in
     elim j.if-binds-2.branch [
-      then-binds-2 w ↦
+      | then-binds-2 w ↦
           ap (λ (t : Thread). map variable_of t.relations) w.thread-is
           ∙ bound-set (situation_by j).thread.relations _ w.bound_after-content_bound.result _ w.bound_after-content_bound.ensures (sym b ∙ w.if-binds-2.true)
       | else-binds-2 w ↦ ap (λ (t : Thread). map variable_of t.relations) w.thread-is ∙ bound-none (situation_by j).thread.relations _ (sym b ∙ w.if-binds-2.false)
@@ -704,9 +695,6 @@ loop-gap-preserved c =
 
 -- ── the table found gives way ──
 
-abbrev Given : Type 0
-Given = After-content_after-content_put
-
 -- the kind puts rows
 given-puts : (c : Then-puts_rows) → T (puts_rows (kind_at (situation_by (View.at-Then-puts_rows _ _ _ _ _ _ _ _ _ _ _ _ _ c).Joined-binds-2).node.kind))
 given-puts c = T_of _ (sym c.puts_rows.ensures ∙ c.if-puts_rows.true)
@@ -761,7 +749,7 @@ left c =
     let eight = (at_of (picked_of (there_by j))).loop-i.invariant.sized.tables in
     let few = few-tables n (okay (there_by j)) in
     elim c.match-kind.branch [
-      in-23 w ↦
+      | in-23 w ↦
           record {
             content = no_content;
             put = no-puts j no_content (none-at w.in-23.is refl);
@@ -823,9 +811,6 @@ left c =
 
 -- ── one pick more, with these tables and threads ──
 
-abbrev said_of_step : Moved → Said
-said_of_step j = (goal.at.add_count-added-requires (told_by j)).After-slice_known-in-loop-i-1
-
 sized-with : {m n : Net} {ts : List Table} {a b : ℕ} {hs : List Thread} {given : List Saved} → Sized m n → length ts ≡ 8 → length hs ≡ 8 → length given ≡ 64 → Sized m (net_with n ts a hs b given)
 sized-with z p q o =
     record { aliases = z.aliases; tables = p; threads = q; saved = o; same_aliases = z.same_aliases; same_alias_count = z.same_alias_count; same_nodes = z.same_nodes; same_node_count = z.same_node_count }
@@ -854,7 +839,7 @@ again :
     ++ forks_of (decides_by (moved_of c)).decide-decided.result.forks (change_of c).fork →
     {n : Net} → n ≡ net_with (net_by (moved_of c)) c.match-kind.net.tables c.match-kind.net.tablecount hs k given →
     Behind (bytes_at (at_of (picked_of (there_by (moved_of c))))) (lent_at (at_of (picked_of (there_by (moved_of c))))) (count_of (picked_of (there_by (moved_of c)))) (room_at (at_of (picked_of (there_by (moved_of c)))))
-    (from_of (at_of (picked_of (there_by (moved_of c))))) (said_of_step (moved_of c)).put_answer_at-in-loop-i.new.out
+    (from_of (at_of (picked_of (there_by (moved_of c))))) (moved_of c).put_answer_at-in-loop-i.new.out
     (record {
       net = n;
       answer = Done (told_by (moved_of c)).in-Done.rows_added (told_by (moved_of c)).in-Done.rows_taken;
@@ -872,7 +857,7 @@ again c hs k given eight sixty threads e =
     told-as (sym e) (says-done t)
     (more (picked_of h)
     (pick-done (reached_at l) (pick_by j) (decides_by j).decide-decided.result.answer _ (summed j).add_count-added.result (summed j).add_count-taken.result (says-done t) step (summed j).add_count-added.ensures (summed j).add_count-taken.ensures)
-    (said_of_step j).put_answer_at-in-loop-i.ensures (sized-with l.loop-i.invariant.sized s.eight eight sixty))
+    j.put_answer_at-in-loop-i.ensures (sized-with l.loop-i.invariant.sized s.eight eight sixty))
 
 threads-fit : (c : Tabled) → T (decides_by (moved_of c)).decide-decided.result.forks → ((net_by (moved_of c)).threadcount < 8) × (1 ≤ (decides_by (moved_of c)).decide-decided.result.depth)
 threads-fit c =
@@ -963,7 +948,7 @@ holds-5 c =
     let k = stacked (told_by j) in
     let high = top-low t in
     elim c.if-decided.branch [
-      then-decided w ↦
+      | then-decided w ↦
           let e : c.if-decided.net.saved ≡ set (net_by j).saved (at * 8 + top) (saved_for t) = ap (λ (n : Net). n.saved) w.net-is ∙ ap (λ (l : List Saved). set l (at * 8 + top) (saved_for t)) (saved-same t) in
           record {
             kept =
@@ -1249,7 +1234,7 @@ backed c =
     let u = moved_in j vs in
     let stored = thread-stored ds old at s (λ i. refl) r (framed t) ok eight over.result over.ensures body.result body.ensures vs (sees t) new (holds-5 k).kept.low (top_right k) in
     elim c.if-decided-depth.branch [
-      then-decided-depth+then-ends_round w ↦
+      | then-decided-depth+then-ends_round w ↦
           let g = ended k w.if-decided-depth.true in
           let n = w.node_of-outer_number.ensures in
           let l = looping k (sym (round-ends k g n w.ends_round.ensures) ∙ w.if-ends_round.true) in
@@ -1444,7 +1429,7 @@ loop-hole-preserved c =
     let low = hole-low i in
     let hole = l.hole in
     elim c.if-hole-net.branch [
-      then-hole-net w ↦
+      | then-hole-net w ↦
           let e = ap (λ (n : Net). n.saved) w.net-is in (
             subst (λ (z : List Saved). Shifting (closed_net d).threads (closed_net d).saved (gone_at d) (hole + 1) z) (sym e) (shifting_moves (closed_net d).threads (closed_net d).saved (gone_at d) l.invariant.0 (omega (arith, low, closed-long d))),
             w.net-is ∙ ap (λ (n : Net). with_saved n (set l.net.saved hole (get_or l.net.saved (hole + 8) no_saved))) l.invariant.1 ∙ sym (ap (with_saved (closed_net d)) e),
