@@ -29,7 +29,7 @@ use Rattle.nets.proofs.ShapeLaws.{relation-shaped}
 use Rattle.nets.proofs.SoundLaws.{clauses}
 use Rattle.nets.proofs.StackView.{length-stack}
 use Rattle.call_rules.specs.Moments.{thread_records}
-use Rattle.call_hold.specs.Holdings.{VariableShaped, holds_by, HoldsAre, held_by, HeldShaped, held_at, thread_given, ThreadShaped}
+use Rattle.call_hold.specs.Holdings.{VariableShaped, holds_by, HoldsAre, held_by, HeldShaped, thread_given, ThreadShaped}
 use Rattle.call_hold.proofs.HeldLaws.{given_is}
 
 -- ── table variables ──

@@ -1,11 +1,11 @@
 -- What the loop entries below the top of a picked thread's stack hold is not changed by a done step: by check 17 where it binds a table variable, and by agreement where bindings come back. Assumes nothing.
-use Prim.Native.Nat.{ℕ, ◌-◌, ◌<◌, ◌≤◌}
+use Prim.Native.Nat.{ℕ, ◌-◌, ◌<◌}
 use mathlib.Core.Path.{◌≡◌, refl, ap, sym, subst, ◌∙◌}
-use mathlib.Core.Bool.{Bool, true, false, not, cond, ◌&&◌, ◌||◌}
-use mathlib.Core.List.{List, [], ◌∷◌, map}
-use mathlib.Core.Option.{Option, none, some}
+use mathlib.Core.Bool.{Bool, true, false, not, cond}
+use mathlib.Core.List.{List, ◌∷◌, map}
+use mathlib.Core.Option.{Option, none}
 use native.Mathlib.Omega.{arith}
-use lib.Dec.{T, T_not, eqb, ltb, ltb→lt, eqb_refl}
+use lib.Dec.{T, T_not, eqb, eqb_refl}
 use lib.ListN.{length, get_or, set, get_or-map}
 use lib.Seq.{get_or-set_other}
 use Rattle.values.specs.Lists.{all, any}
@@ -31,7 +31,6 @@ use Rattle.nets.proofs.SoundLaws.{clauses}
 use Rattle.nets.proofs.StackView.{stack_cons}
 use Rattle.nets.proofs.StepLaws.{Pass, given}
 use Rattle.nets.proofs.SureLaws.{Sure, sure, entry-node, node_at}
-use Rattle.step_thread.specs.ThreadContracts.{Stacked}
 use Rattle.step_meets.proofs.SituationLaws.{read_below}
 use Rattle.step_picks.proofs.SavedTies.{SeesSame}
 use Rattle.step_picks.proofs.SceneTies.{thread_in, saved_in, thread_seen, scene_thread, thread-stacked, stack-all}

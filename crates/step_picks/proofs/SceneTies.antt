@@ -20,7 +20,6 @@ use Rattle.nets.specs.declared.Pick.{Pick}
 use Rattle.nets.specs.declared.Alias.{Alias}
 use Rattle.nets.specs.declared.Frame.{Frame}
 use Rattle.nets.specs.declared.Thread.{Thread}
-use Rattle.nets.specs.declared.Node.{Node}
 use Rattle.nets.specs.declared.Table.{Table}
 use Rattle.nets.specs.declared.Net.{Net}
 use Rattle.nets.specs.Nets as M

@@ -7,9 +7,7 @@ use lib.ListN.{length, drop, replicate}
 use borrow.Rule.Slice.PartMut.{put_mid}
 use Rattle.call_rules.specs.Moments.{moment_head}
 use Rattle.value_bytes.proofs.Parts.{two_fill}
-use borrow.Author.Rules.{rules}
-use Rattle.call_moment.proofs.put_moment_head.Statement.{statement}
-use Rattle.call_moment.proofs.put_moment_head.Tie as tie
+use Rattle.call_moment.proofs.put_moment_head.Goals as goal
 
 filled : (a b n : ℕ) (o h z : List ℕ) → length o ≡ 104 → n ≤ 3809 → h ≡ 64 ∷ a ∷ b ∷ 0 ∷ n % 256 ∷ n / 256 % 256 ∷ 0 ∷ 0 ∷ [] → z ≡ replicate 96 0 → put_mid 8 96 (h ++ drop 8 o) z ≡ moment_head a b n
 unfolding moment_head
@@ -18,20 +16,5 @@ filled a b n o h z l few hh hz =
     let f : n / 2 ^ 24 % 256 ≡ 0 = omega arith in
     two_fill o h z 8 96 (ap length hh) l ∙ rw (hh, hz, e, f) refl
 
-pub put-moment-head-spec : {M : Type 1} → statement M
-put-moment-head-spec =
-    tie.close
-    (tie.spec
-    (λ c. search rules)
-    (λ c. search rules)
-    (λ c. search rules)
-    (λ c. search rules)
-    (λ c. search rules)
-    (λ c κs. search rules)
-    (λ c. search rules)
-    (λ c. search rules)
-    (λ c. search rules)
-    (λ c. search rules)
-    (λ c κs. search rules)
-    (λ c. search rules)
-    (λ c. search filled))
+pub returns : goal.returns
+returns c = search filled

@@ -16,8 +16,7 @@ use Rattle.call_hold.specs.Holdings.{HoldsAre, thread_given}
 use Rattle.call_moment.proofs.NetShapes.{nodes_in, saved_for, few-nodes, few-threads, shaped-at, given-at}
 use Rattle.call_moment.proofs.ThreadRecordLaws.{records_to, records_at, records-all, records-next, count_next, records-room, records-long}
 use borrow.Author.Rules.{rules}
-use Rattle.call_moment.proofs.threads.put_all.Statement.{statement}
-use Rattle.call_moment.proofs.threads.put_all.Tie as tie
+use Rattle.call_moment.proofs.threads.put_all.Goals as goal
 
 -- the thread at a place
 module _ (net : Net) (holds : List ℕ) (i at r : ℕ) (ok : T (sound (view net))) (k : HoldsAre (nodes_in net) holds) (h : i < net.threadcount) (l : at ≡ length (records_to net i) * 104) (er : r ≡ length (thread_given holds (saved_for net.saved i) (get_or net.threads i no_thread))) where
@@ -37,9 +36,6 @@ module _ (net : Net) (holds : List ℕ) (i at r : ℕ) (ok : T (sound (view net)
       rw (e, part-size, part-written (end_to_end (records_to net i)) o ys at (r * 104) (records-long net ok i (omega arith) ∙ sym l), records-next net i, ends-append, p)
 
 module _ (net : Net) where
-  same : (o out : List ℕ) → length out ≡ length (records_to net net.threadcount) * 104 → length o ≡ length (all_threads (view net).nodes (view net).threads) * 104 → length out ≡ length o
-  same o out e l = e ∙ sym (l ∙ ap (λ (rs : List (List ℕ)). length rs * 104) (records-all net))
-
   ended : (i at : ℕ) (o out : List ℕ) → i ≤ net.threadcount → net.threadcount ≤ i → length o ≡ length (all_threads (view net).nodes (view net).threads) * 104 → at ≡ length (records_to net i) * 104 → out ≡ end_to_end (records_to net i) ++ drop at o → out ≡ end_to_end (all_threads (view net).nodes (view net).threads)
   ended i at o out a b lo l e =
       let q : i ≡ net.threadcount = omega arith in
@@ -50,71 +46,37 @@ module _ (net : Net) where
   begins : (o : List ℕ) → length o ≡ length (all_threads (view net).nodes (view net).threads) * 104 → length o ≡ length (records_to net net.threadcount) * 104
   begins o l = l ∙ ap (λ (rs : List (List ℕ)). length rs * 104) (records-all net)
 
-abbrev invariant-loop : tie.invariant-loop
-invariant-loop out₀ net holds count at₀ i₀ out at i =
-    T (sound (view net))
-    × HoldsAre (nodes_in net) holds
-    × (net.threadcount ≤ 8)
-    × (i ≤ net.threadcount)
-    × (length out ≡ length (records_to net net.threadcount) * 104)
-    × (at ≤ 47736 * i)
-    × (at ≡ length (records_to net i) * 104)
-    × (out ≡ end_to_end (records_to net i) ++ drop at out₀)
+pub all_holds-holds-requires : goal.all_holds-holds-requires
+all_holds-holds-requires c = search few-nodes
 
-abbrev decreases-loop : tie.decreases-loop
-decreases-loop out₀ net holds count at₀ i₀ out at i = net.threadcount - i
+pub loop-i-init : goal.loop-i-init
+loop-i-init c = record { sound = search rules; holds = search rules; few = search few-threads; within = omega arith; full = search begins; low = omega arith; at = refl; filled = refl }
 
--- the next thread has room
-roomy : (c : tie.After-count-records invariant-loop decreases-loop) →
-    let l = c.before.before.before.before.before.before.before.before.before.before.before.loop in
-    l.at + c.count-records.result * 104 ≤ length l.out
-roomy c = search room
+pub count_records-requires : goal.count_records-requires
+count_records-requires c = search shaped-at
 
-pub put-all-spec : {M : Type 1} → statement M
-put-all-spec =
-    tie.close
-    (tie.spec
-    invariant-loop
-    decreases-loop
-    (λ c κs. search few-nodes)
-    (λ c. (search rules, search rules, search few-threads, omega arith, search begins, omega arith, refl, refl))
-    (λ c. search rules)
-    (λ c. search rules)
-    (λ c. search rules)
-    (λ c. search rules)
-    (λ c. search rules)
-    (λ c. search rules)
-    (λ c. search rules)
-    (λ c. search rules)
-    (λ c. search rules)
-    (λ c. search rules)
-    (λ c. search rules)
-    (λ c. search rules)
-    (λ c. search rules)
-    (λ c. search rules)
-    (λ c. search rules)
-    (λ c. search rules)
-    (λ c. search rules)
-    (λ c. search rules)
-    (λ c. search rules)
-    (λ c. search rules)
-    (λ c. search rules)
-    (λ c. search rules)
-    (λ c. search rules)
-    (λ c. search rules)
-    (λ c. search rules)
-    (λ c. search rules)
-    (λ c κs. search shaped-at)
-    (λ c. search rules)
-    (λ c. search rules)
-    (λ c. search rules)
-    (λ c. search rules)
-    (λ c. omega (arith, roomy c))
-    (λ c. search rules)
-    (λ c. search rules)
-    (λ c κs. (search shaped-at, simp (length-take, length-drop) (omega (arith, roomy c.before.before, c.before.before.count-records.ensures.0))))
-    (λ c. search rules)
-    (λ c. search rules)
-    (λ c. (search rules, search rules, search rules, omega arith, search kept-length, omega arith, search longer, search one_more))
-    (λ c. search same)
-    (λ c. search ended))
+pub slice_bounds-put_records-end : goal.slice_bounds-put_records-end
+slice_bounds-put_records-end c =
+    let r : c.loop-i.at + c.count_records.result * 104 ≤ length c.loop-i.out = search room in
+    omega (arith, r)
+
+pub put_records-requires : goal.put_records-requires
+put_records-requires c =
+    let r : c.loop-i.at + c.count_records.result * 104 ≤ length c.loop-i.out = search room in
+    (search shaped-at, simp (length-take, length-drop) (omega (arith, r, c.count_records.ensures.0)))
+
+pub loop-i-preserved : goal.loop-i-preserved
+loop-i-preserved c =
+    record {
+      sound = search rules;
+      holds = search rules;
+      few = search rules;
+      within = omega arith;
+      full = search kept-length;
+      low = omega arith;
+      at = search longer;
+      filled = search one_more;
+    }
+
+pub returns : goal.returns
+returns c = search ended

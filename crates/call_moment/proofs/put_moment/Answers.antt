@@ -5,7 +5,7 @@ use mathlib.Core.Bool.{true}
 use mathlib.Core.List.{List, ◌++◌, append-nil}
 use native.Mathlib.Omega.{arith}
 use lib.Dec.{T, leb}
-use lib.ListN.{length, take, drop, length-append, drop_of_length-le}
+use lib.ListN.{length, take, drop, drop_of_length-le}
 use borrow.Author.Tests.{le-leb}
 use borrow.Rule.Slice.PartMut.{put_mid}
 use Rattle.values.proofs.Firsts.{length-firsts}
@@ -21,9 +21,7 @@ use Rattle.value_bytes.proofs.Parts.{three_fill, part_left, part-first}
 use Rattle.nets.proofs.ShapeLaws.{few-tables, tables-ok}
 use Rattle.call_moment.proofs.NetShapes.{threads-count, few-threads}
 use Rattle.call_moment.proofs.MomentLaws.{head-length, moment_length, moment_parts}
-use borrow.Author.Rules.{rules}
-use Rattle.call_moment.proofs.put_moment.Statement.{statement}
-use Rattle.call_moment.proofs.put_moment.Tie as tie
+use Rattle.call_moment.proofs.put_moment.Goals as goal
 
 -- bytes written into a part that they fill
 written-whole : (w part y : List ℕ) → length part ≡ length w → y ≡ buffer_after part (if_room w part) → y ≡ w
@@ -79,44 +77,44 @@ module _ (net : Net) (ok : T (sound (view net))) (o : List ℕ) (l : length o �
       put_mid (104 + s) (n - (104 + s)) (put_mid 104 (104 + s - 104) (x ++ drop 104 o) y) z ≡ moment_put (view net)
   put_all x y z hx hy hz = filled x y z (n / 104) hx hy hz ∙ sym moment_is
 
-  same : (x y z : List ℕ) (r : ℕ) → x ≡ head_of r → y ≡ buffer_after (part x) (if_room (written (tables_of net.tablecount net.tables)) (part x)) → z ≡ end_to_end (all_threads (view net).nodes (view net).threads) →
-      length (put_mid (104 + s) (n - (104 + s)) (put_mid 104 (104 + s - 104) (x ++ drop 104 o) y) z) ≡ length o
-  same x y z r hx hy hz =
-      let e : length (head_of r) ≡ length (head_of (n / 104)) = head-length net.tablecount net.threadcount r ∙ sym (head-length net.tablecount net.threadcount (n / 104)) in
-      let t = written (tables_of net.tablecount net.tables) ++ end_to_end (all_threads (view net).nodes (view net).threads) in
-      ap length (filled x y z r hx hy hz) ∙ length-append (head_of r) t ∙ ap (λ (k : ℕ). k + length t) e ∙ sym (length-append (head_of (n / 104)) t) ∙ ap length (sym moment_is) ∙ sym l
+pub tables_size-middle-requires : goal.tables_size-middle-requires
+tables_size-middle-requires c = (few-tables c.args.net c.requires.0, tables-ok c.args.net c.requires.0)
 
-fits : (c : tie.After-moment-size) → c.moment-size.result ≡ 104 + c.before.tables-size.result + m c.before.before.before.before.args.net c.before.before.before.before.requires.0 c.before.before.before.before.args.out.now c.before.before.before.before.requires.1 c.before.tables-size.result c.moment-size.result c.before.tables-size.ensures.0 c.moment-size.ensures.0
-fits c = whole c.before.before.before.before.args.net c.before.before.before.before.requires.0 c.before.before.before.before.args.out.now c.before.before.before.before.requires.1 c.before.tables-size.result c.moment-size.result c.before.tables-size.ensures.0 c.moment-size.ensures.0
+pub slice_bounds-put_moment_head-end : goal.slice_bounds-put_moment_head-end
+slice_bounds-put_moment_head-end c =
+    let w = whole c.args.net c.requires.0 c.args.out.now c.requires.1 c.tables_size-middle.result c.moment_size-end.result c.tables_size-middle.ensures.0 c.moment_size-end.ensures.0 in
+    omega (arith, w)
 
-put-all-requires : tie.Need-put-all-requires
-put-all-requires c κs =
-    let s = c.before.before.before.before.before.before.before.before.before.before.before.before.before.before.before in
-    let w = c.before.before.before.before.before.before.before.before.before.before.before.before.tables-size in
-    let e = c.before.before.before.before.before.before.before.before.before.before.before.moment-size in
-    let h = c.before.before.before.before.before.before.before.put-moment-head in
-    (s.requires.0, last-part s.args.net s.requires.0 s.args.out.now s.requires.1 w.result e.result w.ensures.0 e.ensures.0 h.new.0 c.before.before.before.write-tables.new.0 _ h.ensures c.before.before.before.write-tables.ensures.1)
+pub overflow_cast-net : goal.overflow_cast-net
+overflow_cast-net c = omega (arith, few-tables c.args.net c.requires.0)
 
-pub put-moment-spec : {M : Type 1} → statement M
-put-moment-spec =
-    tie.close
-    (tie.spec
-    (λ c κs. let s = c.before.before in (few-tables s.args.net s.requires.0, tables-ok s.args.net s.requires.0))
-    (λ c. search rules)
-    (λ c κs. search rules)
-    (λ c. search rules)
-    (λ c. search rules)
-    (λ c. omega (arith, fits c))
-    (λ c. omega (arith, few-tables c.before.before.before.before.before.before.args.net c.before.before.before.before.before.before.requires.0))
-    (λ c. omega (arith, few-threads c.before.before.before.before.before.before.before.args.net c.before.before.before.before.before.before.before.requires.0))
-    (λ c κs. search rules)
-    (λ c. search rules)
-    (λ c. search rules)
-    (λ c. omega (arith, fits c.before.before.before.before.before.before))
-    (λ c κs. let s = c.before.before.before.before.before.before.before.before.before.before.before in (few-tables s.args.net s.requires.0, tables-ok s.args.net s.requires.0))
-    (λ c. omega (arith, fits c.before.before.before.before.before.before.before.before.before.before))
-    (λ c. omega (arith, fits c.before.before.before.before.before.before.before.before.before.before))
-    (λ c. search rules)
-    put-all-requires
-    (λ c. search same)
-    (λ c. search put_all))
+pub overflow_cast-net-2 : goal.overflow_cast-net-2
+overflow_cast-net-2 c = omega (arith, few-threads c.args.net c.requires.0)
+
+pub slice_bounds-write_tables-end : goal.slice_bounds-write_tables-end
+slice_bounds-write_tables-end c =
+    let w = whole c.args.net c.requires.0 c.args.out.now c.requires.1 c.tables_size-middle.result c.moment_size-end.result c.tables_size-middle.ensures.0 c.moment_size-end.ensures.0 in
+    omega (arith, w)
+
+pub write_tables-requires : goal.write_tables-requires
+write_tables-requires c = (few-tables c.args.net c.requires.0, tables-ok c.args.net c.requires.0)
+
+pub slice_bounds-put_all-count : goal.slice_bounds-put_all-count
+slice_bounds-put_all-count c =
+    let w = whole c.args.net c.requires.0 c.args.out.now c.requires.1 c.tables_size-middle.result c.moment_size-end.result c.tables_size-middle.ensures.0 c.moment_size-end.ensures.0 in
+    omega (arith, w)
+
+pub slice_bounds-put_all-start : goal.slice_bounds-put_all-start
+slice_bounds-put_all-start c =
+    let w = whole c.args.net c.requires.0 c.args.out.now c.requires.1 c.tables_size-middle.result c.moment_size-end.result c.tables_size-middle.ensures.0 c.moment_size-end.ensures.0 in
+    omega (arith, w)
+
+pub put_all-requires : goal.put_all-requires
+put_all-requires c =
+    let w = c.tables_size-middle in
+    let e = c.moment_size-end in
+    let h = c.put_moment_head in
+    (c.requires.0, last-part c.args.net c.requires.0 c.args.out.now c.requires.1 w.result e.result w.ensures.0 e.ensures.0 h.new.out c.write_tables.new.out _ h.ensures c.write_tables.ensures.1)
+
+pub returns : goal.returns
+returns c = search put_all
