@@ -1,3 +1,0 @@
--- Laws of lending that belong to no one function.
-pub mod LendWalk
-pub mod Lent
