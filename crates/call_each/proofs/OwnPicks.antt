@@ -1,8 +1,8 @@
 -- A file's own picks: at most one for each record, and two bytes for each. Assumes nothing.
-use Prim.Native.Nat.{ℕ, zero, suc, ◌+◌, ◌-◌, ◌*◌, ◌%◌, ◌≤◌, ◌<◌}
+use Prim.Native.Nat.{ℕ, zero, suc, ◌+◌, ◌*◌, ◌%◌, ◌≤◌, ◌<◌}
 use mathlib.Core.Path.{◌≡◌, refl, sym, ap, ◌∙◌}
 use mathlib.Core.Bool.{Bool, true, false, cond}
-use mathlib.Core.List.{List, [], ◌∷◌, ◌++◌, map, append-nil, append_assoc}
+use mathlib.Core.List.{List, [], ◌∷◌, ◌++◌, append-nil, append_assoc}
 use mathlib.Core.Option.{Option, none, some}
 use native.Mathlib.Omega.{arith}
 use lib.Dec.{eqb, leb}
@@ -22,7 +22,7 @@ use Rattle.files.specs.declared.Verdict.{Verdict}
 use Rattle.files.specs.declared.Verdict.TheVariants as verdict
 use Rattle.files.specs.declared.Loaded.{Loaded}
 use Rattle.files.specs.Loading.{Progress, nothing_read, picks_of, advance, load_checks, failing, Reading, stopped, finished, proceed, read_all, LoadAnswer, rejected, accepted, linked, finish, first_bad_link, load, load_bytes, Fault, fault_of, picks_loaded}
-use Rattle.files.specs.Engine.{fault_in, first_picks, own_picks, LoadIs}
+use Rattle.files.specs.Engine.{fault_in, first_picks, LoadIs}
 use Rattle.call_rules.specs.Layouts.{picks_put}
 use Rattle.call_rules.specs.Replies.{Called, refusing, if_room}
 use Rattle.call_rules.specs.Calls.{on_loaded, number_in, place_in, Gives}

@@ -21,9 +21,7 @@ use Rattle.call_rules.specs.Replies.{if_room}
 use Rattle.call_rules.specs.Calls.{Gives}
 use Rattle.call_rules.proofs.CallLaws.{needed-is, gives-short, gives_all}
 use Rattle.nets.proofs.ShapeLaws.{tables_of_lem, few-tables, tables-ok}
-use borrow.Author.Rules.{rules}
-use Rattle.call_each.proofs.tables.tables_left.Statement.{statement}
-use Rattle.call_each.proofs.tables.tables_left.Tie as tie
+use Rattle.call_each.proofs.tables.tables_left.Goals as goal
 
 module _ (m : Net) (ps : List Pick) (net : Code.Net) (e : (view net ≡ after m ps) × T (sound (view net))) (o : List ℕ) (size : ℕ) (es : (size ≡ length (written (tables_of net.tablecount net.tables))) × (size ≤ 14144)) where
   put_is : tables_put m ps ≡ written (tables_of net.tablecount net.tables)
@@ -45,13 +43,18 @@ module _ (m : Net) (ps : List Pick) (net : Code.Net) (e : (view net ≡ after m 
   given : (out : List ℕ) → size ≤ length o → out ≡ buffer_after o (W.if_room (written (tables_of net.tablecount net.tables)) o) → Gives (if_room (tables_put m ps) o) o out 0 size
   given out h q = gives_all (tables_put m ps) o size long out h (whole out h q)
 
-pub tables-left-spec : {M : Type 1} → statement M
-tables-left-spec =
-    tie.close
-    (tie.spec
-    (λ c κs. search rules)
-    (λ c κs. let r = c.before.run-picks in (few-tables r.result r.ensures.1, tables-ok r.result r.ensures.1))
-    (λ c. let r = c.before.before.before.run-picks in short (view c.before.before.before.before.before.before.args.net) (picks_in c.before.before.before.before.before.before.args.picks.now) r.result r.ensures c.before.before.before.before.before.before.args.out.now c.before.tables-size.result c.before.tables-size.ensures c.if1.true)
-    (λ c κs. let r = c.before.before.before.before.run-picks in (few-tables r.result r.ensures.1, tables-ok r.result r.ensures.1))
-    (λ c. search rules)
-    (λ c. let r = c.before.before.before.before.before.before.before.run-picks in given (view c.before.before.before.before.before.before.before.before.before.before.args.net) (picks_in c.before.before.before.before.before.before.before.before.before.before.args.picks.now) r.result r.ensures c.before.before.before.before.before.before.before.before.before.before.args.out.now c.before.before.before.before.before.tables-size.result c.before.before.before.before.before.tables-size.ensures _ c.before.before.before.before.if1.false c.before.before.write-tables.ensures.1))
+pub tables_size-size-requires : goal.tables_size-size-requires
+tables_size-size-requires c = let r = c.run_picks-left in (few-tables r.result r.ensures.1, tables-ok r.result r.ensures.1)
+
+pub returns-then-out-size : goal.returns-then-out-size
+returns-then-out-size c =
+    let r = c.run_picks-left in
+    short (view c.args.net) (picks_in c.args.picks.now) r.result r.ensures c.args.out.now c.tables_size-size.result c.tables_size-size.ensures c.if-out-size.true
+
+pub write_tables-requires : goal.write_tables-requires
+write_tables-requires c = let r = c.run_picks-left in (few-tables r.result r.ensures.1, tables-ok r.result r.ensures.1)
+
+pub returns : goal.returns
+returns c =
+    let r = c.run_picks-left in
+    given (view c.args.net) (picks_in c.args.picks.now) r.result r.ensures c.args.out.now c.tables_size-size.result c.tables_size-size.ensures _ c.if-out-size.false c.write_tables.ensures.1

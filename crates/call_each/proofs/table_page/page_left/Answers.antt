@@ -4,7 +4,6 @@ use mathlib.Core.Path.{◌≡◌, refl, sym, ap, ◌∙◌}
 use mathlib.Core.Bool.{true}
 use mathlib.Core.List.{List}
 use lib.Dec.{T}
-use borrow.Author.Rules.{rules}
 use Rattle.values.specs.declared.Site.{Site}
 use Rattle.values.proofs.Bools.{is_true}
 use Rattle.nets.specs.declared.Pick.{Pick}
@@ -23,8 +22,7 @@ use Rattle.call_rules.specs.declared.Reply.{Reply}
 use Rattle.call_rules.specs.TablePages.{page_reply, paged}
 use Rattle.call_rules.specs.Openings.{answer_reply}
 use Rattle.call_rules.specs.Calls.{Gives}
-use Rattle.call_each.proofs.table_page.page_left.Statement.{statement}
-use Rattle.call_each.proofs.table_page.page_left.Tie as tie
+use Rattle.call_each.proofs.table_page.page_left.Goals as goal
 
 -- number, place and buffer of an outcome
 gives-outcome : (p : PageOutcome) (o : List ℕ) → Gives (page_reply p) o (buffer_after o p) (answer_reply (page_answer p)).number (answer_reply (page_answer p)).place
@@ -42,5 +40,8 @@ module _ (m : Net) (ps : List Pick) (net : Code.Net) (left : view net ≡ after 
   unfolding paged
   given r out reply a b q = rw (q, a, b, outcome-is) (gives-outcome outcome o)
 
-pub page-left-spec : {M : Type 1} → statement M
-page-left-spec = tie.close (tie.spec (λ c κs. search rules) (λ c κs. (search few-tables, search tables-ok)) (λ c κs. search rules) (λ c. search rules) (λ c. search given))
+pub page_tables-requires : goal.page_tables-requires
+page_tables-requires c = (search few-tables, search tables-ok)
+
+pub returns : goal.returns
+returns c = search given

@@ -3,7 +3,7 @@ use Prim.Native.Nat.{ℕ, ◌*◌, ◌-◌, ◌≤◌, ◌<◌}
 use mathlib.Core.Path.{◌≡◌}
 use mathlib.Core.List.{List, ◌++◌}
 use native.Mathlib.Omega.{arith}
-use lib.ListN.{length, drop, length-take, length-drop}
+use lib.ListN.{length, drop}
 use Rattle.nets.specs.declared.Pick.{Pick}
 use Rattle.files.specs.Engine.{first_picks}
 use Rattle.call_rules.specs.Layouts.{picks_put}
@@ -11,9 +11,7 @@ use Rattle.call_rules.specs.Replies.{if_room}
 use Rattle.call_rules.specs.Calls.{Gives}
 use Rattle.call_rules.proofs.CallLaws.{needed-is, gives-short, gives-put}
 use Rattle.call_each.proofs.OwnPicks.{picks-long}
-use borrow.Author.Rules.{rules}
-use Rattle.call_each.proofs.picks.picks_given.Statement.{statement}
-use Rattle.call_each.proofs.picks.picks_given.Tie as tie
+use Rattle.call_each.proofs.picks.picks_given.Goals as goal
 
 module _ (ps : List Pick) (n : ℕ) (h : n ≤ 256) (o : List ℕ) where
   short : length o < n * 2 → Gives (if_room (picks_put (first_picks n ps)) o) o o 21 (n * 2)
@@ -22,15 +20,8 @@ module _ (ps : List Pick) (n : ℕ) (h : n ≤ 256) (o : List ℕ) where
   given : (ys : List ℕ) → n * 2 ≤ length o → ys ≡ picks_put (first_picks n ps) → Gives (if_room (picks_put (first_picks n ps)) o) o (ys ++ drop (n * 2 - 0) o) 0 (n * 2)
   given ys l e = gives-put (picks_put (first_picks n ps)) o (n * 2) (picks-long n ps) ys l e
 
-pub picks-given-spec : {M : Type 1} → statement M
-picks-given-spec =
-    tie.close
-    (tie.spec
-    (λ c. search rules)
-    (λ c. search short)
-    (λ c. search rules)
-    (λ c. search rules)
-    (λ c. search rules)
-    (λ c κs. (omega arith, simp (length-take, length-drop) (omega arith)))
-    (λ c. search rules)
-    (λ c. search given))
+pub returns-then-out-size : goal.returns-then-out-size
+returns-then-out-size c = search short
+
+pub returns : goal.returns
+returns c = search given

@@ -5,7 +5,6 @@ use mathlib.Core.List.{List, ◌++◌, map}
 use native.Mathlib.Omega.{arith}
 use lib.Dec.{T}
 use lib.ListN.{length, drop, length-take, length-drop}
-use borrow.Author.Rules.{rules}
 use Rattle.nets.specs.declared.Pick.{Pick}
 use Rattle.nets.specs.declared.Net as Code
 use Rattle.nets.specs.declared.Saved.{Saved}
@@ -21,8 +20,7 @@ use Rattle.call_rules.specs.Calls.{Gives}
 use Rattle.call_rules.proofs.CallLaws.{needed-is, gives-short, gives-put}
 use Rattle.call_moment.proofs.NetShapes.{nodes_in, few-threads}
 use Rattle.call_each.proofs.ThreadsLeft.{all-stacked, threads-put, threads-size}
-use Rattle.call_each.proofs.threads.threads_left.Statement.{statement}
-use Rattle.call_each.proofs.threads.threads_left.Tie as tie
+use Rattle.call_each.proofs.threads.threads_left.Goals as goal
 
 module _ (m : Net) (ps : List Pick) (net : Code.Net) (e : (view net ≡ after m ps) × T (sound (view net))) (o : List ℕ) where
   short : length o < net.threadcount * 24 → Gives (if_room (threads_put m ps) o) o o 21 (net.threadcount * 24)
@@ -32,21 +30,16 @@ module _ (m : Net) (ps : List Pick) (net : Code.Net) (e : (view net ≡ after m 
       Gives (if_room (threads_put m ps) o) o (ys ++ drop (net.threadcount * 24 - 0) o) 0 (net.threadcount * 24)
   given ys h q = gives-put (threads_put m ps) o (net.threadcount * 24) (threads-size m ps net e.0) ys h (q (nodes_in net) net.saved ∙ sym (threads-put m ps net e.0))
 
-put-threads-requires : tie.Need-put-threads-requires
-put-threads-requires c κs =
-    let r = c.before.before.before.run-picks in
+pub put_threads-requires : goal.put_threads-requires
+put_threads-requires c =
+    let r = c.run_picks-left in
     (few-threads r.result r.ensures.1, all-stacked r.result r.ensures.1, simp (length-take, length-drop) (omega arith))
 
-pub threads-left-spec : {M : Type 1} → statement M
-threads-left-spec =
-    tie.close
-    (tie.spec
-    (λ c κs. search rules)
-    (λ c. omega (arith, few-threads c.run-picks.result c.run-picks.ensures.1))
-    (λ c. search short)
-    (λ c. search rules)
-    (λ c. search rules)
-    (λ c. search rules)
-    put-threads-requires
-    (λ c. search rules)
-    (λ c. search given))
+pub overflow_mul-size : goal.overflow_mul-size
+overflow_mul-size c = omega (arith, few-threads c.run_picks-left.result c.run_picks-left.ensures.1)
+
+pub returns-then-out-size : goal.returns-then-out-size
+returns-then-out-size c = search short
+
+pub returns : goal.returns
+returns c = search given

@@ -1,0 +1,18 @@
+use Prim.Native.Nat.{◌-◌, ◌*◌, ◌≤◌}
+use mathlib.Core.Path.{◌≡◌}
+use mathlib.Core.List.{◌++◌}
+use lib.ListN.{length, drop}
+use Rattle.call_each.proofs.OwnPicks.{passed}
+use Rattle.call_each.proofs.picks.put_picks.Given as goal
+
+abbrev pub invariant-loop-i : goal.invariant-loop-i
+invariant-loop-i l =
+    record {
+      within : l.i ≤ l.count;
+      full : length l.out ≡ l.count * 2;
+      was : length l.initial.out ≡ l.count * 2;
+      filled : l.out ≡ passed l.i l.picks ++ drop (l.i * 2) l.initial.out;
+    }
+
+abbrev pub decreases-loop-i : goal.decreases-loop-i
+decreases-loop-i l = l.count - l.i
