@@ -2,8 +2,5 @@ use Prim.Native.Nat.{◌-◌}
 use borrow.Author.Rules.{rules}
 use Rattle.test_compare.proofs.parts.same_rows.Given as goal
 
-abbrev pub invariant-loop-i : goal.invariant-loop-i
-invariant-loop-i l = Unit {0}
-
 abbrev pub decreases-loop-i : goal.decreases-loop-i
 decreases-loop-i l = 16 - l.i
