@@ -1,13 +1,12 @@
 -- `call_run::answers_given` meets its contract: too little room, or all answers and then the bytes that stood there. Assumes nothing.
-use Prim.Native.Nat.{ℕ, ◌*◌, ◌/◌, ◌<◌, ◌≤◌, ◌^◌}
+use Prim.Native.Nat.{ℕ, ◌*◌, ◌/◌}
 use mathlib.Core.Path.{◌≡◌, sym, ap, ◌∙◌}
 use mathlib.Core.Bool.{true, false}
 use mathlib.Core.List.{List}
 use native.Mathlib.Omega.{arith}
 use lib.Dec.{leb}
 use lib.ListN.{length}
-use borrow.Author.Rules.{rules}
-use borrow.Author.Tests.{leb-true, leb-false, not-true, not-false}
+use borrow.Author.Tests.{leb-true, leb-false}
 use Rattle.value_bytes.specs.Bytes.{put_all}
 use Rattle.nets.specs.Nets.{Net}
 use Rattle.nets.specs.View.{view}
@@ -18,8 +17,7 @@ use Rattle.step_bytes.proofs.AnswerLaws.{answers-size}
 use Rattle.call_rules.specs.Replies.{needed, if_room}
 use Rattle.call_rules.specs.Calls.{Gives}
 use Rattle.call_rules.proofs.CallLaws.{gives-short, gives_all}
-use Rattle.call_run.proofs.answers_given.Statement.{statement}
-use Rattle.call_run.proofs.answers_given.Tie as tie
+use Rattle.call_run.proofs.answers_given.Goals as goal
 
 module _ (m : Net) (picks o : List ℕ) where
   size : length (answers_put m (picks_in picks)) ≡ length picks / 2 * 24
@@ -31,36 +29,12 @@ module _ (m : Net) (picks o : List ℕ) where
   given : (out : List ℕ) → leb (length picks / 2 * 24) (length o) ≡ true → out ≡ put_all (answers_put m (picks_in picks)) o → Gives (if_room (answers_put m (picks_in picks)) o) o out 0 (length picks / 2 * 24)
   given out h e = gives_all (answers_put m (picks_in picks)) o (length picks / 2 * 24) size out (leb-true _ _ h) e
 
-returns : tie.Need-returns
+pub returns-then-not-has_room : goal.returns-then-not-has_room
+returns-then-not-has_room c =
+    let a = c.args in
+    short (view a.net) a.picks.now a.out.now _ (sym c.has_room.ensures ∙ c.if-not-has_room.true) c.answers_length.ensures
+
+pub returns : goal.returns
 returns c =
-    let a = c.before.before.before.before.before.args in
-    short (view a.net) a.picks.now a.out.now _ (sym c.before.before.has_room.ensures ∙ not-true _ c.before.if1.true) c.answers-length.ensures
-
--- there is room for all
-fits : (c : tie.After-slice-known2) →
-    leb (length c.before.before.before.before.before.before.before.before.args.picks.now / 2 * 24) (length c.before.before.before.before.before.before.before.before.args.out.now) ≡ true
-fits c = let e = c.before.before.before.before in sym e.before.has_room.ensures ∙ not-false _ e.if1.false
-
-mul-t5 : tie.Need-overflow-mul-t5
-mul-t5 c =
-    let a = c.before.before.before.before.before.before.before.before.args in
-    let h : length a.picks.now / 2 * 24 ≤ length a.out.now = leb-true _ _ (fits c) in
-    let k : length a.out.now < 2 ^ 64 = search rules in
-    record { fits = omega (arith, h, k) }
-
-returns-2 : tie.Need-returns-2
-returns-2 c =
-    let a = c.before.before.before.before.before.before.before.before.args in
-    given (view a.net) a.picks.now a.out.now _ (fits c) c.before.before.carry-out.ensures.1
-
-pub answers-given-spec : {M : Type 1} → statement M
-answers-given-spec =
-    tie.close
-    (tie.spec
-    (λ c κs. search rules)
-    (λ c κs. search rules)
-    returns
-    (λ c κs. search rules)
-    mul-t5
-    (λ c. search rules)
-    returns-2)
+    let a = c.args in
+    given (view a.net) a.picks.now a.out.now _ (sym c.has_room.ensures ∙ c.if-not-has_room.false) c.carry_out.ensures.1
