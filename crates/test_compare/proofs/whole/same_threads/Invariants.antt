@@ -1,5 +1,4 @@
 use Prim.Native.Nat.{◌-◌}
-use borrow.Author.Rules.{rules}
 use Rattle.test_compare.proofs.whole.same_threads.Given as goal
 
 abbrev pub decreases-loop-i : goal.decreases-loop-i
