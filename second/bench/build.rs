@@ -32,7 +32,7 @@ fn link_proved() {
     let library = directory.join("libbench.a");
     assert!(
         library.is_file(),
-        "{} is not there; make it with `rt lib bench && tools/place bench` at the root of the repository",
+        "{} is not there; make it with `(cd crates/bench && rt lib) && tools/place bench` at the root of the repository",
         library.display()
     );
     println!("cargo::rerun-if-changed={}", library.display());
