@@ -141,7 +141,7 @@ fn with_looked_the_program_holds_the_engine_to_stored_examples() {
 /// `compare` itself is none of these programs: without arguments it fails.
 #[test]
 fn the_program_counts_a_failing_program_as_different() {
-    for printer in [&[][..], &["--sums"], &["--pages"], &["--looked"], &["--windows"]] {
+    for printer in [&[][..], &["--sums"], &["--pages"], &["--looked"]] {
         let (success, text) =
             run(&[&[env!("CARGO_BIN_EXE_compare"), "--count", "3"], printer].concat());
         assert!(!success);
@@ -150,14 +150,24 @@ fn the_program_counts_a_failing_program_as_different() {
 }
 
 #[test]
-fn a_program_prints_sums_or_pages_or_looks_or_windows_but_no_two() {
-    for two in [
-        ["--sums", "--pages"],
-        ["--pages", "--looked"],
-        ["--looked", "--sums"],
-        ["--looked", "--windows"],
-        ["--windows", "--sums"],
-    ] {
+fn a_program_prints_sums_or_pages_or_looks_but_no_two() {
+    for two in [["--sums", "--pages"], ["--pages", "--looked"], ["--looked", "--sums"]] {
+        let (success, text) = run(&[&["true", "--count", "0"], &two[..]].concat());
+        assert!(!success);
+        assert_eq!(text, "");
+    }
+}
+
+#[test]
+fn the_program_counts_a_failing_program_of_windows_as_different() {
+    let (success, text) = run(&[env!("CARGO_BIN_EXE_compare"), "--count", "3", "--windows"]);
+    assert!(!success);
+    assert!(text.ends_with("\n0 agreed, 3 differed\n"), "{text}");
+}
+
+#[test]
+fn a_program_that_prints_windows_prints_nothing_else() {
+    for two in [["--looked", "--windows"], ["--windows", "--sums"]] {
         let (success, text) = run(&[&["true", "--count", "0"], &two[..]].concat());
         assert!(!success);
         assert_eq!(text, "");
