@@ -78,6 +78,20 @@ tries netrun </dev/null
 prints_nothing
 says_nothing
 
+# Where nobody reads the pipe, the status is 141 and standard error is empty, of a text in place of records, too.
+for input in marked "$ROOT/examples/update.net"; do
+    tried="netrun <$input | true"
+    : >out
+    {
+        sleep 0.2
+        netrun <"$input" 2>err
+        echo $? >told
+    } | true
+    status=$(cat told)
+    exits 141
+    says_nothing
+done
+
 # What valgrind reports of printed Ints is harmless, and the file that says why suppresses it.
 if command -v valgrind >valgrind.path; then
     for example in insert aggregates; do

@@ -17,16 +17,21 @@ pub fn tell_failed(rt: &impl Eprint, what: &str, failed: Option<io::Error>) {
 // What a shell sees of a program that a pipe with no reader ends.
 const NO_READER: u8 = 141;
 
+// Whether nobody reads the pipe that was written to. The program says nothing more then, as one that the system's signal ends.
+pub fn is_unread(written: &io::Result<()>) -> bool {
+    match written {
+        Ok(()) => false,
+        Err(why) => matches!(why.kind(), io::ErrorKind::BrokenPipe),
+    }
+}
+
 // The status after the output: 0 also where it could not be written, and then standard error says so; where nobody reads the pipe, nothing is said.
 pub fn status_after(rt: &impl Eprint, written: io::Result<()>, what: &str) -> ExitCode {
-    match written {
-        Ok(()) => ExitCode::SUCCESS,
-        Err(why) => {
-            if matches!(why.kind(), io::ErrorKind::BrokenPipe) {
-                return ExitCode::from(NO_READER);
-            }
-            tell_failed(rt, what, Some(why));
-            ExitCode::SUCCESS
-        }
+    if is_unread(&written) {
+        return ExitCode::from(NO_READER);
     }
+    if let Err(why) = written {
+        tell_failed(rt, what, Some(why));
+    }
+    ExitCode::SUCCESS
 }

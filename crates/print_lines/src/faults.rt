@@ -1,5 +1,6 @@
 // What is told of a refused file.
 use crate::buffer::{put_byte, put_bytes, put_decimal, write_buffer};
+use crate::endings::is_unread;
 use crate::text::reads_as_text;
 use std::io;
 
@@ -21,7 +22,7 @@ pub fn print_refused(
     place: usize,
 ) -> io::Result<()> {
     let written = print_fault(rt, number, place);
-    if reads_as_text(file) {
+    if reads_as_text(file) && !is_unread(&written) {
         let _ = eprintln!(rt;
             "hint: this reads as text; netasm makes records of a text: netasm NET.nettext -o NET.net"
         );
