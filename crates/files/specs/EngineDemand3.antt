@@ -1,4 +1,4 @@
--- Demand 3 of the engine: one statement about what `load` and `step` returned. `engine-demand3` in proofs/EngineLaws proves it.
+-- Demand 3 of the engine: one statement about what `load` and `step` returned. `engine_demand3` in proofs/EngineLaws proves it.
 --
 -- The demand, part by part, and where each part stands:
 --
@@ -11,10 +11,10 @@
 --   standing + taken = loaded + added           `balance`, for each site, name and row: standing in the last net returned, loaded by the file's row
 --                                               records, added and taken by the accounts of the file and the picks
 --   what no done step acted on is as loaded     `untouched`: the file's table with its rows in order, or none
---   reported counts sum to what was added       `addedAll`, `addedAccounts`, `addedSum`: the sum of the counts in the answers returned is the number of
+--   reported counts sum to what was added       `added_all`, `added_accounts`, `added_sum`: the sum of the counts in the answers returned is the number of
 --   and taken, exactly                          all rows added, and the accounts summed over all sites, names and rows; `taken..` likewise
 --
--- The parts themselves are the fields of `FileDemand3`, which has one more, `isSound`: the last net returned is sound, so no later pick is refused by 10. Nothing here speaks of a pick by itself: it is one claim about the list.
+-- The parts themselves are the fields of `FileDemand3`, which has one more, `is_sound`: the last net returned is sound, so no later pick is refused by 10. Nothing here speaks of a pick by itself: it is one claim about the list.
 use Rattle.std.specs.Prelude.{ℕ, ◌≡◌, List, [], ◌∷◌, map}
 use Rattle.values.specs.Lists.{sum}
 use Rattle.nets.specs.declared.Pick.{Pick}

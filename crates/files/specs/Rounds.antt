@@ -1,5 +1,5 @@
 -- What a round binds ends with the round, as a theorem about what `load` and `step` returned: between two rounds of a sequential loop its thread has the very bindings that the loop's entry keeps,
--- those of the moment when the loop was first met. So T means the same in every round, and the thread goes on with them when the loop is over. `every-round-ends` in proofs/RoundLaws proves it.
+-- those of the moment when the loop was first met. So T means the same in every round, and the thread goes on with them when the loop is over. `every_round_ends` in proofs/RoundLaws proves it.
 use Rattle.std.specs.Prelude.{ℕ, ◌≡◌, List, [], ◌∷◌, T, get_or}
 use Rattle.nets.specs.declared.Pick.{Pick}
 use Rattle.nets.specs.declared.Stepped.{Stepped}

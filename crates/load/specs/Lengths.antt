@@ -1,4 +1,4 @@
--- What a file's length alone says of it: checks 1 and 2. Only the code speaks of it: the rule is `loadBytes`.
+-- What a file's length alone says of it: checks 1 and 2. Only the code speaks of it: the rule is `load_bytes`.
 use Rattle.std.specs.Prelude.{ℕ, ◌<◌, ◌≡◌, List, length}
 use Rattle.record_bytes.specs.Decoding.{records_in}
 use Rattle.files.specs.Loading.{rejected, load, load_bytes}

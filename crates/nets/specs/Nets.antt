@@ -16,7 +16,7 @@ pub record Table : Type 0 where
 
 -- ── kinds of nodes ──
 
--- the six that act on a table, and the others; `badKind` is any other byte
+-- the six that act on a table, and the others; `bad_kind` is any other byte
 pub data Act : Type 0 where
   insert insert_table delete update create drop : Act
 

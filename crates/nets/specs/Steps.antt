@@ -18,7 +18,7 @@ use Rattle.nets.specs.Scenes.{Scene, below, scene_of, vars, template, site_of_l,
 
 -- ── the checks 12..20 ──
 
--- checks 16 to 18 and `roomBy` take `Parts` and not the whole scene, so that contracts of the code can cite them, too
+-- checks 16 to 18 and `room_by` take `Parts` and not the whole scene, so that contracts of the code can cite them, too
 
 abbrev pub is_bound : Vars → ℕ → Bool
 is_bound e i = is_got (get_or e i Nothing)

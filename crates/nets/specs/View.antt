@@ -97,7 +97,7 @@ kinds =
     ∷ other parallel
     ∷ []
 
--- every kind there is: the known ones, and `badKind` for any other byte. Only proofs use it
+-- every kind there is: the known ones, and `bad_kind` for any other byte. Only proofs use it
 abbrev pub every_kind : List Kind
 every_kind = other bad_kind ∷ kinds
 

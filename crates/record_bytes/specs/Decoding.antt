@@ -89,7 +89,7 @@ row_form r =
     && operands_ok 3 (operands_in (part 56 88 r))
     && zeros (part 88 104 r)
 
--- what a node of kind `k` asks of its bytes beyond what the fields of `nodeIn` show: numbers of predicate and function, operands, and unused bytes
+-- what a node of kind `k` asks of its bytes beyond what the fields of `node_in` show: numbers of predicate and function, operands, and unused bytes
 unfoldable pub node_bytes : Kind → List ℕ → Bool
 node_bytes k r =
     is_test (at r 3)

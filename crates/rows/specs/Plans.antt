@@ -1,4 +1,4 @@
--- Selectors and tuples prepared for one relation. Only the code speaks of plans: the rules are `hits` and `draftFor`, and laws tie the two.
+-- Selectors and tuples prepared for one relation. Only the code speaks of plans: the rules are `hits` and `draft_for`, and laws tie the two.
 use Rattle.std.specs.Prelude.{ℕ, suc, ◌<◌, ◌≡◌, Bool, true, false, cond, ◌&&◌, ◌||◌, List, [], ◌∷◌, eqb, ltb, length, get_or}
 use Rattle.std.proofs.Math.Option.{Option, none, some}
 use Rattle.values.specs.declared.Value.{Value}

@@ -1,4 +1,4 @@
--- How many places of two lists are looked at (`lookedAt`), beside whether the lists agree. Assumes nothing.
+-- How many places of two lists are looked at (`looked_at`), beside whether the lists agree. Assumes nothing.
 use Prim.Native.Nat.{ℕ, zero, suc, ◌≤◌, ◌<◌}
 use mathlib.Core.Path.{◌≡◌, refl, ap, ap₂, ◌∙◌, subst}
 use mathlib.Core.Bool.{Bool, true, false, cond, ◌&&◌}

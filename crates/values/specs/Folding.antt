@@ -1,4 +1,4 @@
--- A text with its small letters as capitals, again as one number. Only the code speaks of it: the rule is `textOrder`.
+-- A text with its small letters as capitals, again as one number. Only the code speaks of it: the rule is `text_order`.
 use Rattle.std.specs.Prelude.{ℕ, ◌+◌, ◌*◌, ◌/◌, ◌%◌}
 use Rattle.values.specs.Values.{upper}
 

@@ -1,4 +1,4 @@
--- `net_parts::nodes::plain_ok` meets its contract: each test is a clause of `fieldsOkAs` for the four kinds with a place and no T.
+-- `net_parts::nodes::plain_ok` meets its contract: each test is a clause of `fields_ok_as` for the four kinds with a place and no T.
 use mathlib.Core.Path.{refl, sym, ap, ◌∙◌}
 use mathlib.Core.Bool.{true, false, not, ◌&&◌, ◌||◌}
 use lib.Dec.{eqb}

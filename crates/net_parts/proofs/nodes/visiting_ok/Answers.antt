@@ -1,4 +1,4 @@
--- `net_parts::nodes::visiting_ok` meets its contract: each test is a clause of `fieldsOkAs` for the two loops.
+-- `net_parts::nodes::visiting_ok` meets its contract: each test is a clause of `fields_ok_as` for the two loops.
 use mathlib.Core.Path.{◌≡◌, refl, sym, ap, ◌∙◌}
 use mathlib.Core.Bool.{true, false, not, ◌||◌}
 use lib.Dec.{eqb}
