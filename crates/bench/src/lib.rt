@@ -25,12 +25,9 @@ pub struct Chained {
 #[unsafe(no_mangle)]
 pub extern "C" fn bench_steps(tables: &[u8], program: &[u8], kind: u8, repeats: u64) -> u64 {
     let net = start(tables, program);
-    let mut sum: u64 = 0;
-    let mut i: u64 = 0;
-    while i < repeats {
-        let r = chain(Chained { net, sum }, kind);
-        sum = r.sum;
-        i += 1;
+    let mut sum = 0;
+    for _ in 0..repeats {
+        sum = chain(Chained { net, sum }, kind).sum;
     }
     sum
 }
@@ -40,6 +37,5 @@ pub extern "C" fn bench_steps(tables: &[u8], program: &[u8], kind: u8, repeats: 
 pub extern "C" fn bench_left(tables: &[u8], program: &[u8], kind: u8) -> u64 {
     let net = start(tables, program);
     let r = chain(Chained { net, sum: 0 }, kind);
-    let left = r.net;
-    with_net(r.sum, left)
+    with_net(r.sum, r.net)
 }

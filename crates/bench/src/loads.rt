@@ -1,48 +1,35 @@
 // Loading, and sums over what it gave.
 use crate::summing::{with, with_net};
-use files::{Loaded, Verdict};
+use files::{Fault, Loaded};
 use load::load;
 use nets::Node;
 
 fn with_nodes(before: u64, nodes: [Node; 128], count: usize) -> u64 {
-    let mut sum = before;
-    let mut i: usize = 0;
-    while i < 128 {
-        if i < count {
-            let n = nodes[i];
-            sum = with(sum, n.next as u64);
-        }
-        i += 1;
-    }
-    sum
+    nodes
+        .iter()
+        .take(count)
+        .fold(before, |sum, n| with(sum, n.next as u64))
 }
 
-fn number_in(v: Verdict) -> u64 {
-    match v {
-        Verdict::Accepted => 0,
-        Verdict::Fault(number, _) => number as u64,
+// The number of the fault, 0 for none.
+fn number_in(verdict: Result<(), Fault>) -> u64 {
+    match verdict {
+        Ok(()) => 0,
+        Err(fault) => fault.number as u64,
     }
 }
 
 fn with_loaded(sum: u64, l: Loaded) -> u64 {
-    let verdict = l.verdict;
-    let net = l.net;
-    let nodes = net.nodes;
-    with_nodes(
-        with_net(with(sum, number_in(verdict)), net),
-        nodes,
-        net.nodecount,
-    )
+    let before = with_net(with(sum, number_in(l.verdict)), l.net);
+    with_nodes(before, l.net.nodes, l.net.nodecount)
 }
 
 // A file loaded a number of times.
 #[unsafe(no_mangle)]
 pub extern "C" fn bench_loads(file: &[u8], repeats: u64) -> u64 {
-    let mut sum: u64 = 0;
-    let mut i: u64 = 0;
-    while i < repeats {
+    let mut sum = 0;
+    for _ in 0..repeats {
         sum = with_loaded(sum, load(file));
-        i += 1;
     }
     sum
 }
@@ -51,11 +38,9 @@ pub extern "C" fn bench_loads(file: &[u8], repeats: u64) -> u64 {
 #[unsafe(no_mangle)]
 pub extern "C" fn bench_loaded(file: &[u8], repeats: u64) -> u64 {
     let l = load(file);
-    let mut sum: u64 = 0;
-    let mut i: u64 = 0;
-    while i < repeats {
+    let mut sum = 0;
+    for _ in 0..repeats {
         sum = with_loaded(sum, l);
-        i += 1;
     }
     sum
 }

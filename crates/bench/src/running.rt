@@ -2,23 +2,19 @@
 use crate::Chained;
 use crate::picking::{chain_length, pick_at};
 use crate::summing::with_answer;
-use nets::{Answer, Stepped};
+use nets::{Done, Stepped};
 use steps::step;
 
 // A chain, soundness tested at each step.
 pub fn chain(from: Chained, kind: u8) -> Chained {
-    let count = chain_length(kind);
-    let net = from.net;
-    let answer = Answer::Done(0, 0);
+    let mut s = Stepped {
+        answer: Ok(Done { added: 0, taken: 0 }),
+        net: from.net,
+    };
     let mut sum = from.sum;
-    let mut s = Stepped { answer, net };
-    let mut n: u64 = 0;
-    while n < count {
+    for n in 0..chain_length(kind) {
         s = step(s.net, pick_at(kind, n));
-        let a = s.answer;
-        sum = with_answer(sum, a);
-        n += 1;
+        sum = with_answer(sum, s.answer);
     }
-    let left = s.net;
-    Chained { net: left, sum }
+    Chained { net: s.net, sum }
 }

@@ -2,9 +2,9 @@
 ghost use Rattle.std.specs.Prelude.{◌<◌};
 
 use nets::refusals::number_of;
-use nets::{Answer, Net, Table, TableVariable, Thread};
+use nets::{Answer, Done, Net, Table, TableVariable, Thread};
 use rows::{Relation, Row};
-use values::{Got, Slot, Value};
+use values::Value;
 
 // The sum with one number more.
 pub fn with(sum: u64, number: u64) -> u64 {
@@ -16,128 +16,70 @@ pub fn with(sum: u64, number: u64) -> u64 {
 // No count of an answer is over 16.
 pub fn with_answer(sum: u64, a: Answer) -> u64 {
     match a {
-        Answer::Done(added, taken) => with(sum, (added % 32 * 32 + taken % 32 + 1) as u64),
-        Answer::Refused(r) => with(sum, 1025 + number_of(r) as u64),
+        Ok(Done { added, taken }) => with(sum, (added % 32 * 32 + taken % 32 + 1) as u64),
+        Err(r) => with(sum, 1025 + number_of(r) as u64),
     }
 }
 
 // ---- rows
 
-// No Int of these nets is below zero.
-fn magnitude(i: i32) -> u64 {
-    if i < 0 {
-        return 0;
-    }
-    i as u64
-}
-
 fn with_value(sum: u64, v: Value) -> u64 {
     match v {
-        Value::Int(i) => with(with(sum, 1), magnitude(i)),
+        // No Int of these nets is below zero.
+        Value::Int(i) => with(with(sum, 1), i.max(0) as u64),
         Value::Text(t) => with(with(sum, 2), t as u64),
         Value::Loc(l) => with(with(sum, 3), l.0 as u64),
     }
 }
 
-fn with_row(before: u64, row: Row, columns: usize) -> u64 {
-    let mut sum = before;
-    let mut i: usize = 0;
-    while i < 4 {
-        if i < columns {
-            let c = row.cells[i];
-            let v = c.value;
-            sum = with_value(sum, v);
-        }
-        i += 1;
-    }
-    sum
+fn with_row(before: u64, row: &Row, columns: usize) -> u64 {
+    row.cells
+        .iter()
+        .take(columns)
+        .fold(before, |sum, v| with_value(sum, *v))
 }
 
-fn with_relation(before: u64, r: Relation) -> u64 {
-    let count = r.count;
-    let columns = r.columns;
-    let mut sum = with(before, count as u64);
-    let mut i: usize = 0;
-    while i < 16 {
-        if i < count {
-            let row = r.rows[i];
-            sum = with_row(sum, row, columns);
-        }
-        i += 1;
-    }
-    sum
+fn with_relation(before: u64, r: &Relation) -> u64 {
+    r.rows
+        .iter()
+        .take(r.count)
+        .fold(with(before, r.count as u64), |sum, row| {
+            with_row(sum, row, r.columns)
+        })
 }
 
 // ---- nets
 
-fn with_tables(before: u64, tables: [Table; 8], count: usize) -> u64 {
-    let mut sum = before;
-    let mut i: usize = 0;
-    while i < 8 {
-        if i < count {
-            let t = tables[i];
-            let content = t.content;
-            sum = with_relation(sum, content);
-        }
-        i += 1;
-    }
-    sum
+fn with_tables(before: u64, tables: &[Table]) -> u64 {
+    tables
+        .iter()
+        .fold(before, |sum, t| with_relation(sum, &t.content))
 }
 
-fn with_slot(sum: u64, s: Slot) -> u64 {
-    let g = s.held;
-    match g {
-        Got::Nothing => with(sum, 0),
-        Got::One(v) => with_value(sum, v),
+fn with_slot(sum: u64, s: Option<Value>) -> u64 {
+    match s {
+        None => with(sum, 0),
+        Some(v) => with_value(sum, v),
     }
 }
 
-fn with_vars(before: u64, vars: [Slot; 16]) -> u64 {
-    let mut sum = before;
-    let mut i: usize = 0;
-    while i < 16 {
-        let s = vars[i];
-        sum = with_slot(sum, s);
-        i += 1;
+fn with_variable(sum: u64, v: &TableVariable) -> u64 {
+    match v {
+        Some(content) => with_relation(sum, content),
+        None => sum,
     }
-    sum
 }
 
-fn with_variable(sum: u64, v: TableVariable) -> u64 {
-    let content = v.content;
-    if v.bound {
-        return with_relation(sum, content);
-    }
-    sum
+fn with_thread(before: u64, t: &Thread) -> u64 {
+    let vars = t.vars.iter().fold(before, |sum, s| with_slot(sum, *s));
+    let all = t.relations.iter().fold(vars, with_variable);
+    with(all, t.depth as u64)
 }
 
-fn with_thread(before: u64, t: Thread) -> u64 {
-    let vars = t.vars;
-    let a = t.relations[0];
-    let b = t.relations[1];
-    let sum = with_variable(with_variable(with_vars(before, vars), a), b);
-    with(sum, t.depth as u64)
-}
-
-fn with_threads(before: u64, threads: [Thread; 8], count: usize) -> u64 {
-    let mut sum = before;
-    let mut i: usize = 0;
-    while i < 8 {
-        if i < count {
-            let t = threads[i];
-            sum = with_thread(sum, t);
-        }
-        i += 1;
-    }
-    sum
-}
-
-pub fn with_net(sum: u64, net: Net) -> u64 {
-    let tables = net.tables;
-    let threads = net.threads;
-    with_threads(
-        with_tables(sum, tables, net.tablecount),
-        threads,
-        net.threadcount,
-    )
+pub fn with_net(before: u64, net: Net) -> u64 {
+    let tables = with_tables(before, &net.tables[..net.tablecount.min(8)]);
+    net.threads
+        .iter()
+        .take(net.threadcount)
+        .fold(tables, with_thread)
 }

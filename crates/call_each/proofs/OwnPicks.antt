@@ -3,7 +3,7 @@ use Prim.Native.Nat.{ℕ, zero, suc, ◌+◌, ◌*◌, ◌%◌, ◌≤◌, ◌<�
 use mathlib.Core.Path.{◌≡◌, refl, sym, ap, ◌∙◌}
 use mathlib.Core.Bool.{Bool, true, false, cond}
 use mathlib.Core.List.{List, [], ◌∷◌, ◌++◌, append-nil, append_assoc}
-use mathlib.Core.Option.{Option, none, some}
+use Rattle.std.specs.Prelude.{Option, None, Some, Result, Err}
 use native.Mathlib.Omega.{arith}
 use lib.Dec.{eqb, leb}
 use lib.ListN.{length, get_or, drop, set, length-append, length-map, drop_of_length-le}
@@ -18,14 +18,16 @@ use Rattle.record_bytes.specs.Bytes.{parts}
 use Rattle.record_bytes.specs.Decoding.{Record, alias_record, table_record, row_record, node_record, start_record, pick_record, Decoded, bad, good, whole_records, records_in, record_in}
 use Rattle.value_bytes.specs.Bytes.{end_to_end}
 use Rattle.value_bytes.proofs.Stores.{ends-length, ends_next}
-use Rattle.files.specs.declared.Verdict.{Verdict}
-use Rattle.files.specs.declared.Verdict.TheVariants as verdict
+use Rattle.files.specs.declared.Fault.{Fault}
 use Rattle.files.specs.declared.Loaded.{Loaded}
-use Rattle.files.specs.Loading.{Progress, nothing_read, picks_of, advance, load_checks, failing, Reading, stopped, finished, proceed, read_all, LoadAnswer, rejected, accepted, linked, finish, first_bad_link, load, load_bytes, Fault, fault_of, picks_loaded}
-use Rattle.files.specs.Engine.{fault_in, first_picks, LoadIs}
+use Rattle.files.specs.Loading.{Progress, nothing_read, picks_of, advance, load_checks, failing, Reading, stopped, finished, proceed, read_all, LoadAnswer, rejected, accepted, linked, finish, first_bad_link, load, load_bytes, fault_of, picks_loaded}
+use Rattle.files.specs.Engine.{first_picks, LoadIs}
 use Rattle.call_rules.specs.Layouts.{picks_put}
 use Rattle.call_rules.specs.Replies.{Called, refusing, if_room}
-use Rattle.call_rules.specs.Calls.{on_loaded, number_in, place_in, Gives}
+use Rattle.call_rules.specs.Calls.{on_loaded, number_in, place_in}
+use Rattle.call_rules.specs.declared.Refused.{Refused}
+use Rattle.call_rules.specs.declared.Refused.TheVariants.{File}
+use Rattle.call_rules.specs.Openings.{Told}
 
 -- ── how many ──
 
@@ -52,8 +54,8 @@ picks-read i l (good r ∷ xs) = go (picks-read (suc i) (advance l r) xs) (faili
 
     go : length (read_picks (read_all (suc i) (advance l r) xs)) ≤ length (advance l r).picks + length xs → (o : Option ℕ) →
         length (read_picks (proceed o i (read_all (suc i) (advance l r) xs))) ≤ length l.picks + suc (length xs)
-    go h none = omega (arith, h, more)
-    go h (some n) = omega arith
+    go h None = omega (arith, h, more)
+    go h (Some n) = omega arith
 
 parts-length : (k n : ℕ) (l : List ℕ) → length (parts k n l) ≡ n
 parts-length k zero l = refl
@@ -64,8 +66,8 @@ unfolding load
 load-picks xs = go (read_all 0 nothing_read xs) (picks-read 0 nothing_read xs)
   where
     bound : (o : Option ℕ) (l : Progress) → length (picks_loaded (linked o l)) ≤ length l.picks
-    bound none l = omega arith
-    bound (some i) l = omega arith
+    bound None l = omega arith
+    bound (Some i) l = omega arith
 
     go : (x : Reading) → length (read_picks x) ≤ 0 + length xs → length (picks_loaded (finish xs x)) ≤ length xs
     go (stopped n i) h = omega arith
@@ -139,16 +141,16 @@ picks-all ps n i o out a b l e =
 -- ── the reply ──
 
 abbrev told : Option Fault → Called
-told none = refusing 0 0
-told (some f) = refusing f.number f.place
+told None = refusing 0 0
+told (Some f) = refusing f.number f.place
 
-pub picks-refused : (x : LoadAnswer) (made : Net → List Pick → Called) (o : List ℕ) (v : Verdict) (n i : ℕ) → v ≡ verdict.Fault n i → fault_in v ≡ fault_of x → Gives (on_loaded made x) o o n i
-picks-refused (rejected m j) made o v n i e q =
-    let r : refusing n i ≡ refusing m j = ap (λ (w : Verdict). told (fault_in w)) (sym e) ∙ ap told q in
+pub picks-refused : (x : LoadAnswer) (made : Net → List Pick → Called) (o : List ℕ) (f : Fault) → Some f ≡ fault_of x → Told (on_loaded made x) o o (Err (File f))
+picks-refused (rejected m j) made o f q =
+    let r : refusing f.number f.place ≡ refusing m j = ap told q in
     record { number = ap number_in r; place = ap place_in r; buffer = refl }
-picks-refused (accepted net own) made o v n i e q = let z : ◌≡◌ {A = ℕ} 0 1 = cc in absurd (omega arith)
+picks-refused (accepted net own) made o f q = let z : ◌≡◌ {A = ℕ} 0 1 = cc in absurd (omega arith)
 
-pub picks-accepted : (x : LoadAnswer) (o out : List ℕ) (ps : List Pick) (v : Verdict) (n i : ℕ) → v ≡ verdict.Accepted → fault_in v ≡ fault_of x → ps ≡ picks_loaded x →
-    Gives (if_room (picks_put ps) o) o out n i → Gives (on_loaded (λ net own. if_room (picks_put own) o) x) o out n i
-picks-accepted (rejected m j) o out ps v n i e q p g = let z : ◌≡◌ {A = ℕ} 0 1 = cc in absurd (omega arith)
-picks-accepted (accepted net own) o out ps v n i e q p g = rw (sym p) g
+pub picks-accepted : (x : LoadAnswer) (o out : List ℕ) (ps : List Pick) (r : Result ℕ Refused) → None ≡ fault_of x → ps ≡ picks_loaded x →
+    Told (if_room (picks_put ps) o) o out r → Told (on_loaded (λ net own. if_room (picks_put own) o) x) o out r
+picks-accepted (rejected m j) o out ps r q p g = let z : ◌≡◌ {A = ℕ} 0 1 = cc in absurd (omega arith)
+picks-accepted (accepted net own) o out ps r q p g = rw (sym p) g

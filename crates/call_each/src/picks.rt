@@ -3,10 +3,10 @@ ghost use Rattle.std.specs.Prelude.{◌≡◌, ◌*◌, ◌≤◌, length};
 ghost use Rattle.files.specs.Engine.{first_picks};
 ghost use Rattle.call_rules.specs.Layouts.{picks_put};
 ghost use Rattle.call_rules.specs.Replies.{if_room};
-ghost use Rattle.call_rules.specs.Calls.{Gives, PicksIs};
+ghost use Rattle.call_rules.specs.Openings.{Told, number_told, place_told};
+ghost use Rattle.call_rules.specs.Calls.{PicksIs};
 
-use call_rules::Reply;
-use files::Verdict;
+use call_rules::{Refused, Reply};
 use load::load;
 use nets::Pick;
 
@@ -15,44 +15,29 @@ fn put_picks(out: &mut [u8], picks: [Pick; 256], count: usize)
     requires { (count ≤ 256) × (length out.old ≡ count * 2) }
     ensures { out.new ≡ picks_put (first_picks count picks) }
 {
-    let mut i = 0;
-    while i < count {
-        let p = picks[i];
-        out[i * 2] = p.thread;
-        out[i * 2 + 1] = p.row;
-        i += 1;
+    for i in 0..count {
+        out[i * 2] = picks[i].thread;
+        out[i * 2 + 1] = picks[i].row;
     }
 }
 
 // Of a file that is accepted.
 fn picks_given(picks: [Pick; 256], count: usize, out: &mut [u8]) -> Reply
     requires { count ≤ 256 }
-    ensures { Gives (if_room (picks_put (first_picks count picks)) out.old) out.old out.new result.number result.place }
+    ensures { Told (if_room (picks_put (first_picks count picks)) out.old) out.old out.new result }
 {
     let size = count * 2;
     if out.len() < size {
-        return Reply {
-            number: 21,
-            place: size,
-        };
+        return Err(Refused::Short(size));
     }
     put_picks(&mut out[0..size], picks, count);
-    Reply {
-        number: 0,
-        place: size,
-    }
+    Ok(size)
 }
 
 pub fn call_picks(file: &[u8], out: &mut [u8]) -> Reply
-    ensures { PicksIs file.now out.old out.new result.number result.place }
+    ensures { PicksIs file.now out.old out.new (number_told result) (place_told result) }
 {
     let loaded = load(file);
-    let verdict = loaded.verdict;
-    match verdict {
-        Verdict::Fault(number, place) => Reply { number, place },
-        Verdict::Accepted => {
-            let picks = loaded.picks;
-            picks_given(picks, loaded.pickcount, out)
-        }
-    }
+    loaded.verdict?;
+    picks_given(loaded.picks, loaded.pickcount, out)
 }

@@ -5,10 +5,11 @@ ghost use Rattle.nets.specs.View.{view};
 ghost use Rattle.call_rules.specs.Layouts.{threads_put};
 ghost use Rattle.step_bytes.specs.PickBytes.{picks_in};
 ghost use Rattle.call_rules.specs.Replies.{if_room};
-ghost use Rattle.call_rules.specs.Calls.{Gives, ThreadsIs};
+ghost use Rattle.call_rules.specs.Openings.{Told, number_told, place_told};
+ghost use Rattle.call_rules.specs.Calls.{ThreadsIs};
 
 use call_open::open_file;
-use call_rules::{Opening, Reply, refusal_reply};
+use call_rules::{Refused, Reply};
 use call_run::run_picks;
 use call_thread::{THREAD, put_threads};
 use nets::Net;
@@ -16,35 +17,21 @@ use nets::Net;
 // Of a file and picks that are accepted.
 fn threads_left(net: Net, picks: &[u8], out: &mut [u8]) -> Reply
     requires { T (sound (view net)) }
-    ensures { Gives (if_room (threads_put (view net) (picks_in picks.now)) out.old) out.old out.new result.number result.place }
+    ensures { Told (if_room (threads_put (view net) (picks_in picks.now)) out.old) out.old out.new result }
 {
     let left = run_picks(net, picks);
     let count = left.threadcount;
     let size = count * THREAD;
     if out.len() < size {
-        return Reply {
-            number: 21,
-            place: size,
-        };
+        return Err(Refused::Short(size));
     }
-    let threads = left.threads;
-    put_threads(&mut out[0..size], threads, count);
-    Reply {
-        number: 0,
-        place: size,
-    }
+    put_threads(&mut out[0..size], left.threads, count);
+    Ok(size)
 }
 
 pub fn call_threads(file: &[u8], picks: &[u8], out: &mut [u8]) -> Reply
-    ensures { ThreadsIs file.now picks.now out.old out.new result.number result.place }
+    ensures { ThreadsIs file.now picks.now out.old out.new (number_told result) (place_told result) }
 {
-    let opened = open_file(file, picks);
-    let opening = opened.opening;
-    match opening {
-        Opening::Refused(why) => refusal_reply(why),
-        Opening::Accepted => {
-            let net = opened.net;
-            threads_left(net, picks, out)
-        }
-    }
+    let net = open_file(file, picks)?;
+    threads_left(net, picks, out)
 }

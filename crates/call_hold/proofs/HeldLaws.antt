@@ -10,7 +10,7 @@ use lib.ListN.{get_or}
 use Rattle.nets.specs.declared.Entry.{Entry}
 use Rattle.nets.specs.declared.Entry.TheVariants.{Run, Loop}
 use Rattle.nets.specs.declared.Frame.{Frame}
-use Rattle.nets.specs.declared.TableVariable.{TableVariable}
+use Rattle.nets.specs.View.{TableVariable}
 use Rattle.nets.specs.declared.Saved.{Saved}
 use Rattle.nets.specs.declared.Thread.{Thread}
 use Rattle.nets.specs.Nets as M

@@ -3,22 +3,20 @@ use Prim.Native.Nat.{ℕ, zero, suc, ◌+◌, ◌-◌, ◌*◌, ◌<◌, ◌≤�
 use mathlib.Core.Path.{◌≡◌, refl, sym, ap, subst, ◌∙◌}
 use mathlib.Core.Bool.{Bool, true, false, cond}
 use mathlib.Core.List.{List, [], ◌∷◌, ◌++◌}
-use mathlib.Core.Option.{none, some}
+use Rattle.std.specs.Prelude.{None, Some}
 use native.Mathlib.Omega.{arith}
 use native.Mathlib.Numerals.{add-one}
 use borrow.Author.Tests.{eq-eqb, ne_eqb}
 use lib.Dec.{eqb}
 use lib.ListN.{length, get_or, length-append, length-map, get_or-map}
 use Rattle.values.specs.declared.Value.TheVariants.{Int, Text, Loc}
-use Rattle.values.specs.declared.Got.{Got}
-use Rattle.values.specs.declared.Got.TheVariants.{Nothing, One}
+use Rattle.values.specs.Operands.{Got}
 use Rattle.values.specs.Lists.{places}
-use Rattle.values.specs.declared.Slot.{Slot}
-use Rattle.values.specs.Operands.{Vars, vars_of, values_in}
+use Rattle.values.specs.Operands.{Vars, values_in}
 use Rattle.values.proofs.Firsts.{length-firsts}
 use Rattle.rows.specs.View.{Shaped, no_row, values_of, relation_of}
 use Rattle.nets.specs.declared.Frame.{Frame}
-use Rattle.nets.specs.declared.TableVariable.{TableVariable}
+use Rattle.nets.specs.View.{TableVariable}
 use Rattle.nets.specs.declared.Saved.{Saved}
 use Rattle.nets.specs.declared.Thread.{Thread}
 use Rattle.nets.specs.Nets as M
@@ -37,13 +35,13 @@ use Rattle.call_hold.proofs.RecordLaws.{values_length}
 
 pub variable-length : (vs : Vars) (i : ℕ) → length (variable_record vs i) ≡ 104
 unfolding values_record tuple_bytes
-variable-length vs i = go (get_or vs i Nothing)
+variable-length vs i = go (get_or vs i None)
   where
     go : (g : Got) → length (values_record 66 i (values_in (g ∷ []))) ≡ 104
-    go Nothing = refl
-    go (One (Int n)) = refl
-    go (One (Text t)) = refl
-    go (One (Loc l)) = refl
+    go None = refl
+    go (Some (Int n)) = refl
+    go (Some (Text t)) = refl
+    go (Some (Loc l)) = refl
 
 variables_count : (vs : Vars) → length (variable_records vs) ≡ 16
 unfolding variable_records
@@ -56,56 +54,44 @@ variables_sized vs = sized-map 104 (variable_record vs) (variable-length vs) (pl
 -- ── table variables ──
 
 -- an unbound one has its own record alone, a bound one that and its rows
-pub none-held : (v : TableVariable) → v.bound ≡ false → rows_given v ≡ 0
-none-held v e = rw e refl
-
-pub some-held : (v : TableVariable) → v.bound ≡ true → rows_given v ≡ v.content.count
-some-held v e = rw e refl
-
 relation-count : (i : ℕ) (v : TableVariable) → length (relation_records i (variable_of v)) ≡ 1 + rows_given v
-relation-count i v = go v.bound
-  where
-    go : (b : Bool) → length (relation_records i (cond b (some (relation_of v.content)) none)) ≡ 1 + cond b v.content.count 0
-    go true = let r = v.content in rw (length-map, length-firsts (values_of r.columns) no_row r.count r.rows) (omega arith)
-    go false = refl
+relation-count i (Some r) = rw (length-map, length-firsts (values_of r.columns) no_row r.count r.rows) (omega arith)
+relation-count i None = refl
 
 pub head-length : (i b : ℕ) (cs : List ℕ) → length (relation_head i b cs) ≡ 104
 unfolding relation_head
 head-length i b cs = refl
 
 relation-sized : (i : ℕ) (v : TableVariable) → VariableShaped v → Sized 104 (relation_records i (variable_of v))
-relation-sized i v k = go v.bound k.shaped
-  where
-    go : (b : Bool) → (b ≡ true → Shaped v.content) → Sized 104 (relation_records i (cond b (some (relation_of v.content)) none))
-    go true h = (head-length i 1 _, sized-firsts 104 (values_record 68 i) (values_of v.content.columns) no_row (λ x. values_length v.content.columns x (h refl).columns 68 i) v.content.count v.content.rows)
-    go false h = (head-length i 0 _, tt)
+relation-sized i (Some r) k = (head-length i 1 _, sized-firsts 104 (values_record 68 i) (values_of r.columns) no_row (λ x. values_length r.columns x k.shaped.columns 68 i) r.count r.rows)
+relation-sized i None k = (head-length i 0 _, tt)
 
 -- ── bindings ──
 
-module _ (vs : List Slot) (rs : List TableVariable) where
+module _ (vs : List Got) (rs : List TableVariable) where
   -- the records of bindings, by the code's own parts
-  pub bindings_are : bindings_records (bindings_of vs rs) ≡ variable_records (vars_of vs) ++ (relation_records 0 (variable_of (get_or rs 0 no_variable)) ++ relation_records 1 (variable_of (get_or rs 1 no_variable)))
+  pub bindings_are : bindings_records (bindings_of vs rs) ≡ variable_records vs ++ (relation_records 0 (variable_of (get_or rs 0 no_variable)) ++ relation_records 1 (variable_of (get_or rs 1 no_variable)))
   bindings_are = rw (get_or-map variable_of rs 0 no_variable, get_or-map variable_of rs 1 no_variable)
 
   pub bindings-count : length (bindings_records (bindings_of vs rs)) ≡ records_given rs
   bindings-count =
       ap length bindings_are
-      ∙ simp length-append (omega (arith, variables_count (vars_of vs), relation-count 0 (get_or rs 0 no_variable), relation-count 1 (get_or rs 1 no_variable)))
+      ∙ simp length-append (omega (arith, variables_count vs, relation-count 0 (get_or rs 0 no_variable), relation-count 1 (get_or rs 1 no_variable)))
 
   pub bindings-sized : RelationsShaped rs → Sized 104 (bindings_records (bindings_of vs rs))
   bindings-sized k =
       let a = relation_records 0 (variable_of (get_or rs 0 no_variable)) in
       let b = relation_records 1 (variable_of (get_or rs 1 no_variable)) in
       subst (Sized 104) (sym bindings_are)
-      (sized-append 104 (variable_records (vars_of vs)) (a ++ b) (variables_sized (vars_of vs)) (sized-append 104 a b (relation-sized 0 (get_or rs 0 no_variable) k.first) (relation-sized 1 (get_or rs 1 no_variable) k.second)))
+      (sized-append 104 (variable_records vs) (a ++ b) (variables_sized vs) (sized-append 104 a b (relation-sized 0 (get_or rs 0 no_variable) k.first) (relation-sized 1 (get_or rs 1 no_variable) k.second)))
 
-pub variables_long : (vs : List Slot) → length (end_to_end (variable_records (vars_of vs))) ≡ 1664
-variables_long vs = sized-length 104 (variable_records (vars_of vs)) (variables_sized (vars_of vs)) ∙ ap (λ (n : ℕ). n * 104) (variables_count (vars_of vs))
+pub variables_long : (vs : List Got) → length (end_to_end (variable_records vs)) ≡ 1664
+variables_long vs = sized-length 104 (variable_records vs) (variables_sized vs) ∙ ap (λ (n : ℕ). n * 104) (variables_count vs)
 
 pub relation-long : (i : ℕ) (v : TableVariable) → VariableShaped v → length (end_to_end (relation_records i (variable_of v))) ≡ (1 + rows_given v) * 104
 relation-long i v k = sized-length 104 (relation_records i (variable_of v)) (relation-sized i v k) ∙ ap (λ (n : ℕ). n * 104) (relation-count i v)
 
-pub bindings-long : (vs : List Slot) (rs : List TableVariable) → RelationsShaped rs → length (end_to_end (bindings_records (bindings_of vs rs))) ≡ records_given rs * 104
+pub bindings-long : (vs : List Got) (rs : List TableVariable) → RelationsShaped rs → length (end_to_end (bindings_records (bindings_of vs rs))) ≡ records_given rs * 104
 bindings-long vs rs k = sized-length 104 (bindings_records (bindings_of vs rs)) (bindings-sized vs rs k) ∙ ap (λ (n : ℕ). n * 104) (bindings-count vs rs)
 
 -- ── what entries hold ──

@@ -1,9 +1,9 @@
 -- What a thread holds, by the parts that the code is handed: counts within their arrays, and the records that come of them. Only the code speaks of it: the rule is `thread_records`.
-use Rattle.std.specs.Prelude.{ℕ, zero, suc, ◌+◌, ◌<◌, ◌≤◌, ◌≡◌, true, cond, List, [], ◌∷◌, ◌++◌, eqb, get_or}
+use Rattle.std.specs.Prelude.{ℕ, zero, suc, ◌+◌, ◌<◌, ◌≤◌, ◌≡◌, cond, List, None, Some, IfSome, [], ◌∷◌, ◌++◌, eqb, get_or}
 use Rattle.rows.specs.View.{Shaped}
 use Rattle.nets.specs.declared.Entry.{Entry}
 use Rattle.nets.specs.declared.Entry.TheVariants.{Run, Loop}
-use Rattle.nets.specs.declared.TableVariable.{TableVariable}
+use Rattle.nets.specs.View.{TableVariable}
 use Rattle.nets.specs.declared.Saved.{Saved}
 use Rattle.nets.specs.declared.Thread.{Thread}
 use Rattle.nets.specs.Nets as M
@@ -14,9 +14,9 @@ use Rattle.call_rules.specs.Openings.{entry_alone}
 
 -- ── bindings ──
 
--- one that is unbound may hold anything
+-- what it holds, if anything
 pub record VariableShaped (v : TableVariable) : Type 0 where
-  pub shaped : v.bound ≡ true → Shaped v.content
+  pub shaped : IfSome v Shaped
 
 -- both table variables
 pub record RelationsShaped (rs : List TableVariable) : Type 0 where
@@ -25,7 +25,8 @@ pub record RelationsShaped (rs : List TableVariable) : Type 0 where
 
 -- the rows that are given out
 abbrev pub rows_given : TableVariable → ℕ
-rows_given v = cond v.bound v.content.count 0
+rows_given None = 0
+rows_given (Some r) = r.count
 
 -- the records of bindings: sixteen variables, two table variables, their rows
 abbrev pub records_given : List TableVariable → ℕ

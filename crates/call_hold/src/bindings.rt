@@ -1,6 +1,6 @@
 // Bindings as records: sixteen variables, bound or not, and two table variables with their rows.
 ghost use Rattle.std.specs.Prelude.{◌≡◌, [], ◌∷◌, map, ◌+◌, ◌*◌, ◌≤◌, length};
-ghost use Rattle.values.specs.Operands.{values_in, vars_of};
+ghost use Rattle.values.specs.Operands.{values_in};
 ghost use Rattle.rows.specs.View.{relation_of};
 ghost use Rattle.nets.specs.View.{variable_of, bindings_of};
 ghost use Rattle.value_bytes.specs.Bytes.{end_to_end};
@@ -10,8 +10,8 @@ ghost use Rattle.call_hold.specs.Holdings.{VariableShaped, RelationsShaped, rows
 use crate::records::{put_relation_head, put_values};
 use nets::TableVariable;
 use record_bytes::RECORD;
-use rows::{Cell, Relation, Row};
-use values::{Got, Slot, Value};
+use rows::{Relation, Row};
+use values::{Value, Vars};
 
 // Where the variables end.
 const VARIABLES_END: usize = 1664;
@@ -20,32 +20,28 @@ const VARIABLES_END: usize = 1664;
 
 // A row that begins with the value.
 fn row_of(value: Value) -> Row
-    ensures { result.cells ≡ record { value = value } ∷ record { value = value } ∷ record { value = value } ∷ record { value = value } ∷ [] }
+    ensures { result.cells ≡ value ∷ value ∷ value ∷ value ∷ [] }
 {
-    let cell = Cell { value };
-    Row { cells: [cell; 4] }
+    Row { cells: [value; 4] }
 }
 
 // A variable has one value or none.
-fn put_variable(out: &mut [u8], number: u8, slot: Slot)
+fn put_variable(out: &mut [u8], number: u8, slot: Option<Value>)
     requires { length out.old ≡ 104 }
-    ensures { out.new ≡ values_record 66 number (values_in (slot.held ∷ [])) }
+    ensures { out.new ≡ values_record 66 number (values_in (slot ∷ [])) }
 {
-    let held = slot.held;
-    match held {
-        Got::Nothing => put_values(out, 66, number, row_of(Value::Int(0)), 0),
-        Got::One(value) => put_values(out, 66, number, row_of(value), 1),
+    match slot {
+        None => put_values(out, 66, number, row_of(Value::Int(0)), 0),
+        Some(value) => put_values(out, 66, number, row_of(value), 1),
     }
 }
 
-fn put_variables(out: &mut [u8], vars: [Slot; 16])
+fn put_variables(out: &mut [u8], vars: Vars)
     requires { length out.old ≡ 1664 }
-    ensures { out.new ≡ end_to_end (variable_records (vars_of vars)) }
+    ensures { out.new ≡ end_to_end (variable_records vars) }
 {
-    let mut i: usize = 0;
-    while i < 16 {
+    for i in 0..16 {
         put_variable(&mut out[i * RECORD..i * RECORD + RECORD], i as u8, vars[i]);
-        i += 1;
     }
 }
 
@@ -56,8 +52,10 @@ fn rows_given(v: TableVariable) -> usize
     requires { VariableShaped v }
     ensures { (result ≡ rows_given v) × (result ≤ 16) }
 {
-    let content = v.content;
-    if v.bound { content.count } else { 0 }
+    match v {
+        Some(content) => content.count,
+        None => 0,
+    }
 }
 
 // The rows of a table variable.
@@ -65,9 +63,7 @@ fn put_rows(out: &mut [u8], number: u8, content: Relation)
     requires { (content.count ≤ 16) × (content.columns ≤ 4) × (length out.old ≡ content.count * 104) }
     ensures { out.new ≡ end_to_end (map (values_record 68 number) (relation_of content).rows) }
 {
-    let n = content.count;
-    let mut i = 0;
-    while i < n {
+    for i in 0..content.count {
         put_values(
             &mut out[i * RECORD..i * RECORD + RECORD],
             68,
@@ -75,7 +71,6 @@ fn put_rows(out: &mut [u8], number: u8, content: Relation)
             content.rows[i],
             content.columns,
         );
-        i += 1;
     }
 }
 
@@ -83,15 +78,19 @@ fn put_relation(out: &mut [u8], number: u8, v: TableVariable)
     requires { VariableShaped v × (length out.old ≡ 104 + rows_given v * 104) }
     ensures { out.new ≡ end_to_end (relation_records number (variable_of v)) }
 {
-    let content = v.content;
-    let kinds = content.kinds;
-    if v.bound {
-        let end = RECORD + content.count * RECORD;
-        put_relation_head(&mut out[0..RECORD], number, 1, content.columns, kinds);
-        put_rows(&mut out[RECORD..end], number, content);
+    let Some(content) = v else {
+        put_relation_head(out, number, 0, 0, [0; 4]);
         return;
-    }
-    put_relation_head(out, number, 0, 0, kinds);
+    };
+    let end = RECORD + content.count * RECORD;
+    put_relation_head(
+        &mut out[0..RECORD],
+        number,
+        1,
+        content.columns,
+        content.kinds,
+    );
+    put_rows(&mut out[RECORD..end], number, content);
 }
 
 // ---- both
@@ -104,12 +103,11 @@ pub fn bindings_records(relations: [TableVariable; 2]) -> usize
     18 + rows_given(relations[0]) + rows_given(relations[1])
 }
 
-pub fn put_bindings(out: &mut [u8], vars: [Slot; 16], relations: [TableVariable; 2])
+pub fn put_bindings(out: &mut [u8], vars: Vars, relations: [TableVariable; 2])
     requires { RelationsShaped relations × (length out.old ≡ records_given relations * 104) }
     ensures { out.new ≡ end_to_end (bindings_records (bindings_of vars relations)) }
 {
-    let first = relations[0];
-    let second = relations[1];
+    let [first, second] = relations;
     let middle = VARIABLES_END + (1 + rows_given(first)) * RECORD;
     let end = middle + (1 + rows_given(second)) * RECORD;
     put_variables(&mut out[0..VARIABLES_END], vars);

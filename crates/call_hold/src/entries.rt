@@ -14,8 +14,7 @@ use record_bytes::RECORD;
 pub fn held_by(f: Frame, holds: [u8; 256]) -> u8
     ensures { result ≡ held_by holds f.entry }
 {
-    let e = f.entry;
-    match e {
+    match f.entry {
         Entry::Run(_) => 0,
         Entry::Loop(node) => holds[node as usize],
     }
@@ -39,9 +38,7 @@ pub fn entry_records(held: u8, relations: [TableVariable; 2], saved: Saved) -> u
     if held == 0 {
         return 1;
     }
-    let other = saved.other;
-    let pair = pair_held(held, relations, other);
-    1 + bindings_records(pair)
+    1 + bindings_records(pair_held(held, relations, saved.other))
 }
 
 pub fn put_with_held(
@@ -58,10 +55,8 @@ pub fn put_with_held(
         put_entry(out, f);
         return;
     }
-    let other = saved.other;
-    let vars = saved.vars;
-    let pair = pair_held(held, relations, other);
+    let pair = pair_held(held, relations, saved.other);
     let end = RECORD + bindings_records(pair) * RECORD;
     put_entry(&mut out[0..RECORD], f);
-    put_bindings(&mut out[RECORD..end], vars, pair);
+    put_bindings(&mut out[RECORD..end], saved.vars, pair);
 }

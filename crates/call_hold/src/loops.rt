@@ -23,10 +23,8 @@ pub fn all_holds(nodes: [Node; 128], count: usize) -> [u8; 256]
     ensures { HoldsAre (nodes_of count nodes) result }
 {
     let mut holds = [0; 256];
-    let mut i = 0;
-    while i < count {
+    for i in 0..count {
         holds[i] = holds_by(nodes[i]);
-        i += 1;
     }
     holds
 }

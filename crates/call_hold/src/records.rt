@@ -10,7 +10,7 @@ use record_bytes::{KINDS, KINDS_END, LEFT, RECORD, TUPLE};
 use rows::Row;
 use step_thread::node_of;
 use values::Site;
-use write_fields::{clear, put_columns, put_eight, put_tuple};
+use write_fields::{put_columns, put_tuple};
 
 // Where the rows still to visit end.
 const VISIT_END: usize = 24;
@@ -20,7 +20,7 @@ pub fn put_start(out: &mut [u8], kind: u8, a: u8, b: u8)
     requires { length out.old ≡ 8 }
     ensures { out.new ≡ start_of kind a b }
 {
-    put_eight(out, kind, a, b, 0, 0, 0, 0, 0);
+    out.copy_from_slice(&[kind, a, b, 0, 0, 0, 0, 0]);
 }
 
 // A record with values where a row record has them.
@@ -29,9 +29,9 @@ pub fn put_values(out: &mut [u8], kind: u8, number: u8, row: Row, columns: usize
     ensures { out.new ≡ values_record kind number (values_of columns row) }
 {
     put_start(&mut out[0..KINDS], kind, number, 0);
-    clear(&mut out[KINDS..TUPLE], TUPLE - KINDS);
+    out[KINDS..TUPLE].fill(0);
     put_tuple(&mut out[TUPLE..LEFT], row, columns);
-    clear(&mut out[LEFT..RECORD], RECORD - LEFT);
+    out[LEFT..RECORD].fill(0);
 }
 
 // A table variable, without its rows.
@@ -41,7 +41,7 @@ pub fn put_relation_head(out: &mut [u8], number: u8, bound: u8, columns: usize, 
 {
     put_start(&mut out[0..KINDS], 67, number, bound);
     put_columns(&mut out[KINDS..KINDS_END], columns, kinds);
-    clear(&mut out[KINDS_END..RECORD], RECORD - KINDS_END);
+    out[KINDS_END..RECORD].fill(0);
 }
 
 // A stack entry.
@@ -51,7 +51,7 @@ pub fn put_entry(out: &mut [u8], f: Frame)
 {
     put_start(&mut out[0..KINDS], 69, entry_kind(f), node_of(f));
     put_visit(&mut out[KINDS..VISIT_END], f);
-    clear(&mut out[VISIT_END..RECORD], RECORD - VISIT_END);
+    out[VISIT_END..RECORD].fill(0);
 }
 
 // A thread, without what it holds.
@@ -60,5 +60,5 @@ pub fn put_thread_head(out: &mut [u8], site: Site, depth: usize)
     ensures { out.new ≡ thread_head site.0 depth }
 {
     put_start(&mut out[0..KINDS], 65, site.0, depth as u8);
-    clear(&mut out[KINDS..RECORD], RECORD - KINDS);
+    out[KINDS..RECORD].fill(0);
 }

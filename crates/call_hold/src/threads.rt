@@ -14,14 +14,10 @@ fn count_stack(t: Thread, saved: [Saved; 8], holds: [u8; 256]) -> usize
     requires { ThreadShaped holds saved t }
     ensures { (result ≡ length (stack_given holds saved t t.depth)) × (result ≤ 408) }
 {
-    let relations = t.relations;
-    let depth = t.depth;
     let mut total = 0;
-    let mut i = 0;
-    while i < depth {
+    for i in 0..t.depth {
         let held = held_by(t.stack[i], holds);
-        total += entry_records(held, relations, saved[i]);
-        i += 1;
+        total += entry_records(held, t.relations, saved[i]);
     }
     total
 }
@@ -31,15 +27,14 @@ fn put_stack(out: &mut [u8], t: Thread, saved: [Saved; 8], holds: [u8; 256])
     requires { ThreadShaped holds saved t × (length out.old ≡ length (stack_given holds saved t t.depth) * 104) }
     ensures { out.new ≡ end_to_end (stack_given holds saved t t.depth) }
 {
-    let relations = t.relations;
     let mut at = 0;
     let mut left = t.depth;
     while left > 0 {
         left -= 1;
         let f = t.stack[left];
         let held = held_by(f, holds);
-        let end = at + entry_records(held, relations, saved[left]) * RECORD;
-        put_with_held(&mut out[at..end], f, held, relations, saved[left]);
+        let end = at + entry_records(held, t.relations, saved[left]) * RECORD;
+        put_with_held(&mut out[at..end], f, held, t.relations, saved[left]);
         at = end;
     }
 }
@@ -49,19 +44,16 @@ pub fn count_records(t: Thread, saved: [Saved; 8], holds: [u8; 256]) -> usize
     requires { ThreadShaped holds saved t }
     ensures { (result ≡ length (thread_given holds saved t)) × (result ≤ 459) }
 {
-    let relations = t.relations;
-    1 + bindings_records(relations) + count_stack(t, saved, holds)
+    1 + bindings_records(t.relations) + count_stack(t, saved, holds)
 }
 
 pub fn put_records(out: &mut [u8], t: Thread, saved: [Saved; 8], holds: [u8; 256])
     requires { ThreadShaped holds saved t × (length out.old ≡ length (thread_given holds saved t) * 104) }
     ensures { out.new ≡ end_to_end (thread_given holds saved t) }
 {
-    let relations = t.relations;
-    let vars = t.vars;
-    let middle = RECORD + bindings_records(relations) * RECORD;
+    let middle = RECORD + bindings_records(t.relations) * RECORD;
     let end = out.len();
     put_thread_head(&mut out[0..RECORD], t.site, t.depth);
-    put_bindings(&mut out[RECORD..middle], vars, relations);
+    put_bindings(&mut out[RECORD..middle], t.vars, t.relations);
     put_stack(&mut out[middle..end], t, saved, holds);
 }

@@ -3,12 +3,12 @@ use Prim.Native.Nat.{ℕ, zero, suc, ◌+◌, ◌*◌, ◌<◌, ◌≤◌}
 use mathlib.Core.Path.{◌≡◌, refl, sym, ap, subst, ◌∙◌}
 use mathlib.Core.Bool.{Bool, true, false, not, cond, ◌||◌}
 use mathlib.Core.List.{List, [], ◌∷◌}
-use mathlib.Core.Option.{Option, none, some}
+use Rattle.std.specs.Prelude.{Option, None, Some}
 use native.Mathlib.Omega.{arith}
 use lib.Dec.{T, eqb, ltb, leb, leb→le}
 use lib.ListN.{length, get_or, get_or-map}
 use borrow.Author.Tests.{ltb-true, ltb-false}
-use Rattle.values.specs.Lists.{all}
+use Rattle.std.specs.List.{list_all}
 use Rattle.values.proofs.Bools.{and_l, and_r}
 use Rattle.values.proofs.ByPlace.{length_by, all_by}
 use Rattle.values.proofs.Firsts.{length-firsts}
@@ -17,7 +17,7 @@ use Rattle.rows.specs.View.{relation_of}
 use Rattle.nets.specs.declared.Entry.{Entry}
 use Rattle.nets.specs.declared.Entry.TheVariants.{Run, Loop}
 use Rattle.nets.specs.declared.Frame.{Frame}
-use Rattle.nets.specs.declared.TableVariable.{TableVariable}
+use Rattle.nets.specs.View.{TableVariable}
 use Rattle.nets.specs.declared.Saved.{Saved}
 use Rattle.nets.specs.declared.Thread.{Thread}
 use Rattle.nets.specs.declared.Net.{Net}
@@ -35,18 +35,16 @@ use Rattle.call_hold.proofs.HeldLaws.{given_is}
 -- ── table variables ──
 
 shaped-variable : (v : TableVariable) → T (relation_ok (variable_of v)) → VariableShaped v
-shaped-variable v h = record { shaped = λ e. relation-shaped v.content (ok e) }
-  where
-    ok : v.bound ≡ true → T (relation_ok (some (relation_of v.content)))
-    ok e = rw e at h
+shaped-variable (Some r) h = record { shaped = relation-shaped r h }
+shaped-variable None h = record { shaped = tt }
 
 -- of all table variables, the one at a place; past the last one none is bound
-all-at : (rs : List (Option Relation)) (i : ℕ) → T (all relation_ok rs) → T (relation_ok (get_or rs i none))
+all-at : (rs : List (Option Relation)) (i : ℕ) → T (list_all relation_ok rs) → T (relation_ok (get_or rs i None))
 all-at [] i h = tt
-all-at (r ∷ rs) zero h = and_l (relation_ok r) (all relation_ok rs) h
-all-at (r ∷ rs) (suc i) h = all-at rs i (and_r (relation_ok r) (all relation_ok rs) h)
+all-at (r ∷ rs) zero h = and_l (relation_ok r) (list_all relation_ok rs) h
+all-at (r ∷ rs) (suc i) h = all-at rs i (and_r (relation_ok r) (list_all relation_ok rs) h)
 
-bindings-relations : (b : M.Bindings) → T (bindings_ok b) → T (all relation_ok b.relations)
+bindings-relations : (b : M.Bindings) → T (bindings_ok b) → T (list_all relation_ok b.relations)
 bindings-relations b h = search (and_l, and_r) depth 8
 
 -- ── what entries hold ──
@@ -72,15 +70,15 @@ held_of_entry ds holds k rs qs s f h = record { other = go f.entry h }
     go (Loop i) h q = saved-shaped (get_or ds i S.no_node) rs s (search (and_l, and_r)) (omega (arith, k.at i))
 
 -- what holds of all entries holds of the one at each place
-all-stack : (p : M.Entry → Bool) (bs : ℕ → M.Bindings) (l : List Frame) (n j : ℕ) → j < n → T (all p (stack_of bs n l)) → T (p (entry_of (bs j) (get_or l j no_frame)))
+all-stack : (p : M.Entry → Bool) (bs : ℕ → M.Bindings) (l : List Frame) (n j : ℕ) → j < n → T (list_all p (stack_of bs n l)) → T (p (entry_of (bs j) (get_or l j no_frame)))
 all-stack p bs l zero j h t = absurd (omega arith)
-all-stack p bs l (suc n) j h t = go (ltb j n) refl (λ q. all-stack p bs l n j q (and_r (p (entry_of (bs n) (get_or l n no_frame))) (all p (stack_of bs n l)) t))
+all-stack p bs l (suc n) j h t = go (ltb j n) refl (λ q. all-stack p bs l n j q (and_r (p (entry_of (bs n) (get_or l n no_frame))) (list_all p (stack_of bs n l)) t))
   where
     go : (b : Bool) → ltb j n ≡ b → (j < n → T (p (entry_of (bs j) (get_or l j no_frame)))) → T (p (entry_of (bs j) (get_or l j no_frame)))
     go true e below = below (ltb-true j n e)
     go false e below =
         let q : j ≡ n = omega (arith, ltb-false j n e) in
-        subst (λ (m : ℕ). T (p (entry_of (bs m) (get_or l m no_frame)))) (sym q) (and_l (p (entry_of (bs n) (get_or l n no_frame))) (all p (stack_of bs n l)) t)
+        subst (λ (m : ℕ). T (p (entry_of (bs m) (get_or l m no_frame)))) (sym q) (and_l (p (entry_of (bs n) (get_or l n no_frame))) (list_all p (stack_of bs n l)) t)
 
 -- ── what is saved for one thread ──
 
@@ -109,13 +107,13 @@ saved_for_lem l i (suc (suc (suc (suc (suc (suc (suc (suc j)))))))) h = absurd (
 
 -- ── a thread ──
 
-relations-ok : (ds : List M.Node) (t : M.Thread) → T (thread_ok ds t) → T (all relation_ok t.bindings.relations)
+relations-ok : (ds : List M.Node) (t : M.Thread) → T (thread_ok ds t) → T (list_all relation_ok t.bindings.relations)
 relations-ok ds t h = search (and_l, and_r) depth 12
 
 few-entries : (ds : List M.Node) (t : M.Thread) → T (thread_ok ds t) → T (leb (length t.stack) 8)
 few-entries ds t h = search (and_l, and_r) depth 12
 
-entries-ok : (ds : List M.Node) (t : M.Thread) → T (thread_ok ds t) → T (all (entry_ok ds t.bindings.relations) t.stack)
+entries-ok : (ds : List M.Node) (t : M.Thread) → T (thread_ok ds t) → T (list_all (entry_ok ds t.bindings.relations) t.stack)
 entries-ok ds t h = search (and_l, and_r) depth 12
 
 module _ (ds : List M.Node) (saved : List Saved) (i : ℕ) (t : Thread) (h : T (thread_ok ds (thread_of (saved_at ds saved i t) t))) where

@@ -10,7 +10,6 @@ use crate::threads::{count_all, put_all};
 use nets::Net;
 use record_bytes::{KINDS, RECORD};
 use write::tables::{tables_size, write_tables};
-use write_fields::{clear, put_eight};
 
 pub mod threads;
 
@@ -19,18 +18,9 @@ fn put_moment_head(out: &mut [u8], tables: u8, threads: u8, records: usize)
     requires { (length out.old ≡ 104) × (records ≤ 3809) }
     ensures { out.new ≡ moment_head tables threads records }
 {
-    put_eight(
-        &mut out[0..KINDS],
-        64,
-        tables,
-        threads,
-        0,
-        (records % 256) as u8,
-        (records / 256 % 256) as u8,
-        0,
-        0,
-    );
-    clear(&mut out[KINDS..RECORD], RECORD - KINDS);
+    let [a, b, c, d] = (records as u32).to_le_bytes();
+    out[0..KINDS].copy_from_slice(&[64, tables, threads, 0, a, b, c, d]);
+    out[KINDS..RECORD].fill(0);
 }
 
 // How long a moment is.
@@ -38,16 +28,14 @@ pub fn moment_size(net: Net) -> usize
     requires { T (sound (view net)) }
     ensures { (result ≡ length (moment_put (view net))) × (result ≤ 396136) }
 {
-    let tables = net.tables;
-    RECORD + tables_size(tables, net.tablecount) + count_all(net) * RECORD
+    RECORD + tables_size(net.tables, net.tablecount) + count_all(net) * RECORD
 }
 
 pub fn put_moment(out: &mut [u8], net: Net)
     requires { T (sound (view net)) × (length out.old ≡ length (moment_put (view net))) }
     ensures { out.new ≡ moment_put (view net) }
 {
-    let tables = net.tables;
-    let middle = RECORD + tables_size(tables, net.tablecount);
+    let middle = RECORD + tables_size(net.tables, net.tablecount);
     let end = moment_size(net);
     put_moment_head(
         &mut out[0..RECORD],
@@ -55,6 +43,6 @@ pub fn put_moment(out: &mut [u8], net: Net)
         net.threadcount as u8,
         end / RECORD,
     );
-    write_tables(&mut out[RECORD..middle], tables, net.tablecount);
+    let _ = write_tables(&mut out[RECORD..middle], net.tables, net.tablecount);
     put_all(&mut out[middle..end], net);
 }

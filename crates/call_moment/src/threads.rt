@@ -15,12 +15,9 @@ pub fn count_all(net: Net) -> usize
     requires { T (sound (view net)) }
     ensures { (result ≡ length (all_threads (view net).nodes (view net).threads)) × (result ≤ 3672) }
 {
-    let nodes = net.nodes;
-    let holds = all_holds(nodes, net.nodecount);
-    let count = net.threadcount;
+    let holds = all_holds(net.nodes, net.nodecount);
     let mut total = 0;
-    let mut i = 0;
-    while i < count {
+    for i in 0..net.threadcount {
         let k = i * 8;
         let saved = [
             net.saved[k],
@@ -33,7 +30,6 @@ pub fn count_all(net: Net) -> usize
             net.saved[k + 7],
         ];
         total += count_records(net.threads[i], saved, holds);
-        i += 1;
     }
     total
 }
@@ -42,12 +38,9 @@ pub fn put_all(out: &mut [u8], net: Net)
     requires { T (sound (view net)) × (length out.old ≡ length (all_threads (view net).nodes (view net).threads) * 104) }
     ensures { out.new ≡ end_to_end (all_threads (view net).nodes (view net).threads) }
 {
-    let nodes = net.nodes;
-    let holds = all_holds(nodes, net.nodecount);
-    let count = net.threadcount;
+    let holds = all_holds(net.nodes, net.nodecount);
     let mut at = 0;
-    let mut i = 0;
-    while i < count {
+    for i in 0..net.threadcount {
         let k = i * 8;
         let saved = [
             net.saved[k],
@@ -62,6 +55,5 @@ pub fn put_all(out: &mut [u8], net: Net)
         let end = at + count_records(net.threads[i], saved, holds) * RECORD;
         put_records(&mut out[at..end], net.threads[i], saved, holds);
         at = end;
-        i += 1;
     }
 }

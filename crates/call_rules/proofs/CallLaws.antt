@@ -2,7 +2,8 @@
 use Prim.Native.Nat.{ℕ, ◌-◌, ◌%◌, ◌^◌, ◌≤◌, ◌<◌}
 use mathlib.Core.Path.{◌≡◌, refl, sym, ap, ◌∙◌}
 use mathlib.Core.List.{List, ◌++◌}
-use mathlib.Core.Option.{Option, none, some}
+use Rattle.std.specs.Prelude.{Option, None, Some, Result, Ok, Err}
+use Rattle.std.specs.Result.{result_err}
 use native.Mathlib.Nat.{sub-zero}
 use native.Mathlib.Omega.{arith}
 use lib.Dec.{T}
@@ -12,67 +13,70 @@ use Rattle.nets.specs.declared.Pick.{Pick}
 use Rattle.nets.specs.Nets.{Net}
 use Rattle.nets.specs.Sound.{sound}
 use Rattle.nets.specs.View.{view}
-use Rattle.files.specs.declared.Verdict.{Verdict}
-use Rattle.files.specs.declared.Verdict.TheVariants as verdict
+use Rattle.nets.specs.declared.Net as Code
+use Rattle.files.specs.declared.Fault.{Fault}
 use Rattle.files.specs.declared.Loaded.{Loaded}
-use Rattle.files.specs.Loading as L
 use Rattle.files.specs.Loading.{LoadAnswer, rejected, accepted, load_bytes, fault_of, net_loaded}
-use Rattle.files.specs.Engine.{fault_in, LoadIs}
+use Rattle.files.specs.Engine.{LoadIs}
 use Rattle.files.proofs.FileLaws.{file-loaded}
 use Rattle.files.proofs.EngineLaws.{verdict-accepts}
-use Rattle.call_rules.specs.declared.Reply.{Reply}
-use Rattle.call_rules.specs.declared.NotOpened.{NotOpened}
-use Rattle.call_rules.specs.declared.NotOpened.TheVariants.{OddPicks}
-use Rattle.call_rules.specs.declared.Opening.TheVariants.{Accepted, Refused}
-use Rattle.call_rules.specs.declared.Opened.{Opened}
+use Rattle.call_rules.specs.declared.Refused.{Refused}
+use Rattle.call_rules.specs.declared.Refused.TheVariants.{File, OddPicks}
 use Rattle.value_bytes.specs.Bytes.{put_all}
 use Rattle.step_bytes.specs.PickBytes.{picks_in}
 use Rattle.call_rules.specs.Replies.{Called, refusing, needed, if_room_for, if_room}
 use Rattle.call_rules.specs.Calls.{on_loaded, called, Gives}
-use Rattle.call_rules.specs.Openings.{opening_by, refusal_reply, opening_gives, OpenIs}
+use Rattle.call_rules.specs.Openings.{number_of, place_of, Told, opening_gives, OpenIs}
 
-abbrev told : Option L.Fault → Called
-told none = refusing 0 0
-told (some f) = refusing f.number f.place
+-- a reason with its number and place
+abbrev told : Option Fault → Called
+told None = refusing 0 0
+told (Some f) = refusing f.number f.place
 
--- the verdict of loading is the rule's
-opening_loaded : (v : Verdict) (x : LoadAnswer) (made : Net → Called) → fault_in v ≡ fault_of x → on_loaded (λ net own. made net) x ≡ opening_gives (opening_by v) (made (net_loaded x))
-opening_loaded verdict.Accepted (accepted net own) made e = refl
-opening_loaded (verdict.Fault n i) (rejected m j) made e = sym (ap told e)
-opening_loaded verdict.Accepted (rejected m j) made e = let z : ◌≡◌ {A = ℕ} 0 1 = cc in absurd (omega arith)
-opening_loaded (verdict.Fault n i) (accepted net own) made e = let z : ◌≡◌ {A = ℕ} 0 1 = cc in absurd (omega arith)
-
-verdict_of : (v : Verdict) → opening_by v ≡ Accepted → v ≡ verdict.Accepted
-verdict_of verdict.Accepted e = refl
-verdict_of (verdict.Fault n i) e = let z : ◌≡◌ {A = ℕ} 0 1 = cc in absurd (omega arith)
+abbrev net_in : Result Code.Net Refused → Code.Net → Code.Net
+net_in (Ok net) z = net
+net_in (Err why) z = z
 
 -- an odd number of bytes is no list of picks
-pub opens-odd : (file picks : List ℕ) (r : Opened) → (length picks % 2 ≡ 0 → ⊥) → r.opening ≡ Refused OddPicks → OpenIs file picks r
+pub opens-odd : (file picks : List ℕ) → (length picks % 2 ≡ 0 → ⊥) → OpenIs file picks (Err OddPicks)
 unfolding called
-opens-odd file picks r h e = record {
-  called = λ made. rw (ne_eqb (length picks % 2) 0 h, e) refl;
-  is_sound = λ a. let z : ◌≡◌ {A = ℕ} 0 1 = cc in absurd (omega arith);
+opens-odd file picks h = record {
+  called = λ made. rw (ne_eqb (length picks % 2) 0 h) refl;
+  is_sound = λ net e. let z : ◌≡◌ {A = ℕ} 0 1 = cc in absurd (omega arith);
 }
 
-pub opens_even : (file picks : List ℕ) (l : Loaded) (r : Opened) → length picks % 2 ≡ 0 → LoadIs file l → r.opening ≡ opening_by l.verdict → r.net ≡ l.net → OpenIs file picks r
+-- a file's first fault
+pub opens_fault : (file picks : List ℕ) (l : Loaded) (f : Fault) → length picks % 2 ≡ 0 → LoadIs file l → l.verdict ≡ Err f → OpenIs file picks (Err (File f))
 unfolding called
-opens_even file picks l r h is v n = record {
-  called = λ made.
-      rw (eq-eqb (length picks % 2) 0 h, v, n, is.net) (opening_loaded l.verdict (load_bytes file) (λ (net : Net). made net (picks_in picks)) is.fault);
-  is_sound = λ a. rw (n, is.net) (file-loaded file (verdict-accepts file l is (verdict_of l.verdict (sym v ∙ a)))).is_sound;
+opens_fault file picks l f h is v = record {
+  called = λ made. rw (eq-eqb (length picks % 2) 0 h) (go (load_bytes file) made (ap result_err (sym v) ∙ is.fault));
+  is_sound = λ net e. let z : ◌≡◌ {A = ℕ} 0 1 = cc in absurd (omega arith);
 }
+  where
+    go : (x : LoadAnswer) (made : Net → List Pick → Called) → Some f ≡ fault_of x → on_loaded (λ net own. made net (picks_in picks)) x ≡ refusing f.number f.place
+    go (rejected n i) made e = sym (ap told e)
+    go (accepted net own) made e = let z : ◌≡◌ {A = ℕ} 0 1 = cc in absurd (omega arith)
+
+-- the net of a file that is accepted
+pub opens_net : (file picks : List ℕ) (l : Loaded) → length picks % 2 ≡ 0 → LoadIs file l → l.verdict ≡ Ok tt → OpenIs file picks (Ok l.net)
+unfolding called
+opens_net file picks l h is v = record {
+  called = λ made. rw (eq-eqb (length picks % 2) 0 h, is.net) (go (load_bytes file) made (ap result_err (sym v) ∙ is.fault));
+  is_sound = λ net e. let q : l.net ≡ net = ap (λ (r : Result Code.Net Refused). net_in r l.net) e in rw (sym q, is.net) (file-loaded file (verdict-accepts file l is v)).is_sound;
+}
+  where
+    go : (x : LoadAnswer) (made : Net → List Pick → Called) → None ≡ fault_of x → on_loaded (λ net own. made net (picks_in picks)) x ≡ made (net_loaded x) (picks_in picks)
+    go (rejected n i) made e = let z : ◌≡◌ {A = ℕ} 0 1 = cc in absurd (omega arith)
+    go (accepted net own) made e = refl
 
 -- ── a call, by what it opened ──
 
-pub call_sound : (file picks : List ℕ) (r : Opened) → OpenIs file picks r → r.opening ≡ Accepted → T (sound (view r.net))
-call_sound file picks r is e = is.is_sound e
+module _ (made : Net → List Pick → Called) (file picks o : List ℕ) (r : Result Code.Net Refused) (is : OpenIs file picks r) where
+  pub call_refused : (why : Refused) → r ≡ Err why → Told (called made file picks) o o (Err why)
+  call_refused why e = rw (is.called made, e) (record { number = refl; place = refl; buffer = refl })
 
-module _ (made : Net → List Pick → Called) (file picks o : List ℕ) (r : Opened) (is : OpenIs file picks r) where
-  pub call_refused : (why : NotOpened) (reply : Reply) → r.opening ≡ Refused why → reply ≡ refusal_reply why → Gives (called made file picks) o o reply.number reply.place
-  call_refused why reply e q = rw (is.called made, e, q) (record { number = refl; place = refl; buffer = refl })
-
-  pub call_given : (out : List ℕ) (n i : ℕ) → r.opening ≡ Accepted → Gives (made (view r.net) (picks_in picks)) o out n i → Gives (called made file picks) o out n i
-  call_given out n i e g = rw (is.called made, e) g
+  pub call_given : (out : List ℕ) (net : Code.Net) (reply : Result ℕ Refused) → r ≡ Ok net → Told (made (view net) (picks_in picks)) o out reply → Told (called made file picks) o out reply
+  call_given out net reply e g = rw (is.called made, e) g
 
 -- ── a buffer, by its room ──
 

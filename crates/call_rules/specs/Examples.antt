@@ -1,8 +1,6 @@
 -- Worked calls, by computation: one table, one insert into it, one thread.
-use Rattle.std.specs.Prelude.{ℕ, ◌≡◌, refl, List, [], ◌∷◌, ◌++◌, map, pos, replicate}
-use Rattle.std.proofs.Math.Option.{none, some}
+use Rattle.std.specs.Prelude.{ℕ, ◌≡◌, refl, List, [], ◌∷◌, ◌++◌, map, pos, replicate, None, Some}
 use Rattle.values.specs.declared.Value.TheVariants.{Int}
-use Rattle.values.specs.declared.Got.TheVariants.{Nothing, One}
 use Rattle.values.specs.declared.Operand.TheVariants.{Absent}
 use Rattle.values.specs.Lists.{places}
 use Rattle.values.specs.Values.{text_order}
@@ -189,13 +187,13 @@ abbrev five_in_t0 : List ℕ
 five_in_t0 = 67 ∷ 0 ∷ 1 ∷ z 5 ++ (1 ∷ z 95) ++ (68 ∷ z 55 ++ (five ++ z 40) ++ (67 ∷ 1 ∷ z 102))
 
 abbrev with_five : Vars → Bindings
-with_five vs = record { vars = vs; relations = some (record { columns = 1 ∷ []; rows = (Int (pos 5) ∷ []) ∷ [] }) ∷ none ∷ [] }
+with_five vs = record { vars = vs; relations = Some (record { columns = 1 ∷ []; rows = (Int (pos 5) ∷ []) ∷ [] }) ∷ None ∷ [] }
 
 -- x1 is 5
 abbrev five_in_x1 : List ℕ
 five_in_x1 = 66 ∷ z 103 ++ (66 ∷ 1 ∷ z 54 ++ (five ++ z 40) ++ end_to_end (map (λ (i : ℕ). 66 ∷ i ∷ z 102) (places 2 14)))
 
-pub bound : end_to_end (bindings_records (with_five (Nothing ∷ One (Int (pos 5)) ∷ []))) ≡ five_in_x1 ++ five_in_t0
+pub bound : end_to_end (bindings_records (with_five (None ∷ Some (Int (pos 5)) ∷ []))) ≡ five_in_x1 ++ five_in_t0
 unfolding opened
 bound = refl
 
@@ -205,7 +203,7 @@ unfolding opened
 entry_of_loop b = refl
 
 -- a thread at site 2: T1 is bound, with the rows (5) and (5); node 4 is to run
-pub thread-whole : end_to_end (thread_records [] (record { site = record { 0 = 2 }; bindings = record { vars = []; relations = none ∷ some (record { columns = 1 ∷ []; rows = (Int (pos 5) ∷ []) ∷ (Int (pos 5) ∷ []) ∷ [] }) ∷ [] }; stack = to_run 4 ∷ [] }))
+pub thread-whole : end_to_end (thread_records [] (record { site = record { 0 = 2 }; bindings = record { vars = []; relations = None ∷ Some (record { columns = 1 ∷ []; rows = (Int (pos 5) ∷ []) ∷ (Int (pos 5) ∷ []) ∷ [] }) ∷ [] }; stack = to_run 4 ∷ [] }))
     ≡ 65 ∷ 2 ∷ 1 ∷ z 101
     ++ (no_variables
     ++ (67 ∷ z 103
@@ -248,7 +246,7 @@ in_body =
           record {
             site = record { 0 = 2 };
             bindings = with_five [];
-            stack = to_run 2 ∷ visiting 0 (1 ∷ []) (with_five (Nothing ∷ One (Int (pos 5)) ∷ [])) ∷ visiting 1 [] (with_five (Nothing ∷ One (Int (pos 5)) ∷ [])) ∷ [];
+            stack = to_run 2 ∷ visiting 0 (1 ∷ []) (with_five (None ∷ Some (Int (pos 5)) ∷ [])) ∷ visiting 1 [] (with_five (None ∷ Some (Int (pos 5)) ∷ [])) ∷ [];
           }
           ∷ [];
     }

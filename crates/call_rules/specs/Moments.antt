@@ -1,7 +1,5 @@
 -- A moment of a run: all that stands between two picks, as records of 104 bytes. Tables and rows are those of a file; what threads hold has records of its own, kinds 64 to 69.
-use Rattle.std.specs.Prelude.{ℕ, suc, cond, List, [], ◌∷◌, ◌++◌, map, length, get_or, replicate}
-use Rattle.std.proofs.Math.Option.{Option, none, some}
-use Rattle.values.specs.declared.Got.TheVariants.{Nothing}
+use Rattle.std.specs.Prelude.{ℕ, suc, cond, List, [], ◌∷◌, ◌++◌, map, length, get_or, replicate, Option, None, Some}
 use Rattle.values.specs.Lists.{places}
 use Rattle.values.specs.Operands.{Vars, values_in}
 use Rattle.rows.specs.Relations.{Row, Columns, Relation}
@@ -24,7 +22,7 @@ values_record k i r = start_of k i 0 ++ (replicate 48 0 ++ (tuple_bytes r ++ rep
 
 -- 66: a variable's number, and its value if it is bound
 abbrev pub variable_record : Vars → ℕ → List ℕ
-variable_record vs i = values_record 66 i (values_in (get_or vs i Nothing ∷ []))
+variable_record vs i = values_record 66 i (values_in (get_or vs i None ∷ []))
 
 unfoldable pub variable_records : Vars → List (List ℕ)
 variable_records vs = map (variable_record vs) (places 0 16)
@@ -35,12 +33,12 @@ relation_head i b cs = start_of 67 i b ++ (column_bytes cs ++ replicate 92 0)
 
 -- 68 for each of its rows
 abbrev pub relation_records : ℕ → Option Relation → List (List ℕ)
-relation_records i none = relation_head i 0 [] ∷ []
-relation_records i (some r) = relation_head i 1 r.columns ∷ map (values_record 68 i) r.rows
+relation_records i None = relation_head i 0 [] ∷ []
+relation_records i (Some r) = relation_head i 1 r.columns ∷ map (values_record 68 i) r.rows
 
 abbrev pub bindings_records : Bindings → List (List ℕ)
 bindings_records b =
-    variable_records b.vars ++ (relation_records 0 (get_or b.relations 0 none) ++ relation_records 1 (get_or b.relations 1 none))
+    variable_records b.vars ++ (relation_records 0 (get_or b.relations 0 None) ++ relation_records 1 (get_or b.relations 1 None))
 
 -- ── threads ──
 

@@ -1,54 +1,63 @@
 -- What the functions inside a call require and give back. Only the code speaks of it: the rule is `called`.
-use Rattle.std.specs.Prelude.{ℕ, ◌<◌, ◌≡◌, List, [], T, get_or}
+use Rattle.std.specs.Prelude.{ℕ, ◌<◌, ◌≡◌, List, [], T, get_or, Result, Ok, Err}
 use Rattle.nets.specs.declared.Pick.{Pick}
 use Rattle.nets.specs.declared.Frame.{Frame}
 use Rattle.nets.specs.declared.Thread.{Thread}
+use Rattle.nets.specs.declared.Net as Code
 use Rattle.nets.specs.Nets.{Entry, Bindings, Net}
 use Rattle.nets.specs.Nets as M
 use Rattle.nets.specs.Sound.{sound}
 use Rattle.nets.specs.View.{no_thread, entry_of, thread_of, view}
 use Rattle.step_thread.specs.ThreadContracts.{Stacked}
-use Rattle.files.specs.declared.Verdict.{Verdict}
-use Rattle.files.specs.declared.Verdict.TheVariants as verdict
-use Rattle.call_rules.specs.declared.Reply.{Reply}
-use Rattle.call_rules.specs.declared.NotOpened.{NotOpened}
-use Rattle.call_rules.specs.declared.NotOpened.TheVariants.{Fault, OddPicks}
-use Rattle.call_rules.specs.declared.Opening.{Opening}
-use Rattle.call_rules.specs.declared.Opening.TheVariants.{Accepted, Refused}
-use Rattle.call_rules.specs.declared.Opened.{Opened}
-use Rattle.page_rules.specs.Pages.{PageAnswer, page_refused, page_length}
+use Rattle.call_rules.specs.declared.Refused.{Refused}
+use Rattle.call_rules.specs.declared.Refused.TheVariants.{File, OddPicks, Short, Unsound, NoTable, ShortPage}
 use Rattle.step_bytes.specs.PickBytes.{picks_in}
 use Rattle.call_rules.specs.Replies.{Called, refusing}
-use Rattle.call_rules.specs.Calls.{odd_picks_number, called}
+use Rattle.call_rules.specs.Calls.{odd_picks_number, called, Gives}
+
+-- ── what a caller is told ──
+
+-- number and place of each refusal
+abbrev pub number_of : Refused → ℕ
+number_of (File f) = f.number
+number_of OddPicks = odd_picks_number
+number_of (Short n) = 21
+number_of Unsound = 10
+number_of NoTable = 14
+number_of (ShortPage n) = 22
+
+abbrev pub place_of : Refused → ℕ
+place_of (File f) = f.place
+place_of OddPicks = 0
+place_of (Short n) = n
+place_of Unsound = 0
+place_of NoTable = 0
+place_of (ShortPage n) = n
+
+-- 0 for done, and how many bytes were put
+abbrev pub number_told : Result ℕ Refused → ℕ
+number_told (Ok n) = 0
+number_told (Err why) = number_of why
+
+abbrev pub place_told : Result ℕ Refused → ℕ
+place_told (Ok n) = n
+place_told (Err why) = place_of why
+
+-- the buffer too is as the rule has it
+abbrev pub Told : Called → List ℕ → List ℕ → Result ℕ Refused → Type 0
+Told c before after r = Gives c before after (number_told r) (place_told r)
 
 -- ── what a call begins with ──
 
--- picks of an even length leave it to the file
-abbrev pub opening_by : Verdict → Opening
-opening_by verdict.Accepted = Accepted
-opening_by (verdict.Fault n i) = Refused (Fault n i)
-
--- number and place of each reason
-abbrev pub refusal_reply : NotOpened → Reply
-refusal_reply (Fault n i) = record { number = n; place = i }
-refusal_reply OddPicks = record { number = odd_picks_number; place = 0 }
-
--- by what is said of file and picks: refused, or what is made of them
-abbrev pub opening_gives : Opening → Called → Called
-opening_gives Accepted made = made
-opening_gives (Refused why) made = refusing (refusal_reply why).number (refusal_reply why).place
+-- by what is said of file and picks: refused, or what is made of the net
+abbrev pub opening_gives : (Code.Net → Called) → Result Code.Net Refused → Called
+opening_gives made (Ok net) = made net
+opening_gives made (Err why) = refusing (number_of why) (place_of why)
 
 -- whatever a call makes of net and picks
-pub record OpenIs (file picks : List ℕ) (r : Opened) : Type 0 where
-  pub called : (made : Net → List Pick → Called) → called made file picks ≡ opening_gives r.opening (made (view r.net) (picks_in picks))
-  pub is_sound : r.opening ≡ Accepted → T (sound (view r.net))
-
--- ── pages ──
-
--- number and place of each answer
-abbrev pub answer_reply : PageAnswer → Reply
-answer_reply (page_refused n vs) = record { number = n; place = get_or vs 0 0 }
-answer_reply (page_length n) = record { number = 0; place = n }
+pub record OpenIs (file picks : List ℕ) (r : Result Code.Net Refused) : Type 0 where
+  pub called : (made : Net → List Pick → Called) → called made file picks ≡ opening_gives (λ (net : Code.Net). made (view net) (picks_in picks)) r
+  pub is_sound : (net : Code.Net) → r ≡ Ok net → T (sound (view net))
 
 -- ── threads ──
 

@@ -1,6 +1,5 @@
 -- What the call for a page gives back reads as the table that all picks leave. Whatever the file and the picks.
-use Rattle.std.specs.Prelude.{ℕ, ◌+◌, ◌*◌, ◌%◌, ◌≤◌, ◌≡◌, List, length}
-use Rattle.std.proofs.Math.Option.{some}
+use Rattle.std.specs.Prelude.{ℕ, ◌+◌, ◌*◌, ◌%◌, ◌≤◌, ◌≡◌, List, length, Some}
 use Rattle.values.specs.declared.Site.{Site}
 use Rattle.nets.specs.declared.Pick.{Pick}
 use Rattle.nets.specs.Nets.{Table, Net}
@@ -17,7 +16,7 @@ pub record ReadsAfter (file picks : List ℕ) (site : Site) (name : ℕ) (after 
   pub own : List Pick
   pub loaded : load_bytes file ≡ accepted net own
   pub table : Table
-  pub found : table_at site name (A.after net (picks_in picks)).tables ≡ some table
+  pub found : table_at site name (A.after net (picks_in picks)).tables ≡ Some table
   pub long : place ≡ (length table.content.rows + 1) * 53
   pub reads : ReadsAs after table.content
 
@@ -31,5 +30,5 @@ PageAfterReads =
 abbrev pub PageAfterGiven : Type 0
 PageAfterGiven =
     (file picks : List ℕ) (site : Site) (name : ℕ) (before after : List ℕ) (number place : ℕ) (net : Net) (own : List Pick) (t : Table) → PageAfterIs file picks site name before after number place
-    → length picks % 2 ≡ 0 → load_bytes file ≡ accepted net own → table_at site name (A.after net (picks_in picks)).tables ≡ some t → (length t.content.rows + 1) * 53 ≤ length before
+    → length picks % 2 ≡ 0 → load_bytes file ≡ accepted net own → table_at site name (A.after net (picks_in picks)).tables ≡ Some t → (length t.content.rows + 1) * 53 ≤ length before
     → number ≡ 0

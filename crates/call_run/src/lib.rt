@@ -8,9 +8,9 @@ ghost use Rattle.nets.specs.View.{view};
 ghost use Rattle.step_bytes.specs.PickBytes.{picks_in};
 ghost use Rattle.step_bytes.specs.AnswerBytes.{answers_put};
 ghost use Rattle.call_rules.specs.Replies.{needed, if_room};
-ghost use Rattle.call_rules.specs.Calls.{Gives};
+ghost use Rattle.call_rules.specs.Openings.{Told};
 
-use call_rules::Reply;
+use call_rules::{Refused, Reply};
 use nets::Net;
 use step_bytes::answers::{ANSWER, has_room};
 use step_left::left_by;
@@ -22,35 +22,25 @@ pub fn run_picks(start: Net, picks: &[u8]) -> Net
     ensures { (view result ≡ after (view start) (picks_in picks.now)) × T (sound (view result)) }
 {
     let mut unused = [0u8; 0];
-    let g = carry_out(start, picks, &mut unused);
-    left_by(start, g)
+    left_by(start, carry_out(start, picks, &mut unused))
 }
 
 // The length of so many answers; one past 64 bits is told as the largest number of 64 bits.
 fn answers_length(count: usize) -> usize
     ensures { result ≡ needed (count * 24) }
 {
-    if count > 768614336404564650 {
-        return 18446744073709551615;
-    }
-    count * ANSWER
+    count.saturating_mul(ANSWER)
 }
 
 // The answer to each pick. There is one for each, so whether there is room is known before the picks are carried out.
 pub fn answers_given(net: Net, picks: &[u8], out: &mut [u8]) -> Reply
     requires { T (sound (view net)) }
-    ensures { Gives (if_room (answers_put (view net) (picks_in picks.now)) out.old) out.old out.new result.number result.place }
+    ensures { Told (if_room (answers_put (view net) (picks_in picks.now)) out.old) out.old out.new result }
 {
     let count = picks.len() / 2;
     if !has_room(out.len(), count) {
-        return Reply {
-            number: 21,
-            place: answers_length(count),
-        };
+        return Err(Refused::Short(answers_length(count)));
     }
     carry_out(net, picks, out);
-    Reply {
-        number: 0,
-        place: count * ANSWER,
-    }
+    Ok(count * ANSWER)
 }

@@ -14,7 +14,6 @@ ghost use Rattle.call_rules.specs.Openings.{AllStacked, entry_alone, thread_alon
 use nets::{Entry, Frame, Thread};
 use step_thread::{node_of, top_frame};
 use values::Site;
-use write_fields::put_eight;
 
 // How many bytes a thread has, and where those of the rows still to visit begin.
 pub const THREAD: usize = 24;
@@ -23,21 +22,14 @@ const VISIT: usize = 8;
 
 // ---- one thread
 
-fn one_if(b: bool) -> u8
-    ensures { result ≡ bit b }
-{
-    if b { 1 } else { 0 }
-}
-
 // 1 for a row still to visit, 0 for any other.
 fn flag_of(f: Frame, i: usize) -> u8
     requires { i < 16 }
     ensures { result ≡ bit (among i (to_visit (entry_alone f))) }
 {
-    let e = f.entry;
-    match e {
+    match f.entry {
         Entry::Run(_) => 0,
-        Entry::Loop(_) => one_if(f.visit[i]),
+        Entry::Loop(_) => u8::from(f.visit[i]),
     }
 }
 
@@ -45,10 +37,8 @@ pub fn put_visit(out: &mut [u8], f: Frame)
     requires { length out.old ≡ 16 }
     ensures { out.new ≡ visit_bytes (to_visit (entry_alone f)) }
 {
-    let mut i = 0;
-    while i < 16 {
+    for i in 0..16 {
         out[i] = flag_of(f, i);
-        i += 1;
     }
 }
 
@@ -56,8 +46,7 @@ pub fn put_visit(out: &mut [u8], f: Frame)
 pub fn entry_kind(f: Frame) -> u8
     ensures { result ≡ entry_kind (entry_alone f) }
 {
-    let e = f.entry;
-    match e {
+    match f.entry {
         Entry::Run(_) => 0,
         Entry::Loop(_) => 1,
     }
@@ -67,17 +56,7 @@ fn put_head(out: &mut [u8], site: Site, depth: usize, f: Frame)
     requires { (length out.old ≡ 8) × (depth ≤ 8) }
     ensures { out.new ≡ head_bytes site.0 depth (entry_alone f) }
 {
-    put_eight(
-        out,
-        site.0,
-        depth as u8,
-        entry_kind(f),
-        node_of(f),
-        0,
-        0,
-        0,
-        0,
-    );
+    out.copy_from_slice(&[site.0, depth as u8, entry_kind(f), node_of(f), 0, 0, 0, 0]);
 }
 
 fn put_thread(out: &mut [u8], t: Thread)
@@ -96,9 +75,7 @@ pub fn put_threads(out: &mut [u8], threads: [Thread; 8], count: usize)
     requires { (count ≤ 8) × AllStacked count threads × (length out.old ≡ count * 24) }
     ensures { (ds : List M.Node) (saved : List Saved) → out.new ≡ end_to_end (map thread_bytes (threads_of ds saved count threads)) }
 {
-    let mut i = 0;
-    while i < count {
+    for i in 0..count {
         put_thread(&mut out[i * THREAD..i * THREAD + THREAD], threads[i]);
-        i += 1;
     }
 }

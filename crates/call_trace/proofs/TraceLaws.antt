@@ -1,16 +1,17 @@
 -- A trace put moment by moment: what stands in the buffer, and the moments still to come. Assumes nothing.
-use Prim.Native.Nat.{ℕ, zero, suc, ◌+◌, ◌-◌, ◌*◌, ◌/◌, ◌≤◌, ◌<◌}
+use Prim.Native.Nat.{ℕ, zero, suc, min, ◌+◌, ◌-◌, ◌*◌, ◌/◌, ◌≤◌, ◌<◌}
 use mathlib.Core.Path.{◌≡◌, refl, sym, ap, subst, ◌∙◌}
 use mathlib.Core.Bool.{Bool, true, false, cond}
 use mathlib.Core.Logic.{◌⊎◌, inl, inr}
 use mathlib.Core.List.{List, [], ◌∷◌, ◌++◌, map, append-nil, append_assoc}
 use native.Mathlib.Nat.{sub-zero}
+use Rattle.std.proofs.Math.Nat.{min-eq_left, min-eq_right}
 use native.Mathlib.Numerals.{add-one}
 use native.Mathlib.Omega.{arith}
-use lib.Dec.{ltb}
+use lib.Dec.{leb}
 use lib.ListN.{length, get_or, take, drop, length-append, length-take, length-drop, take-append-drop, drop_of_length-le}
 use lib.Seq.{take_all, take_at, drop_at, drop-drop, drop-cons}
-use borrow.Author.Tests.{le-leb, lt-leb, ltb-true, ltb-false}
+use borrow.Author.Tests.{le-leb, lt-leb, leb-true, leb-false}
 use borrow.Rule.Slice.PartMut.{put_mid}
 use Rattle.nets.specs.declared.Pick.{Pick}
 use Rattle.nets.specs.Nets.{Net}
@@ -111,17 +112,17 @@ ended o out bs at h e d =
 
 -- ── the picks that are skipped ──
 
-module _ (bs : List ℕ) (from n : ℕ) (e : n ≡ cond (ltb from (length bs / 2)) from (length bs / 2)) where
+module _ (bs : List ℕ) (from n : ℕ) (e : n ≡ min from (length bs / 2)) where
   -- all that are said, or all there are
   abbrev Which : Type 0
-  Which = ((n ≡ from) × (from < length bs / 2)) ⊎ ((n ≡ length bs / 2) × (length bs / 2 ≤ from))
+  Which = ((n ≡ from) × (from ≤ length bs / 2)) ⊎ ((n ≡ length bs / 2) × (length bs / 2 ≤ from))
 
   which : Which
-  which = go (ltb from (length bs / 2)) refl
+  which = go (leb from (length bs / 2)) refl
     where
-      go : (b : Bool) → ltb from (length bs / 2) ≡ b → Which
-      go true q = inl (e ∙ rw q refl, ltb-true from (length bs / 2) q)
-      go false q = inr (e ∙ rw q refl, ltb-false from (length bs / 2) q)
+      go : (b : Bool) → leb from (length bs / 2) ≡ b → Which
+      go true q = let h = leb-true from (length bs / 2) q in inl (e ∙ min-eq_left h, h)
+      go false q = let h = leb-false from (length bs / 2) q in let k : length bs / 2 ≤ from = omega (arith, h) in inr (e ∙ min-eq_right k, k)
 
   pub few_skipped : n * 2 ≤ length bs
   few_skipped = go which

@@ -2,13 +2,11 @@
 // Columns: shoe, colour, size, sales.
 #![tactic(auto)]
 
-ghost use Rattle.std.specs.Prelude.{◌≡◌, [], ◌∷◌, replicate};
-ghost use Rattle.values.specs.declared.Got.TheVariants.{Nothing};
-ghost use Rattle.values.specs.Operands.{vars_of};
+ghost use Rattle.std.specs.Prelude.{◌≡◌, [], ◌∷◌, replicate, None};
 ghost use Rattle.rows.specs.View.{Shaped, Short};
 ghost use Rattle.cases.specs.Kld.{Kld};
 
-use print_lines::buffer::{put_byte, write_buffer};
+use print_lines::buffer::Buffered;
 use print_lines::cells::{put_rows, put_value};
 use row_aggregate::aggregate;
 use row_change::Swept;
@@ -19,9 +17,10 @@ use row_match::match_row;
 use row_plan::plan_of;
 use row_sweep::swept;
 use row_terms::terms_of;
-use rows::{Cell, Field, Function, Operands, Relation, Row, Selector, Test};
+use rows::{Function, Operands, Relation, Row, Selector, Test};
 use std::io;
-use values::{Got, Operand, Slot, Value};
+use std::io::Write;
+use values::{Operand, Value, Vars};
 
 const SHOE1: u32 = 0x30303120;
 
@@ -42,20 +41,13 @@ const CAPITAL_WHITE: u32 = 0x57686974; // Whit
 // ---- rows and operands
 
 fn shoe(id: u32, colour: u32, size: i32, sales: i32) -> Row {
-    let a = Cell {
-        value: Value::Text(id),
-    };
-    let b = Cell {
-        value: Value::Text(colour),
-    };
-    let c = Cell {
-        value: Value::Int(size),
-    };
-    let d = Cell {
-        value: Value::Int(sales),
-    };
     Row {
-        cells: [a, b, c, d],
+        cells: [
+            Value::Text(id),
+            Value::Text(colour),
+            Value::Int(size),
+            Value::Int(sales),
+        ],
     }
 }
 
@@ -80,36 +72,22 @@ fn kld() -> Relation
     }
 }
 
-fn operands(a: Operand, b: Operand, c: Operand, d: Operand, count: usize) -> Operands
-    ensures { (result.fields ≡ record { operand = a } ∷ record { operand = b } ∷ record { operand = c } ∷ record { operand = d } ∷ []) × (result.count ≡ count) }
-{
-    let e = Field { operand: a };
-    let f = Field { operand: b };
-    let g = Field { operand: c };
-    let h = Field { operand: d };
-    Operands {
-        fields: [e, f, g, h],
-        count,
-    }
-}
-
-// A template of four operands, with a predicate.
-fn selector(template: Operands, test: Test, left: Operand, right: Operand) -> Selector
+// A template with no predicate.
+fn unconditional(template: Operands) -> Selector
     ensures { result.template ≡ template }
 {
     Selector {
         template,
-        test,
-        left,
-        right,
+        test: Test::Always,
+        left: Operand::Absent,
+        right: Operand::Absent,
     }
 }
 
-fn nothing_bound() -> [Slot; 16]
-    ensures { vars_of result ≡ replicate 16 Nothing }
+fn nothing_bound() -> Vars
+    ensures { result ≡ replicate 16 None }
 {
-    let s = Slot { held: Got::Nothing };
-    [s; 16]
+    [None; 16]
 }
 
 // ---- passes over a relation
@@ -117,13 +95,10 @@ fn nothing_bound() -> [Slot; 16]
 fn none_given() -> Operands
     ensures { Short result }
 {
-    operands(
-        Operand::Absent,
-        Operand::Absent,
-        Operand::Absent,
-        Operand::Absent,
-        0,
-    )
+    Operands {
+        fields: [Operand::Absent; 4],
+        count: 0,
+    }
 }
 
 // Which rows s selects.
@@ -131,14 +106,9 @@ fn marked(r: Relation, s: Selector) -> [bool; 16]
     requires { Shaped r × Short s.template }
 {
     let vars = nothing_bound();
-    let template = s.template;
-    let columns = r.columns;
-    let kinds = r.kinds;
     let plan = plan_of(s, vars);
-    let terms = terms_of(none_given(), template, vars);
-    let o = swept(r, r.count, plan, false, false, terms, columns, kinds);
-    let flags = o.flags;
-    flags
+    let terms = terms_of(none_given(), s.template, vars);
+    swept(r, r.count, plan, false, false, terms, r.columns, r.kinds).flags
 }
 
 // The rows that s selects, with what t gives for them in columns of these kinds; only where it fits, or any.
@@ -146,181 +116,164 @@ fn replaced(r: Relation, s: Selector, t: Operands, any: bool, kinds: [u8; 4]) ->
     requires { Shaped r × Short s.template × Short t }
 {
     let vars = nothing_bound();
-    let template = s.template;
-    let columns = t.count;
     let plan = plan_of(s, vars);
-    let terms = terms_of(t, template, vars);
-    swept(r, r.count, plan, true, any, terms, columns, kinds)
+    let terms = terms_of(t, s.template, vars);
+    swept(r, r.count, plan, true, any, terms, t.count, kinds)
 }
 
 // ---- printing
 
-fn print_rows(rt: &impl Print, r: Relation) -> io::Result<()> {
-    let mut buffer = [0u8; 4096];
-    let at = put_rows(rt, &mut buffer, 0, r)?;
-    write_buffer(rt, &buffer, at)
-}
-
-fn print_one(rt: &impl Print, v: Value) -> io::Result<()> {
-    let mut buffer = [0u8; 4096];
-    let mut at = put_byte(rt, &mut buffer, 0, b' ')?;
-    at = put_value(rt, &mut buffer, at, v)?;
-    at = put_byte(rt, &mut buffer, at, b'\n')?;
-    write_buffer(rt, &buffer, at)
-}
-
-fn print_got(rt: &impl Print, g: Got) -> io::Result<()> {
+fn put_got(out: &mut impl Write, g: Option<Value>) -> io::Result<()> {
     match g {
-        Got::Nothing => rt.write_all(b" none\n"),
-        Got::One(v) => print_one(rt, v),
+        None => writeln!(out, " none"),
+        Some(v) => {
+            write!(out, " ")?;
+            put_value(out, v)?;
+            writeln!(out)
+        }
     }
 }
 
 // How many fields matching looks at, of each row of the table that T is held against, in its order.
-fn print_looks(rt: &impl Print, r: Relation, template: Operands) -> io::Result<()>
+fn put_looks(out: &mut impl Write, r: Relation, template: Operands) -> io::Result<()>
     requires { Shaped r × Short template }
 {
-    rt.write_all(b"fields looked at")?;
-    let vars = nothing_bound();
-    let mut i: usize = 0;
-    while i < r.count {
-        let row = r.rows[i];
-        let m = match_row(template, vars, r.columns, row);
-        rt.write_all(b" ")?;
-        print!(rt; "{}", m.looked)?;
-        i += 1;
+    write!(out, "fields looked at")?;
+    for row in r.rows.iter().take(r.count) {
+        let m = match_row(template, nothing_bound(), r.columns, *row);
+        write!(out, " {}", m.looked)?;
     }
-    rt.write_all(b"\n")
+    writeln!(out)
 }
 
 // ---- the cases
 
 // Example 4: the shoes that are not red; their colour, size and sales.
-fn not_red(rt: &impl Print, r: Relation) -> io::Result<()>
+fn not_red(out: &mut impl Write, r: Relation) -> io::Result<()>
     requires { Kld r }
 {
-    rt.write_all(b"001, not red\n")?;
-    let template = operands(
-        Operand::ConstText(SHOE1),
-        Operand::Formal(1),
-        Operand::Formal(2),
-        Operand::Formal(3),
-        4,
-    );
-    let s = selector(
+    writeln!(out, "001, not red")?;
+    let template = Operands {
+        fields: [
+            Operand::ConstText(SHOE1),
+            Operand::Formal(1),
+            Operand::Formal(2),
+            Operand::Formal(3),
+        ],
+        count: 4,
+    };
+    let s = Selector {
         template,
-        Test::Unequal,
-        Operand::Var(1),
-        Operand::ConstText(RED),
-    );
-    let t = operands(
-        Operand::Var(1),
-        Operand::Var(2),
-        Operand::Var(3),
-        Operand::Absent,
-        3,
-    );
-    let own = r.kinds;
-    let kinds = selected_kinds(t, template, own, nothing_bound());
-    let o = replaced(r, s, t, true, kinds);
-    let rows = o.rows;
-    let flags = o.flags;
+        test: Test::Unequal,
+        left: Operand::Var(1),
+        right: Operand::ConstText(RED),
+    };
+    let t = Operands {
+        fields: [
+            Operand::Var(1),
+            Operand::Var(2),
+            Operand::Var(3),
+            Operand::Absent,
+        ],
+        count: 3,
+    };
+    let kinds = selected_kinds(t, template, r.kinds, nothing_bound());
+    let Swept { rows, flags } = replaced(r, s, t, true, kinds);
     let made = Relation {
         columns: 3,
         kinds,
         rows,
-        count: r.count,
+        ..r
     };
-    print_rows(rt, sifted(made, flags, true))?;
-    print_looks(rt, r, template)
+    put_rows(out, &sifted(made, flags, true))?;
+    put_looks(out, r, template)
 }
 
 // Example 6: the sum of the sales of shoe 001.
-fn sales(rt: &impl Print, r: Relation) -> io::Result<()>
+fn sales(out: &mut impl Write, r: Relation) -> io::Result<()>
     requires { Kld r }
 {
-    rt.write_all(b"001, sales")?;
-    let template = operands(
-        Operand::ConstText(SHOE1),
-        Operand::Formal(1),
-        Operand::Formal(2),
-        Operand::Formal(3),
-        4,
-    );
-    let s = selector(template, Test::Always, Operand::Absent, Operand::Absent);
+    write!(out, "001, sales")?;
+    let template = Operands {
+        fields: [
+            Operand::ConstText(SHOE1),
+            Operand::Formal(1),
+            Operand::Formal(2),
+            Operand::Formal(3),
+        ],
+        count: 4,
+    };
+    let s = unconditional(template);
     let taken = sifted(r, marked(r, s), true);
-    print_got(rt, aggregate(Function::Sum, 3, taken))?;
-    print_looks(rt, r, template)
+    put_got(out, aggregate(Function::Sum, 3, taken))?;
+    put_looks(out, r, template)
 }
 
 // Examples 2 and 3: white inserted, and deleted by "White".
-fn white(rt: &impl Print, r: Relation) -> io::Result<()>
+fn white(out: &mut impl Write, r: Relation) -> io::Result<()>
     requires { Kld r × (r.count ≡ 7) }
 {
-    rt.write_all(b"white inserted\n")?;
+    writeln!(out, "white inserted")?;
     let more = push(r, shoe(SHOE1, WHITE, 37, 0));
-    print_rows(rt, more)?;
-    let template = operands(
-        Operand::ConstText(SHOE1),
-        Operand::ConstText(CAPITAL_WHITE),
-        Operand::ConstInt(37),
-        Operand::Formal(3),
-        4,
-    );
-    let s = selector(template, Test::Always, Operand::Absent, Operand::Absent);
+    put_rows(out, &more)?;
+    let template = Operands {
+        fields: [
+            Operand::ConstText(SHOE1),
+            Operand::ConstText(CAPITAL_WHITE),
+            Operand::ConstInt(37),
+            Operand::Formal(3),
+        ],
+        count: 4,
+    };
+    let s = unconditional(template);
     let flags = marked(more, s);
     let kept = sifted(more, flags, false);
     let taken = sifted(more, flags, true);
-    rt.write_all(b"deleted by White\n")?;
-    print_rows(rt, taken)?;
-    print_looks(rt, more, template)?;
-    rt.write_all(b"left\n")?;
-    print_rows(rt, kept)
+    writeln!(out, "deleted by White")?;
+    put_rows(out, &taken)?;
+    put_looks(out, more, template)?;
+    writeln!(out, "left")?;
+    put_rows(out, &kept)
 }
 
 // Example 5: two more red ones of size 37 are sold.
-fn sold(rt: &impl Print, r: Relation) -> io::Result<()>
+fn sold(out: &mut impl Write, r: Relation) -> io::Result<()>
     requires { Kld r }
 {
-    let template = operands(
-        Operand::ConstText(SHOE1),
-        Operand::ConstText(RED),
-        Operand::ConstInt(37),
-        Operand::Formal(3),
-        4,
-    );
-    let s = selector(template, Test::Always, Operand::Absent, Operand::Absent);
-    let t = operands(
-        Operand::ConstText(SHOE1),
-        Operand::ConstText(RED),
-        Operand::ConstInt(37),
-        Operand::Plus(3, 2),
-        4,
-    );
-    let columns = r.columns;
-    let kinds = r.kinds;
-    let o = replaced(r, s, t, false, kinds);
-    let rows = o.rows;
-    let flags = o.flags;
-    let next = Relation {
-        columns,
-        kinds,
-        rows,
-        count: r.count,
+    let template = Operands {
+        fields: [
+            Operand::ConstText(SHOE1),
+            Operand::ConstText(RED),
+            Operand::ConstInt(37),
+            Operand::Formal(3),
+        ],
+        count: 4,
     };
-    rt.write_all(b"two red 37 sold, rows replaced ")?;
-    print!(rt; "{}", count_marks(flags))?;
-    rt.write_all(b"\n")?;
-    print_rows(rt, next)?;
-    print_looks(rt, r, template)
+    let s = unconditional(template);
+    let t = Operands {
+        fields: [
+            Operand::ConstText(SHOE1),
+            Operand::ConstText(RED),
+            Operand::ConstInt(37),
+            Operand::Plus(3, 2),
+        ],
+        count: 4,
+    };
+    let Swept { rows, flags } = replaced(r, s, t, false, r.kinds);
+    let next = Relation { rows, ..r };
+    writeln!(out, "two red 37 sold, rows replaced {}", count_marks(flags))?;
+    put_rows(out, &next)?;
+    put_looks(out, r, template)
 }
 
 fn main(rt: HostRuntime) -> io::Result<()> {
+    let mut out = Buffered::new(&rt);
     let r = kld();
-    rt.write_all(b"KLD\n")?;
-    print_rows(&rt, r)?;
-    not_red(&rt, r)?;
-    sales(&rt, r)?;
-    white(&rt, r)?;
-    sold(&rt, r)
+    writeln!(out, "KLD")?;
+    put_rows(&mut out, &r)?;
+    not_red(&mut out, r)?;
+    sales(&mut out, r)?;
+    white(&mut out, r)?;
+    sold(&mut out, r)?;
+    out.flush()
 }

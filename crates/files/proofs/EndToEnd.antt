@@ -7,7 +7,7 @@ use native.Mathlib.Omega.{arith}
 use lib.Dec.{T, eqb, eqb→eq}
 use lib.ListN.{length, replicate, length-append}
 use lib.Seq.{take_at, drop_at}
-use Rattle.values.specs.Lists.{all}
+use Rattle.std.specs.List.{list_all}
 use Rattle.values.proofs.Bools.{and_l, and_r, not-T→false}
 use Rattle.record_bytes.specs.Bytes.{parts, leading, then_only}
 use Rattle.value_bytes.specs.Bytes.{end_to_end}
@@ -16,7 +16,7 @@ use Rattle.value_bytes.specs.Bytes.{end_to_end}
 
 -- each of a size
 abbrev pub sized : ℕ → List (List ℕ) → Bool
-sized k l = all (λ (p : List ℕ). eqb (length p) k) l
+sized k l = list_all (λ (p : List ℕ). eqb (length p) k) l
 
 module _ (k : ℕ) where
   pub ends-length : (l : List (List ℕ)) → T (sized k l) → length (end_to_end l) ≡ length l * k
@@ -34,18 +34,18 @@ module _ (k : ℕ) where
 -- ── some, then only nones ──
 
 module _ {A : Type 0} (is_none : A → Bool) where
-  pub leading-some : (l : List A) (z : List A) → T (all (λ a. not (is_none a)) l) → leading is_none (l ++ z) ≡ l ++ leading is_none z
+  pub leading-some : (l : List A) (z : List A) → T (list_all (λ a. not (is_none a)) l) → leading is_none (l ++ z) ≡ l ++ leading is_none z
   leading-some [] z h = refl
   leading-some (a ∷ l) z h =
-      rw (not-T→false (is_none a) (and_l (not (is_none a)) (all (λ x. not (is_none x)) l) h), leading-some l z (and_r (not (is_none a)) (all (λ x. not (is_none x)) l) h))
+      rw (not-T→false (is_none a) (and_l (not (is_none a)) (list_all (λ x. not (is_none x)) l) h), leading-some l z (and_r (not (is_none a)) (list_all (λ x. not (is_none x)) l) h))
 
-  pub then_some : (l : List A) (z : List A) → T (all (λ a. not (is_none a)) l) → then_only is_none (l ++ z) ≡ then_only is_none z
+  pub then_some : (l : List A) (z : List A) → T (list_all (λ a. not (is_none a)) l) → then_only is_none (l ++ z) ≡ then_only is_none z
   then_some [] z h = refl
   then_some (a ∷ l) z h =
-      rw (not-T→false (is_none a) (and_l (not (is_none a)) (all (λ x. not (is_none x)) l) h)) (then_some l z (and_r (not (is_none a)) (all (λ x. not (is_none x)) l) h))
+      rw (not-T→false (is_none a) (and_l (not (is_none a)) (list_all (λ x. not (is_none x)) l) h)) (then_some l z (and_r (not (is_none a)) (list_all (λ x. not (is_none x)) l) h))
 
   module _ (z : A) (none : is_none z ≡ true) where
-    all_none : (n : ℕ) → all is_none (replicate n z) ≡ true
+    all_none : (n : ℕ) → list_all is_none (replicate n z) ≡ true
     all_none zero = refl
     all_none (suc n) = rw none (all_none n)
 

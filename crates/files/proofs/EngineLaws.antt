@@ -2,7 +2,8 @@
 use Prim.Native.Nat.{ℕ, ◌+◌}
 use mathlib.Core.Path.{◌≡◌, refl, ap, ap₂, sym, ◌∙◌, subst}
 use mathlib.Core.List.{List, [], ◌∷◌}
-use mathlib.Core.Option.{none}
+use Rattle.std.specs.Prelude.{None, Ok}
+use Rattle.std.specs.Result.{result_err}
 use native.Mathlib.Omega.{arith}
 use lib.Dec.{T}
 use Rattle.nets.specs.declared.Pick.{Pick}
@@ -15,12 +16,11 @@ use Rattle.nets.specs.Steps.{step}
 use Rattle.nets.specs.Accounts.{next_net, after, answers, added_in, taken_in, reported_added, reported_taken}
 use Rattle.nets.specs.View.{view}
 use Rattle.nets.specs.Answers.{answer_of, added_said, taken_said}
-use Rattle.files.specs.declared.Verdict.TheVariants.{Accepted}
 use Rattle.files.specs.declared.Loaded.{Loaded}
 use Rattle.files.specs.Loading.{LoadAnswer, rejected, accepted, empty_net, load_bytes, fault_of, is_accepted}
 use Rattle.files.specs.FileDemand3.{file_net, FileDemand3}
 use Rattle.files.specs.Empty.{blank_net}
-use Rattle.files.specs.Engine.{fault_in, LoadIs}
+use Rattle.files.specs.Engine.{LoadIs}
 use Rattle.files.specs.EngineDemand3.{Chain, last_net, added_reported, taken_reported, EveryEngineRun}
 use Rattle.files.proofs.FileLaws.{file-loaded, file-demand3}
 
@@ -74,15 +74,15 @@ chain_taken net (p ∷ ps) (r ∷ rs) c =
 
 -- ── what the engine accepts, the rules accept ──
 
-no-fault : (x : LoadAnswer) → fault_of x ≡ none → T (is_accepted x)
+no-fault : (x : LoadAnswer) → fault_of x ≡ None → T (is_accepted x)
 no-fault (rejected n i) e = let z : ◌≡◌ {A = ℕ} 0 1 = cc in absurd (omega arith)
 no-fault (accepted net ps) e = tt
 
-pub verdict-accepts : (file : List ℕ) (l : Loaded) → LoadIs file l → l.verdict ≡ Accepted → T (is_accepted (load_bytes file))
-verdict-accepts file l h e = no-fault (load_bytes file) (sym h.fault ∙ ap fault_in e)
+pub verdict-accepts : (file : List ℕ) (l : Loaded) → LoadIs file l → l.verdict ≡ Ok tt → T (is_accepted (load_bytes file))
+verdict-accepts file l h e = no-fault (load_bytes file) (sym h.fault ∙ ap result_err e)
 
 -- and what the engine loaded is sound
-pub loaded-sound : (file : List ℕ) (l : Loaded) → LoadIs file l → l.verdict ≡ Accepted → T (sound (view l.net))
+pub loaded-sound : (file : List ℕ) (l : Loaded) → LoadIs file l → l.verdict ≡ Ok tt → T (sound (view l.net))
 loaded-sound file l h e = rw h.net (file-loaded file (verdict-accepts file l h e)).is_sound
 
 pub engine_demand3 : EveryEngineRun

@@ -2,10 +2,10 @@
 use Prim.Native.Nat.{ℕ, suc, ◌%◌}
 use mathlib.Core.Bool.{Bool, true, false, cond, ◌&&◌}
 use mathlib.Core.List.{List, [], ◌∷◌}
-use mathlib.Core.Option.{Option, none, some}
+use Rattle.std.specs.Prelude.{Option, None, Some}
 use lib.Dec.{T, eqb, leb}
 use lib.ListN.{length}
-use Rattle.values.specs.Lists.{all}
+use Rattle.std.specs.List.{list_all}
 use Rattle.values.proofs.Bools.{and_l, and_r}
 use Rattle.values.proofs.ListLaws.{all_map}
 use Rattle.nets.specs.Steps.{Check}
@@ -41,38 +41,38 @@ unfolding record_in
 record_numbered r = search (kind-numbered, unknown_numbered) depth 8
 
 abbrev option_numbered : Option ℕ → Bool
-option_numbered none = true
-option_numbered (some n) = is_number n
+option_numbered None = true
+option_numbered (Some n) = is_number n
 
-failing-numbered : (ks : List Check) → T (all (λ k. is_number k.number) ks) → T (option_numbered (failing ks))
+failing-numbered : (ks : List Check) → T (list_all (λ k. is_number k.number) ks) → T (option_numbered (failing ks))
 failing-numbered [] h = tt
-failing-numbered (k ∷ ks) h = go k.passes (failing-numbered ks (and_r (is_number k.number) (all (λ j. is_number j.number) ks) h))
+failing-numbered (k ∷ ks) h = go k.passes (failing-numbered ks (and_r (is_number k.number) (list_all (λ j. is_number j.number) ks) h))
   where
     go : (b : Bool) → T (option_numbered (failing ks)) → T (option_numbered (failed b k.number (failing ks)))
     go true ih = ih
-    go false ih = and_l (is_number k.number) (all (λ j. is_number j.number) ks) h
+    go false ih = and_l (is_number k.number) (list_all (λ j. is_number j.number) ks) h
 
 checks-numbered : (l : Progress) (r : Record) → T (option_numbered (failing (load_checks l r)))
 unfolding load_checks
 checks-numbered l r = failing-numbered (load_checks l r) tt
 
-read-numbered : (i : ℕ) (l : Progress) (xs : List Decoded) → T (all decoded_numbered xs) → T (reading_numbered (read_all i l xs))
+read-numbered : (i : ℕ) (l : Progress) (xs : List Decoded) → T (list_all decoded_numbered xs) → T (reading_numbered (read_all i l xs))
 unfolding read_all
 read-numbered i l [] h = tt
-read-numbered i l (bad n ∷ xs) h = and_l (is_number n) (all decoded_numbered xs) h
+read-numbered i l (bad n ∷ xs) h = and_l (is_number n) (list_all decoded_numbered xs) h
 read-numbered i l (good r ∷ xs) h = go (failing (load_checks l r)) (checks-numbered l r) (read-numbered (suc i) (advance l r) xs h)
   where
     go : (o : Option ℕ) → T (option_numbered o) → T (reading_numbered (read_all (suc i) (advance l r) xs)) → T (reading_numbered (proceed o i (read_all (suc i) (advance l r) xs)))
-    go none k ih = ih
-    go (some n) k ih = k
+    go None k ih = ih
+    go (Some n) k ih = k
 
-load-numbered : (xs : List Decoded) → T (all decoded_numbered xs) → T (answer_numbered (load xs))
+load-numbered : (xs : List Decoded) → T (list_all decoded_numbered xs) → T (answer_numbered (load xs))
 unfolding load
 load-numbered xs h = go (read_all 0 nothing_read xs) (read-numbered 0 nothing_read xs h)
   where
     linked-numbered : (o : Option ℕ) (l : Progress) → T (answer_numbered (linked o l))
-    linked-numbered none l = tt
-    linked-numbered (some i) l = tt
+    linked-numbered None l = tt
+    linked-numbered (Some i) l = tt
 
     go : (x : Reading) → T (reading_numbered x) → T (answer_numbered (finish xs x))
     go (stopped n i) k = k

@@ -3,12 +3,12 @@ use Prim.Native.Nat.{ℕ, suc}
 use mathlib.Core.Path.{◌≡◌, refl, ap, sym, subst, ◌∙◌}
 use mathlib.Core.Bool.{Bool, true, false}
 use mathlib.Core.List.{List, [], ◌∷◌, ◌++◌, append-nil, append_assoc}
-use mathlib.Core.Option.{Option, none, some}
+use Rattle.std.specs.Prelude.{Option, None, Some}
 use native.Mathlib.Omega.{arith}
 use lib.Dec.{T, ltb, le→leb}
 use lib.ListN.{length}
 use Rattle.values.specs.declared.Site.{Site}
-use Rattle.values.specs.Lists.{all}
+use Rattle.std.specs.List.{list_all}
 use Rattle.values.specs.Values.{site_ok}
 use Rattle.values.proofs.Bools.{and_l, and_r, and_in}
 use Rattle.rows.specs.Relations.{Columns}
@@ -80,15 +80,15 @@ record Pass (l : Progress) (r : Record) : Type 0 where
   seven : T (row_fits l.net r)
   eight : T (has_room l.net r)
 
-passed_of : (ks : List Check) → failing ks ≡ none → Passed ks
+passed_of : (ks : List Check) → failing ks ≡ None → Passed ks
 passed_of [] e = tt
 passed_of (k ∷ ks) e = go k.passes e (passed_of ks)
   where
-    go : (b : Bool) → failed b k.number (failing ks) ≡ none → (failing ks ≡ none → Passed ks) → T b × Passed ks
+    go : (b : Bool) → failed b k.number (failing ks) ≡ None → (failing ks ≡ None → Passed ks) → T b × Passed ks
     go true e ih = (tt, ih e)
     go false e ih = let z : ◌≡◌ {A = ℕ} 0 1 = cc in absurd (omega arith)
 
-pass : (l : Progress) (r : Record) → failing (load_checks l r) ≡ none → Pass l r
+pass : (l : Progress) (r : Record) → failing (load_checks l r) ≡ None → Pass l r
 unfolding load_checks
 pass l r e =
     let h = passed_of (load_checks l r) e in
@@ -107,8 +107,8 @@ Ends l xs (stopped k i) = Unit {0}
 Ends l xs (finished m) = Read l xs m
 
 or_assoc : (a b c : Option Columns) → or_later (or_later a b) c ≡ or_later a (or_later b c)
-or_assoc none b c = refl
-or_assoc (some cs) b c = refl
+or_assoc None b c = refl
+or_assoc (Some cs) b c = refl
 
 ends_more : (l : Progress) (r : Record) (xs : List Decoded) → Pass l r → (x : Reading) → Ends (advance l r) xs x → Ends l (good r ∷ xs) x
 unfolding advance rows_for columns_for
@@ -122,7 +122,7 @@ ends_more l r xs h (finished m) e =
       columns = λ s n. e.columns s n ∙ ap (λ (o : Option Columns). or_later o (columns_for s n xs)) (put-columns l.net r h.six s n) ∙ or_assoc (columns_at (table_at s n l.net.tables)) (columns_for1 s n r) (columns_for s n xs);
     }
 
-read : (i : ℕ) (l : Progress) (xs : List Decoded) → T (all decoded_ok xs) → Good l.net → Ends l xs (read_all i l xs)
+read : (i : ℕ) (l : Progress) (xs : List Decoded) → T (list_all decoded_ok xs) → Good l.net → Ends l xs (read_all i l xs)
 unfolding read_all rows_for columns_for advance
 read i l [] h g =
     record {
@@ -133,37 +133,37 @@ read i l [] h g =
       columns = λ s n. or-none (columns_at (table_at s n l.net.tables));
     }
 read i l (bad k ∷ xs) h g = tt
-read i l (good r ∷ xs) h g = go (failing (load_checks l r)) refl (read (suc i) (advance l r) xs (and_r (record_ok r) (all decoded_ok xs) h))
+read i l (good r ∷ xs) h g = go (failing (load_checks l r)) refl (read (suc i) (advance l r) xs (and_r (record_ok r) (list_all decoded_ok xs) h))
   where
     four : T (record_ok r)
-    four = and_l (record_ok r) (all decoded_ok xs) h
+    four = and_l (record_ok r) (list_all decoded_ok xs) h
 
     go : (o : Option ℕ) → failing (load_checks l r) ≡ o → (Good (put l.net r) → Ends (advance l r) xs (read_all (suc i) (advance l r) xs)) → Ends l (good r ∷ xs) (proceed o i (read_all (suc i) (advance l r) xs))
-    go (some n) e ih = tt
-    go none e ih =
+    go (Some n) e ih = tt
+    go None e ih =
         let p = pass l r e in
         ends_more l r xs p (read_all (suc i) (advance l r) xs) (ih (put-good l.net r g four p.six p.seven p.eight))
 
 -- ── check 9 ──
 
-linked_of : (b : Bool) (i : ℕ) (o : Option ℕ) → bad_link b i o ≡ none → T b × (o ≡ none)
+linked_of : (b : Bool) (i : ℕ) (o : Option ℕ) → bad_link b i o ≡ None → T b × (o ≡ None)
 linked_of true i o e = (tt, e)
 linked_of false i o e = let z : ◌≡◌ {A = ℕ} 0 1 = cc in absurd (omega arith)
 
-links_nodes : (n i j : ℕ) (xs : List Decoded) → T (all decoded_ok xs) → first_bad_link n i j xs ≡ none → T (nodes_ok n j (nodes_in xs))
+links_nodes : (n i j : ℕ) (xs : List Decoded) → T (list_all decoded_ok xs) → first_bad_link n i j xs ≡ None → T (nodes_ok n j (nodes_in xs))
 unfolding first_bad_link
 links_nodes n i j [] h e = tt
 links_nodes n i j (bad k ∷ xs) h e = links_nodes n (suc i) j xs h e
-links_nodes n i j (good (alias_record a) ∷ xs) h e = links_nodes n (suc i) j xs (and_r (record_ok (alias_record a)) (all decoded_ok xs) h) e
-links_nodes n i j (good (table_record s m cs) ∷ xs) h e = links_nodes n (suc i) j xs (and_r (record_ok (table_record s m cs)) (all decoded_ok xs) h) e
-links_nodes n i j (good (row_record s m r) ∷ xs) h e = links_nodes n (suc i) j xs (and_r (record_ok (row_record s m r)) (all decoded_ok xs) h) e
+links_nodes n i j (good (alias_record a) ∷ xs) h e = links_nodes n (suc i) j xs (and_r (record_ok (alias_record a)) (list_all decoded_ok xs) h) e
+links_nodes n i j (good (table_record s m cs) ∷ xs) h e = links_nodes n (suc i) j xs (and_r (record_ok (table_record s m cs)) (list_all decoded_ok xs) h) e
+links_nodes n i j (good (row_record s m r) ∷ xs) h e = links_nodes n (suc i) j xs (and_r (record_ok (row_record s m r)) (list_all decoded_ok xs) h) e
 links_nodes n i j (good (node_record d) ∷ xs) h e =
     let q = linked_of (links_ok_as d.kind n j d) i (first_bad_link n (suc i) (suc j) xs) e in
     and_in (node_ok_as d.kind n j d) (nodes_ok n (suc j) (nodes_in xs))
-    (and_in (fields_ok_as d.kind d) (links_ok_as d.kind n j d) (and_l (fields_ok_as d.kind d) (all decoded_ok xs) h) q.0)
-    (links_nodes n (suc i) (suc j) xs (and_r (fields_ok_as d.kind d) (all decoded_ok xs) h) q.1)
+    (and_in (fields_ok_as d.kind d) (links_ok_as d.kind n j d) (and_l (fields_ok_as d.kind d) (list_all decoded_ok xs) h) q.0)
+    (links_nodes n (suc i) (suc j) xs (and_r (fields_ok_as d.kind d) (list_all decoded_ok xs) h) q.1)
 links_nodes n i j (good (start_record s k) ∷ xs) h e =
-    links_nodes n (suc i) j xs (and_r (site_ok s) (all decoded_ok xs) h) (linked_of (ltb k n) i (first_bad_link n (suc i) j xs) e).1
+    links_nodes n (suc i) j xs (and_r (site_ok s) (list_all decoded_ok xs) h) (linked_of (ltb k n) i (first_bad_link n (suc i) j xs) e).1
 links_nodes n i j (good (pick_record p) ∷ xs) h e = links_nodes n (suc i) j xs h e
 
 fresh_ok : (ds : List Node) (s : Site) (k : ℕ) → T (site_ok s) → T (ltb k (length ds)) → T (thread_ok ds (fresh s k))
@@ -180,26 +180,26 @@ starts-ended ds (good (node_record d) ∷ xs) = starts-ended ds xs
 starts-ended ds (good (start_record s k) ∷ xs) = (tt, starts-ended ds xs)
 starts-ended ds (good (pick_record p) ∷ xs) = starts-ended ds xs
 
-links_threads : (ds : List Node) (i j : ℕ) (xs : List Decoded) → T (all decoded_ok xs) → first_bad_link (length ds) i j xs ≡ none → T (all (thread_ok ds) (threads_in xs))
+links_threads : (ds : List Node) (i j : ℕ) (xs : List Decoded) → T (list_all decoded_ok xs) → first_bad_link (length ds) i j xs ≡ None → T (list_all (thread_ok ds) (threads_in xs))
 unfolding first_bad_link
 links_threads ds i j [] h e = tt
 links_threads ds i j (bad k ∷ xs) h e = links_threads ds (suc i) j xs h e
-links_threads ds i j (good (alias_record a) ∷ xs) h e = links_threads ds (suc i) j xs (and_r (record_ok (alias_record a)) (all decoded_ok xs) h) e
-links_threads ds i j (good (table_record s m cs) ∷ xs) h e = links_threads ds (suc i) j xs (and_r (record_ok (table_record s m cs)) (all decoded_ok xs) h) e
-links_threads ds i j (good (row_record s m r) ∷ xs) h e = links_threads ds (suc i) j xs (and_r (record_ok (row_record s m r)) (all decoded_ok xs) h) e
+links_threads ds i j (good (alias_record a) ∷ xs) h e = links_threads ds (suc i) j xs (and_r (record_ok (alias_record a)) (list_all decoded_ok xs) h) e
+links_threads ds i j (good (table_record s m cs) ∷ xs) h e = links_threads ds (suc i) j xs (and_r (record_ok (table_record s m cs)) (list_all decoded_ok xs) h) e
+links_threads ds i j (good (row_record s m r) ∷ xs) h e = links_threads ds (suc i) j xs (and_r (record_ok (row_record s m r)) (list_all decoded_ok xs) h) e
 links_threads ds i j (good (node_record d) ∷ xs) h e =
-    links_threads ds (suc i) (suc j) xs (and_r (fields_ok_as d.kind d) (all decoded_ok xs) h)
+    links_threads ds (suc i) (suc j) xs (and_r (fields_ok_as d.kind d) (list_all decoded_ok xs) h)
     (linked_of (links_ok_as d.kind (length ds) j d) i (first_bad_link (length ds) (suc i) (suc j) xs) e).1
 links_threads ds i j (good (start_record s k) ∷ xs) h e =
     let q = linked_of (ltb k (length ds)) i (first_bad_link (length ds) (suc i) j xs) e in
-    and_in (thread_ok ds (fresh s k)) (all (thread_ok ds) (threads_in xs))
-    (fresh_ok ds s k (and_l (site_ok s) (all decoded_ok xs) h) q.0)
-    (links_threads ds (suc i) j xs (and_r (site_ok s) (all decoded_ok xs) h) q.1)
+    and_in (thread_ok ds (fresh s k)) (list_all (thread_ok ds) (threads_in xs))
+    (fresh_ok ds s k (and_l (site_ok s) (list_all decoded_ok xs) h) q.0)
+    (links_threads ds (suc i) j xs (and_r (site_ok s) (list_all decoded_ok xs) h) q.1)
 links_threads ds i j (good (pick_record p) ∷ xs) h e = links_threads ds (suc i) j xs h e
 
 -- ── what loading accepts ──
 
-good-sound : (net : Net) → Good net → T (nodes_ok (length net.nodes) 0 net.nodes) → T (all (thread_ok net.nodes) net.threads) → T (sound net)
+good-sound : (net : Net) → Good net → T (nodes_ok (length net.nodes) 0 net.nodes) → T (list_all (thread_ok net.nodes) net.threads) → T (sound net)
 good-sound net g a b =
     whole net
     (record {
@@ -230,7 +230,7 @@ unfolding distinct
 none_read =
     record { few_tables = omega arith; few_nodes = omega arith; few_threads = omega arith; tables = tt; fit = tt; names = tt; aliases = tt; differ = tt }
 
-accepts : (xs : List Decoded) → T (all decoded_ok xs) → Accepts xs (load xs)
+accepts : (xs : List Decoded) → T (list_all decoded_ok xs) → Accepts xs (load xs)
 unfolding load
 accepts xs four = ends (read_all 0 nothing_read xs) (read 0 nothing_read xs four none_read)
   where
@@ -239,14 +239,14 @@ accepts xs four = ends (read_all 0 nothing_read xs) (read 0 nothing_read xs four
     ends (finished m) h = go (first_bad_link (length m.net.nodes) 0 0 xs) refl
       where
         go : (o : Option ℕ) → first_bad_link (length m.net.nodes) 0 0 xs ≡ o → Accepts xs (linked o m)
-        go (some i) e = tt
-        go none e =
+        go (Some i) e = tt
+        go None e =
             record {
-              is_sound = good-sound m.net h.fine (subst (λ (ds : List Node). T (nodes_ok (length m.net.nodes) 0 ds)) (sym h.nodes) (links_nodes (length m.net.nodes) 0 0 xs four e)) (subst (λ (ts : List Thread). T (all (thread_ok m.net.nodes) ts)) (sym h.threads) (links_threads m.net.nodes 0 0 xs four e));
+              is_sound = good-sound m.net h.fine (subst (λ (ds : List Node). T (nodes_ok (length m.net.nodes) 0 ds)) (sym h.nodes) (links_nodes (length m.net.nodes) 0 0 xs four e)) (subst (λ (ts : List Thread). T (list_all (thread_ok m.net.nodes) ts)) (sym h.threads) (links_threads m.net.nodes 0 0 xs four e));
               rows = h.rows;
               tables = λ s n. rw (← h.columns s n, ← h.rows s n) (table_is_lem s n m.net.tables);
               starts = λ ds. subst (rounds_ended ds) (sym h.threads) (starts-ended ds xs);
             }
 
-pub load-accepted : (xs : List Decoded) → T (all decoded_ok xs) → (net : Net) (ps : List Pick) → load xs ≡ accepted net ps → Accepted xs net
+pub load-accepted : (xs : List Decoded) → T (list_all decoded_ok xs) → (net : Net) (ps : List Pick) → load xs ≡ accepted net ps → Accepted xs net
 load-accepted xs h net ps e = subst (Accepts xs) e (accepts xs h)

@@ -3,12 +3,13 @@ use Prim.Native.Nat.{ℕ, ◌≤◌}
 use mathlib.Core.Path.{◌≡◌, refl, ap, sym, subst, ◌∙◌}
 use mathlib.Core.Bool.{Bool, true, false, not, cond, ◌||◌}
 use mathlib.Core.List.{List, [], ◌∷◌, ◌++◌, append-nil}
-use mathlib.Core.Option.{Option, none, some}
+use Rattle.std.specs.Prelude.{Option, None, Some, is_some, cond}
 use native.Mathlib.Omega.{arith}
 use lib.Dec.{T, ltb, ltb→lt}
 use lib.ListN.{length, length-append}
 use Rattle.values.specs.declared.Site.{Site}
-use Rattle.values.specs.Lists.{all, any, is_some, keep, first, find}
+use Rattle.values.specs.Lists.{keep}
+use Rattle.std.specs.List.{find, list_all, list_any}
 use Rattle.values.specs.Values.{in_range}
 use Rattle.values.proofs.Bools.{and_l, and_r, and_in}
 use Rattle.values.proofs.ListLaws.{all_append}
@@ -31,55 +32,55 @@ pub record Good (net : Net) : Type 0 where
   pub few_tables : length net.tables ≤ 8
   pub few_nodes : length net.nodes ≤ 128
   pub few_threads : length net.threads ≤ 8
-  pub tables : T (all table_ok net.tables)
-  pub fit : T (all rows_fit net.tables)
+  pub tables : T (list_all table_ok net.tables)
+  pub fit : T (list_all rows_fit net.tables)
   pub names : T (distinct net.tables)
-  pub aliases : T (all alias_ok net.aliases)
+  pub aliases : T (list_all alias_ok net.aliases)
   pub differ : T (aliases_differ net.aliases)
 
 -- none so far, and not the last
-any_last : {A : Type 0} (p : A → Bool) (l : List A) (a : A) → T (not (any p l)) → p a ≡ false → T (not (any p (l ++ (a ∷ []))))
+any_last : {A : Type 0} (p : A → Bool) (l : List A) (a : A) → T (not (list_any p l)) → p a ≡ false → T (not (list_any p (l ++ (a ∷ []))))
 any_last p [] a h e = rw e tt
 any_last p (b ∷ l) a h e = go (p b) h (λ k. any_last p l a k e)
   where
-    go : (q : Bool) → T (not (q || any p l)) → (T (not (any p l)) → T (not (any p (l ++ (a ∷ []))))) → T (not (q || any p (l ++ (a ∷ []))))
+    go : (q : Bool) → T (not (q || list_any p l)) → (T (not (list_any p l)) → T (not (list_any p (l ++ (a ∷ []))))) → T (not (q || list_any p (l ++ (a ∷ []))))
     go true h ih = h
     go false h ih = ih h
 
-any_head : {A : Type 0} (p : A → Bool) (b : A) (l : List A) → T (not (any p (b ∷ l))) → (p b ≡ false) × T (not (any p l))
+any_head : {A : Type 0} (p : A → Bool) (b : A) (l : List A) → T (not (list_any p (b ∷ l))) → (p b ≡ false) × T (not (list_any p l))
 any_head p b l h = go (p b) h
   where
-    go : (q : Bool) → T (not (q || any p l)) → (q ≡ false) × T (not (any p l))
+    go : (q : Bool) → T (not (q || list_any p l)) → (q ≡ false) × T (not (list_any p l))
     go true h = absurd h
     go false h = (refl, h)
 
 -- a new alias, at the end
-pub alias-append : (ls : List Alias) (a : Alias) → T (aliases_differ ls) → T (not (any (λ b. same_alias b a) ls)) → T (aliases_differ (ls ++ (a ∷ [])))
+pub alias-append : (ls : List Alias) (a : Alias) → T (aliases_differ ls) → T (not (list_any (λ b. same_alias b a) ls)) → T (aliases_differ (ls ++ (a ∷ [])))
 alias-append [] a h k = tt
 alias-append (b ∷ ls) a h k =
     let q = any_head (λ c. same_alias c a) b ls k in
-    and_in (not (any (same_alias b) (ls ++ (a ∷ [])))) (aliases_differ (ls ++ (a ∷ [])))
-    (any_last (same_alias b) ls a (and_l (not (any (same_alias b) ls)) (aliases_differ ls) h) q.0)
-    (alias-append ls a (and_r (not (any (same_alias b) ls)) (aliases_differ ls) h) q.1)
+    and_in (not (list_any (same_alias b) (ls ++ (a ∷ [])))) (aliases_differ (ls ++ (a ∷ [])))
+    (any_last (same_alias b) ls a (and_l (not (list_any (same_alias b) ls)) (aliases_differ ls) h) q.0)
+    (alias-append ls a (and_r (not (list_any (same_alias b) ls)) (aliases_differ ls) h) q.1)
 
 -- a row more, at the end of its table
 module _ (s : Site) (n : ℕ) (r : Row) (ts : List Table) where
   abbrev more : List Row → List Row
   more rs = rs ++ (r ∷ [])
 
-  row-ok : T (all in_range r) → T (ltb (length (rows_of (table_at s n ts))) 16) → T (all table_ok ts) → T (all table_ok (change s n more ts))
+  row-ok : T (list_all in_range r) → T (ltb (length (rows_of (table_at s n ts))) 16) → T (list_all table_ok ts) → T (list_all table_ok (change s n more ts))
   row-ok range room h = change-all s n more table_ok ts ok h
     where
-      ok : (t : Table) → table_at s n ts ≡ some t → T (table_ok t) → T (table_ok (with_rows (more t.content.rows) t))
+      ok : (t : Table) → table_at s n ts ≡ Some t → T (table_ok t) → T (table_ok (with_rows (more t.content.rows) t))
       ok t e k =
           rows_ok_lem (more t.content.rows) t k
           (rw length-append (omega (arith, ltb→lt (length t.content.rows) 16 (subst (λ (o : Option Table). T (ltb (length (rows_of o)) 16)) e room))))
-          (all_append (λ x. all in_range x) t.content.rows (r ∷ []) (table_range t k) (and_in (all in_range r) true range tt))
+          (all_append (λ x. list_all in_range x) t.content.rows (r ∷ []) (table_range t k) (and_in (list_all in_range r) true range tt))
 
-  row-fit : T (fits_row (columns_of (table_at s n ts)) r) → T (all rows_fit ts) → T (all rows_fit (change s n more ts))
+  row-fit : T (fits_row (columns_of (table_at s n ts)) r) → T (list_all rows_fit ts) → T (list_all rows_fit (change s n more ts))
   row-fit fits h = change-all s n more rows_fit ts ok h
     where
-      ok : (t : Table) → table_at s n ts ≡ some t → T (rows_fit t) → T (rows_fit (with_rows (more t.content.rows) t))
+      ok : (t : Table) → table_at s n ts ≡ Some t → T (rows_fit t) → T (rows_fit (with_rows (more t.content.rows) t))
       ok t e k =
           all_append (fits_row t.content.columns) t.content.rows (r ∷ []) k
           (and_in (fits_row t.content.columns r) true (subst (λ (o : Option Table). T (fits_row (columns_of o) r)) e fits) tt)
@@ -170,14 +171,14 @@ module _ (net : Net) where
 
 -- the columns of a table found
 abbrev pub columns_at : Option Table → Option Columns
-columns_at none = none
-columns_at (some t) = some t.content.columns
+columns_at None = None
+columns_at (Some t) = Some t.content.columns
 
-pub or-none : (o : Option Columns) → o ≡ or_later o none
-or-none none = refl
-or-none (some cs) = refl
+pub or-none : (o : Option Columns) → o ≡ or_later o None
+or-none None = refl
+or-none (Some cs) = refl
 
-columns-first : (b : Bool) (t : Table) (o : Option Table) → columns_at (first b t o) ≡ cond b (some t.content.columns) (columns_at o)
+columns-first : (b : Bool) (t : Table) (o : Option Table) → columns_at (cond b (Some t) o) ≡ cond b (Some t.content.columns) (columns_at o)
 columns-first true t o = refl
 columns-first false t o = refl
 
@@ -186,7 +187,7 @@ unfolding change
 change-columns s n g s' n' [] = refl
 change-columns s n g s' n' (t ∷ ts) = go (is_at s n t) (change-columns s n g s' n' ts)
   where
-    go : (b : Bool) → columns_at (table_at s' n' (change s n g ts)) ≡ columns_at (table_at s' n' ts) → columns_at (table_at s' n' (changed b g t ts (change s n g ts))) ≡ columns_at (first (is_at s' n' t) t (table_at s' n' ts))
+    go : (b : Bool) → columns_at (table_at s' n' (change s n g ts)) ≡ columns_at (table_at s' n' ts) → columns_at (table_at s' n' (changed b g t ts (change s n g ts))) ≡ columns_at (cond (is_at s' n' t) (Some t) (table_at s' n' ts))
     go true ih = simp columns-first
     go false ih = simp (columns-first, ih)
 
@@ -196,7 +197,7 @@ module _ (net : Net) where
   put-columns (alias_record a) six s n = or-none (columns_at (table_at s n net.tables))
   put-columns (table_record t m cs) six s n = go (same_key s n t m) refl
     where
-      go : (b : Bool) → same_key s n t m ≡ b → columns_at (table_at s n (net.tables ++ (bare t m cs ∷ []))) ≡ or_later (columns_at (table_at s n net.tables)) (cond b (some cs) none)
+      go : (b : Bool) → same_key s n t m ≡ b → columns_at (table_at s n (net.tables ++ (bare t m cs ∷ []))) ≡ or_later (columns_at (table_at s n net.tables)) (cond b (Some cs) None)
       go true e =
           let h = subst T (sym e) tt in
           rw (key_site s n t m h, key_name s n t m h, append-same (bare t m cs) t m (key_refl t m) net.tables six, none_of (table_at t m net.tables) six)
@@ -207,11 +208,11 @@ module _ (net : Net) where
   put-columns (pick_record p) six s n = or-none (columns_at (table_at s n net.tables))
 
 -- what is found passes the test
-find-test : {A : Type 0} (p : A → Bool) (l : List A) (a : A) → find p l ≡ some a → T (p a)
+find-test : {A : Type 0} (p : A → Bool) (l : List A) (a : A) → find p l ≡ Some a → T (p a)
 find-test p [] a e = let z : ◌≡◌ {A = ℕ} 0 1 = cc in absurd (omega arith)
 find-test p (b ∷ l) a e = go (p b) refl e (find-test p l a)
   where
-    go : (t : Bool) → p b ≡ t → first t b (find p l) ≡ some a → (find p l ≡ some a → T (p a)) → T (p a)
+    go : (t : Bool) → p b ≡ t → cond t (Some b) (find p l) ≡ Some a → (find p l ≡ Some a → T (p a)) → T (p a)
     go true q e ih = let f : b ≡ a = cc in subst (λ x. T (p x)) f (subst T (sym q) tt)
     go false q e ih = ih e
 
@@ -220,7 +221,7 @@ pub table_is_lem : (s : Site) (n : ℕ) (ts : List Table) → table_at s n ts �
 table_is_lem s n ts = go (table_at s n ts) refl
   where
     go : (o : Option Table) → table_at s n ts ≡ o → o ≡ table_with s n (columns_at o) (rows_of o)
-    go none e = refl
-    go (some t) e =
+    go None e = refl
+    go (Some t) e =
         let h = find-test (is_at s n) ts t e in
         rw (key_site s n t.site t.name h, key_name s n t.site t.name h)

@@ -3,12 +3,12 @@ use Prim.Native.Nat.{ℕ, suc, ◌≤◌}
 use mathlib.Core.Path.{◌≡◌, refl, sym, ap, ap₂, ◌∙◌, subst}
 use mathlib.Core.Bool.{Bool, true, false, not, ◌&&◌}
 use mathlib.Core.List.{List, [], ◌∷◌, ◌++◌, map, append-nil, append_assoc, map-append}
-use mathlib.Core.Option.{none, some}
+use Rattle.std.specs.Prelude.{None, Some, is_some, cond}
 use native.Mathlib.Omega.{arith}
 use lib.Dec.{T, leb, ltb, le→leb, lt→ltb, leb→le}
 use lib.ListN.{length, length-append, length-map}
 use Rattle.values.specs.declared.Site.{Site}
-use Rattle.values.specs.Lists.{all, find, first, is_some}
+use Rattle.std.specs.List.{find, list_all}
 use Rattle.values.proofs.Bools.{and_l, and_r, is_true, T_of, eqb_sym}
 use Rattle.values.proofs.ListLaws.{all_append, all_map}
 use Rattle.rows.specs.Relations.{Row}
@@ -28,11 +28,11 @@ module _ {A : Type 0} (p : A → Bool) where
   pub found_first : (a : A) (l : List A) → T (not (is_some (find p (a ∷ l)))) → (p a ≡ false) × T (not (is_some (find p l)))
   found_first a l h = go (p a) h
     where
-      go : (b : Bool) → T (not (is_some (first b a (find p l)))) → (b ≡ false) × T (not (is_some (find p l)))
+      go : (b : Bool) → T (not (is_some (cond b (Some a) (find p l)))) → (b ≡ false) × T (not (is_some (find p l)))
       go true h = absurd h
       go false h = (refl, h)
 
-  find_seam : (ds : List A) (x : A) (rest : List A) → T (not (is_some (find p ds))) → T (p x) → find p (ds ++ (x ∷ rest)) ≡ some x
+  find_seam : (ds : List A) (x : A) (rest : List A) → T (not (is_some (find p ds))) → T (p x) → find p (ds ++ (x ∷ rest)) ≡ Some x
   find_seam [] x rest h k = rw (is_true (p x) k)
   find_seam (d ∷ ds) x rest h k = let q = found_first d ds h in rw q.0 (find_seam ds x rest q.1 k)
 
@@ -40,7 +40,7 @@ module _ {A : Type 0} (p : A → Bool) where
   has_seam [] x rest k = rw (is_true (p x) k) tt
   has_seam (d ∷ ds) x rest k = go (p d) (has_seam ds x rest k)
     where
-      go : (b : Bool) → T (is_some (find p (ds ++ (x ∷ rest)))) → T (is_some (first b d (find p (ds ++ (x ∷ rest)))))
+      go : (b : Bool) → T (is_some (find p (ds ++ (x ∷ rest)))) → T (is_some (cond b (Some d) (find p (ds ++ (x ∷ rest)))))
       go true ih = tt
       go false ih = ih
 
@@ -64,7 +64,7 @@ alone-before (d ∷ ds) u us h = go (is_at u.site u.name d) refl (alone-before d
     others : T (not (is_some (table_at d.site d.name (ds ++ (u ∷ us)))))
     others = and_l (not (is_some (table_at d.site d.name (ds ++ (u ∷ us))))) (distinct (ds ++ (u ∷ us))) h
 
-    go : (b : Bool) → is_at u.site u.name d ≡ b → T (not (is_some (table_at u.site u.name ds))) → T (not (is_some (first b d (table_at u.site u.name ds))))
+    go : (b : Bool) → is_at u.site u.name d ≡ b → T (not (is_some (table_at u.site u.name ds))) → T (not (is_some (cond b (Some d) (table_at u.site u.name ds))))
     go true e ih =
         let here : T (is_at d.site d.name u) = T_of (is_at d.site d.name u) (ap₂ ◌&&◌ (eqb_sym d.site.0 u.site.0) (eqb_sym d.name u.name) ∙ e) in
         never (is_some (table_at d.site d.name (ds ++ (u ∷ us)))) (has_seam (is_at d.site d.name) ds u us here) others
@@ -98,7 +98,7 @@ emptied_has : (s : Site) (n : ℕ) (ts : List Table) → is_some (table_at s n (
 emptied_has s n [] = refl
 emptied_has s n (t ∷ ts) = go (is_at s n t) (emptied_has s n ts)
   where
-    go : (b : Bool) → is_some (table_at s n (map emptied ts)) ≡ is_some (table_at s n ts) → is_some (first b (emptied t) (table_at s n (map emptied ts))) ≡ is_some (first b t (table_at s n ts))
+    go : (b : Bool) → is_some (table_at s n (map emptied ts)) ≡ is_some (table_at s n ts) → is_some (cond b (Some (emptied t)) (table_at s n (map emptied ts))) ≡ is_some (cond b (Some t) (table_at s n ts))
     go true ih = refl
     go false ih = ih
 
@@ -131,19 +131,19 @@ module _ (P : Reading → Type 0) (xs : List Decoded) (ds : List Table) (u : Tab
   abbrev with : List Row → List Table
   with rs = ds ++ (with_rows rs u ∷ us)
 
-  found : (rs : List Row) → table_at u.site u.name (with rs) ≡ some (with_rows rs u)
+  found : (rs : List Row) → table_at u.site u.name (with rs) ≡ Some (with_rows rs u)
   found rs = find_seam (is_at u.site u.name) ds (with_rows rs u) us before (key_refl u.site u.name)
 
-  rows-read : ((i g : ℕ) → g ≤ 3 → P (read_all i (read (ds ++ (u ∷ us)) g) xs)) → (rs old : List Row) → old ++ rs ≡ u.content.rows → T (all (fits_row u.content.columns) rs) → (i g : ℕ) → g ≤ 3 → P (read_all i (read (with old) g) (map (line u) rs ++ xs))
+  rows-read : ((i g : ℕ) → g ≤ 3 → P (read_all i (read (ds ++ (u ∷ us)) g) xs)) → (rs old : List Row) → old ++ rs ≡ u.content.rows → T (list_all (fits_row u.content.columns) rs) → (i g : ℕ) → g ≤ 3 → P (read_all i (read (with old) g) (map (line u) rs ++ xs))
   unfolding advance put
   rows-read k [] old e f i g h = subst (λ rs. P (read_all i (read (with rs) g) xs)) (sym (sym (append-nil old) ∙ e)) (k i g h)
   rows-read k (r ∷ rs) old e f i g h =
       subst P (sym (read_on_lem i (read (with old) g) (row_record u.site u.name r) (map (line u) rs ++ xs) (le→leb g 3 h) tt seven eight))
       (subst (λ l. P (read_all (suc i) (read l 3) (map (line u) rs ++ xs))) (sym (change_seam u.site u.name (λ l. l ++ (r ∷ [])) ds (with_rows old u) us before (key_refl u.site u.name)))
-      (rows-read k rs (old ++ (r ∷ [])) (append_assoc old (r ∷ []) rs ∙ e) (and_r (fits_row u.content.columns r) (all (fits_row u.content.columns) rs) f) (suc i) 3 (omega arith)))
+      (rows-read k rs (old ++ (r ∷ [])) (append_assoc old (r ∷ []) rs ∙ e) (and_r (fits_row u.content.columns r) (list_all (fits_row u.content.columns) rs) f) (suc i) 3 (omega arith)))
     where
       seven : T (is_some (table_at u.site u.name (with old)) && fits_row (columns_of (table_at u.site u.name (with old))) r)
-      seven = rw (found old) (and_l (fits_row u.content.columns r) (all (fits_row u.content.columns) rs) f)
+      seven = rw (found old) (and_l (fits_row u.content.columns r) (list_all (fits_row u.content.columns) rs) f)
 
       eight : T (ltb (length (rows_of (table_at u.site u.name (with old)))) 16)
       eight = rw (found old) (lt→ltb (length old) 16 (omega (arith, length-append old (r ∷ rs), ap length e)))
@@ -152,15 +152,15 @@ few-rows : (t : Table) → T (table_ok t) → length t.content.rows ≤ 16
 few-rows t h = leb→le (length t.content.rows) 16 (search (and_l, and_r))
 
 module _ (P : Reading → Type 0) (ts : List Table) (differ : T (distinct ts)) (xs : List Decoded) (k : (i g : ℕ) → g ≤ 3 → P (read_all i (read ts g) xs)) where
-  lines-read : (us ds : List Table) → ds ++ us ≡ ts → T (all rows_fit us) → T (all table_ok us) → (i g : ℕ) → g ≤ 3 → P (read_all i (read (ds ++ map emptied us) g) (lines us ++ xs))
+  lines-read : (us ds : List Table) → ds ++ us ≡ ts → T (list_all rows_fit us) → T (list_all table_ok us) → (i g : ℕ) → g ≤ 3 → P (read_all i (read (ds ++ map emptied us) g) (lines us ++ xs))
   lines-read [] ds e f o i g h = subst (λ l. P (read_all i (read l g) xs)) (sym e) (k i g h)
   lines-read (u ∷ us) ds e f o i g h =
       subst (λ l. P (read_all i (read (ds ++ (emptied u ∷ map emptied us)) g) l)) (sym (append_assoc (map (line u) u.content.rows) (lines us) xs))
-      (rows-read P (lines us ++ xs) ds u (map emptied us) (alone-before ds u us (subst (λ l. T (distinct l)) (sym e) differ)) (few-rows u (and_l (table_ok u) (all table_ok us) o))
+      (rows-read P (lines us ++ xs) ds u (map emptied us) (alone-before ds u us (subst (λ l. T (distinct l)) (sym e) differ)) (few-rows u (and_l (table_ok u) (list_all table_ok us) o))
       (λ j a b.
       subst (λ l. P (read_all j (read l a) (lines us ++ xs))) (append_assoc ds (u ∷ []) (map emptied us))
-      (lines-read us (ds ++ (u ∷ [])) (append_assoc ds (u ∷ []) us ∙ e) (and_r (rows_fit u) (all rows_fit us) f) (and_r (table_ok u) (all table_ok us) o) j a b))
-      u.content.rows [] refl (and_l (rows_fit u) (all rows_fit us) f) i g h)
+      (lines-read us (ds ++ (u ∷ [])) (append_assoc ds (u ∷ []) us ∙ e) (and_r (rows_fit u) (list_all rows_fit us) f) (and_r (table_ok u) (list_all table_ok us) o) j a b))
+      u.content.rows [] refl (and_l (rows_fit u) (list_all rows_fit us) f) i g h)
 
 -- ── the whole ──
 
@@ -174,7 +174,7 @@ linkless (good (start_record s i)) = false
 linkless (good (pick_record p)) = true
 linkless (bad n) = true
 
-no_links : (n i j : ℕ) (xs : List Decoded) → T (all linkless xs) → first_bad_link n i j xs ≡ none
+no_links : (n i j : ℕ) (xs : List Decoded) → T (list_all linkless xs) → first_bad_link n i j xs ≡ None
 unfolding first_bad_link
 no_links n i j [] h = refl
 no_links n i j (bad k ∷ xs) h = no_links n (suc i) j xs h
@@ -185,7 +185,7 @@ no_links n i j (good (node_record d) ∷ xs) h = absurd h
 no_links n i j (good (start_record s k) ∷ xs) h = absurd h
 no_links n i j (good (pick_record p) ∷ xs) h = no_links n (suc i) j xs h
 
-lines-linkless : (ts : List Table) → T (all linkless (lines ts))
+lines-linkless : (ts : List Table) → T (list_all linkless (lines ts))
 lines-linkless [] = tt
 lines-linkless (t ∷ ts) =
     all_append linkless (map (line t) t.content.rows) (lines ts) (all_map linkless (line t) t.content.rows (λ r. tt)) (lines-linkless ts)
@@ -207,7 +207,7 @@ tables-load ts h =
     P : Reading → Type 0
     P x = finish all-records x ≡ accepted (tables_only ts) []
 
-    linkless-all : T (all linkless all-records)
+    linkless-all : T (list_all linkless all-records)
     linkless-all = all_append linkless (map head ts) (lines ts) (all_map linkless head ts (λ t. tt)) (lines-linkless ts)
 
     ends : (i g : ℕ) → g ≤ 3 → P (read_all i (read ts g) [])

@@ -4,7 +4,7 @@ use mathlib.Core.Bool.{Bool, true, false, cond, ◌&&◌}
 use mathlib.Core.List.{List, [], map}
 use lib.Dec.{T}
 use Rattle.values.specs.declared.Operand.{Operand}
-use Rattle.values.specs.Lists.{all}
+use Rattle.std.specs.List.{list_all}
 use Rattle.values.specs.Values.{site_ok, in_range, is_text}
 use Rattle.values.specs.Operands.{values_in, eval}
 use Rattle.values.proofs.Bools.{and_l, and_r, and_in}
@@ -18,7 +18,7 @@ use Rattle.record_bytes.specs.Decoding.{Record, alias_record, table_record, row_
 abbrev pub record_ok : Record → Bool
 record_ok (alias_record a) = alias_ok a
 record_ok (table_record s n cs) = site_ok s && is_text n && columns_ok cs
-record_ok (row_record s n r) = all in_range r
+record_ok (row_record s n r) = list_all in_range r
 record_ok (node_record d) = fields_ok_as d.kind d
 record_ok (start_record s i) = site_ok s
 record_ok (pick_record p) = true
@@ -42,11 +42,11 @@ table-ok : (r : List ℕ) → T (table_form r) → T (record_ok (table_record (s
 unfolding table_form
 table-ok r h = search (and_l, and_r, and_in) depth 10
 
-constants : (os : List Operand) → T (operands_ok 3 os) → T (all in_range (values_in (map (eval []) os)))
+constants : (os : List Operand) → T (operands_ok 3 os) → T (list_all in_range (values_in (map (eval []) os)))
 constants os h =
     values-ok variable_ok (map (eval []) os) (all-map_of (λ o. variable_ok (eval [] o)) variable_ok (eval []) os (λ o k. k) (constants-ok 3 os h))
 
-row-ok : (r : List ℕ) → T (row_form r) → T (all in_range (row_in (part 56 88 r)))
+row-ok : (r : List ℕ) → T (row_form r) → T (list_all in_range (row_in (part 56 88 r)))
 unfolding row_form
 row-ok r h = constants (operands_in (part 56 88 r)) (search (and_l, and_r) depth 10)
 
@@ -61,6 +61,6 @@ record_ok_lem : (r : List ℕ) → T (decoded_ok (record_in r))
 unfolding record_in
 record_ok_lem r = search (kind_ok, alias-ok r, table-ok r, row-ok r, node_ok r, start-ok r) depth 8
 
-pub records-ok : (file : List ℕ) → T (all decoded_ok (records_in file))
+pub records-ok : (file : List ℕ) → T (list_all decoded_ok (records_in file))
 unfolding records_in
 records-ok file = all_map decoded_ok record_in (parts 104 (whole_records file) file) record_ok_lem

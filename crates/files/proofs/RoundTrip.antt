@@ -6,7 +6,7 @@ use native.Mathlib.Omega.{arith}
 use lib.Dec.{T, eqb, leb→le}
 use borrow.Author.Tests.{eq-eqb, le-leb}
 use lib.ListN.{length, length-append, length-map}
-use Rattle.values.specs.Lists.{all}
+use Rattle.std.specs.List.{list_all}
 use Rattle.values.specs.Values.{in_range}
 use Rattle.values.proofs.Bools.{and_l, and_r, and_in, T_of}
 use Rattle.values.proofs.ListLaws.{all_append, all_map}
@@ -65,53 +65,53 @@ module _ (t : Table) (ok : T (table_ok t)) where
   few-columns : length t.content.columns ≤ 4
   few-columns = leb→le (length t.content.columns) 4 (search (and_l, and_r))
 
-  rows_back : (rs : List Row) → T (all (fits_row t.content.columns) rs) → T (all (λ r. all in_range r) rs) → map record_in (map (row_bytes t.site t.name) rs) ≡ map (line t) rs
+  rows_back : (rs : List Row) → T (list_all (fits_row t.content.columns) rs) → T (list_all (λ r. list_all in_range r) rs) → map record_in (map (row_bytes t.site t.name) rs) ≡ map (line t) rs
   rows_back [] f h = refl
   rows_back (r ∷ rs) f h =
-      let n = fit_length t.content.columns r (and_l (fits_row t.content.columns r) (all (fits_row t.content.columns) rs) f) in
+      let n = fit_length t.content.columns r (and_l (fits_row t.content.columns r) (list_all (fits_row t.content.columns) rs) f) in
       let a = some-columns in
       let b = few-columns in
       ap₂ ◌∷◌
-      (row_back t.site t.name r (search (and_l, and_r)) (search (and_l, and_r)) (omega arith) (omega arith) (and_l (all in_range r) (all (λ x. all in_range x) rs) h))
-      (rows_back rs (and_r (fits_row t.content.columns r) (all (fits_row t.content.columns) rs) f) (and_r (all in_range r) (all (λ x. all in_range x) rs) h))
+      (row_back t.site t.name r (search (and_l, and_r)) (search (and_l, and_r)) (omega arith) (omega arith) (and_l (list_all in_range r) (list_all (λ x. list_all in_range x) rs) h))
+      (rows_back rs (and_r (fits_row t.content.columns r) (list_all (fits_row t.content.columns) rs) f) (and_r (list_all in_range r) (list_all (λ x. list_all in_range x) rs) h))
 
-  rows_long : (rs : List Row) → T (all (fits_row t.content.columns) rs) → T (sized 104 (map (row_bytes t.site t.name) rs))
+  rows_long : (rs : List Row) → T (list_all (fits_row t.content.columns) rs) → T (sized 104 (map (row_bytes t.site t.name) rs))
   rows_long [] f = tt
   rows_long (r ∷ rs) f =
-      let n = fit_length t.content.columns r (and_l (fits_row t.content.columns r) (all (fits_row t.content.columns) rs) f) in
+      let n = fit_length t.content.columns r (and_l (fits_row t.content.columns r) (list_all (fits_row t.content.columns) rs) f) in
       let b = few-columns in
       and_in (eqb (length (row_bytes t.site t.name r)) 104) (sized 104 (map (row_bytes t.site t.name) rs))
       (T_of (eqb (length (row_bytes t.site t.name r)) 104) (eq-eqb (length (row_bytes t.site t.name r)) 104 (row-length t.site t.name r (omega arith))))
-      (rows_long rs (and_r (fits_row t.content.columns r) (all (fits_row t.content.columns) rs) f))
+      (rows_long rs (and_r (fits_row t.content.columns r) (list_all (fits_row t.content.columns) rs) f))
 
-  rows_range : T (all (λ r. all in_range r) t.content.rows)
+  rows_range : T (list_all (λ r. list_all in_range r) t.content.rows)
   rows_range = search (and_l, and_r)
 
   rows_few : length t.content.rows ≤ 16
   rows_few = leb→le (length t.content.rows) 16 (search (and_l, and_r))
 
-heads-back : (ts : List Table) → T (all table_ok ts) → map record_in (map table_bytes ts) ≡ map head ts
+heads-back : (ts : List Table) → T (list_all table_ok ts) → map record_in (map table_bytes ts) ≡ map head ts
 heads-back [] h = refl
-heads-back (t ∷ ts) h = ap₂ ◌∷◌ (table-back t (and_l (table_ok t) (all table_ok ts) h)) (heads-back ts (and_r (table_ok t) (all table_ok ts) h))
+heads-back (t ∷ ts) h = ap₂ ◌∷◌ (table-back t (and_l (table_ok t) (list_all table_ok ts) h)) (heads-back ts (and_r (table_ok t) (list_all table_ok ts) h))
 
-lines-back : (ts : List Table) → T (all table_ok ts) → T (all rows_fit ts) → map record_in (all_rows ts) ≡ lines ts
+lines-back : (ts : List Table) → T (list_all table_ok ts) → T (list_all rows_fit ts) → map record_in (all_rows ts) ≡ lines ts
 lines-back [] h f = refl
 lines-back (t ∷ ts) h f =
     map-append record_in (rows_bytes t) (all_rows ts)
-    ∙ ap₂ ◌++◌ (rows_back t (and_l (table_ok t) (all table_ok ts) h) t.content.rows (and_l (rows_fit t) (all rows_fit ts) f) (rows_range t (and_l (table_ok t) (all table_ok ts) h))) (lines-back ts (and_r (table_ok t) (all table_ok ts) h) (and_r (rows_fit t) (all rows_fit ts) f))
+    ∙ ap₂ ◌++◌ (rows_back t (and_l (table_ok t) (list_all table_ok ts) h) t.content.rows (and_l (rows_fit t) (list_all rows_fit ts) f) (rows_range t (and_l (table_ok t) (list_all table_ok ts) h))) (lines-back ts (and_r (table_ok t) (list_all table_ok ts) h) (and_r (rows_fit t) (list_all rows_fit ts) f))
 
-lines_long : (ts : List Table) → T (all table_ok ts) → T (all rows_fit ts) → T (sized 104 (all_rows ts))
+lines_long : (ts : List Table) → T (list_all table_ok ts) → T (list_all rows_fit ts) → T (sized 104 (all_rows ts))
 lines_long [] h f = tt
 lines_long (t ∷ ts) h f =
     all_append (λ (p : List ℕ). eqb (length p) 104) (rows_bytes t) (all_rows ts)
-    (rows_long t (and_l (table_ok t) (all table_ok ts) h) t.content.rows (and_l (rows_fit t) (all rows_fit ts) f))
-    (lines_long ts (and_r (table_ok t) (all table_ok ts) h) (and_r (rows_fit t) (all rows_fit ts) f))
+    (rows_long t (and_l (table_ok t) (list_all table_ok ts) h) t.content.rows (and_l (rows_fit t) (list_all rows_fit ts) f))
+    (lines_long ts (and_r (table_ok t) (list_all table_ok ts) h) (and_r (rows_fit t) (list_all rows_fit ts) f))
 
-lines-few : (ts : List Table) → T (all table_ok ts) → length (all_rows ts) ≤ 16 * length ts
+lines-few : (ts : List Table) → T (list_all table_ok ts) → length (all_rows ts) ≤ 16 * length ts
 lines-few [] h = omega arith
 lines-few (t ∷ ts) h =
-    let a = rows_few t (and_l (table_ok t) (all table_ok ts) h) in
-    let b = lines-few ts (and_r (table_ok t) (all table_ok ts) h) in
+    let a = rows_few t (and_l (table_ok t) (list_all table_ok ts) h) in
+    let b = lines-few ts (and_r (table_ok t) (list_all table_ok ts) h) in
     rw (length-append (rows_bytes t) (all_rows ts), length-map t.content.rows (row_bytes t.site t.name)) (omega arith)
 
 -- ── the whole ──

@@ -12,7 +12,7 @@ use Rattle.values.specs.declared.Site.{Site}
 use Rattle.values.specs.declared.Value.{Value}
 use Rattle.values.specs.declared.Value.TheVariants.{Int, Text, Loc}
 use Rattle.values.specs.declared.Operand.TheVariants.{Absent}
-use Rattle.values.specs.Lists.{all}
+use Rattle.std.specs.List.{list_all}
 use Rattle.values.specs.Values.{site_ok, is_text, in_range}
 use Rattle.values.specs.Operands.{values_in, eval}
 use Rattle.values.proofs.Bools.{and_l, and_r, and_in, is_true, T_of}
@@ -26,9 +26,9 @@ use Rattle.value_bytes.specs.Bytes.{end_to_end}
 use Rattle.files.proofs.EndToEnd.{sized, ends-length, ends-parts, leading-some, then_some, leading-none, then_none}
 use Rattle.files.proofs.ValueBack.{text_back, as_operand, value-length, value-form, value-back, value-tagged, values-given}
 
-all_replicate : {A : Type 0} (p : A → Bool) (n : ℕ) (a : A) → T (p a) → T (all p (replicate n a))
+all_replicate : {A : Type 0} (p : A → Bool) (n : ℕ) (a : A) → T (p a) → T (list_all p (replicate n a))
 all_replicate p zero a h = tt
-all_replicate p (suc n) a h = and_in (p a) (all p (replicate n a)) h (all_replicate p n a h)
+all_replicate p (suc n) a h = and_in (p a) (list_all p (replicate n a)) h (all_replicate p n a h)
 
 there : (v : Value) → T (not (is_absent (as_operand v)))
 there (Int i) = tt
@@ -50,9 +50,9 @@ missing-form : T (operand_form missing)
 unfolding operand_form
 missing-form = tt
 
-cells-read : (r : Row) (k : ℕ) → T (all in_range r) → map operand_in (map operand_bytes r ++ replicate k missing) ≡ map as_operand r ++ replicate k Absent
+cells-read : (r : Row) (k : ℕ) → T (list_all in_range r) → map operand_in (map operand_bytes r ++ replicate k missing) ≡ map as_operand r ++ replicate k Absent
 cells-read [] k h = missing-read k
-cells-read (v ∷ r) k h = ap₂ ◌∷◌ (value-back v (and_l (in_range v) (all in_range r) h)) (cells-read r k (and_r (in_range v) (all in_range r) h))
+cells-read (v ∷ r) k h = ap₂ ◌∷◌ (value-back v (and_l (in_range v) (list_all in_range r) h)) (cells-read r k (and_r (in_range v) (list_all in_range r) h))
 
 module _ (r : Row) (few : length r ≤ 4) where
   abbrev cells : List (List ℕ)
@@ -78,11 +78,11 @@ module _ (r : Row) (few : length r ≤ 4) where
       ∙ ap (parts 8 (length cells)) (sym (append-nil (end_to_end cells)))
       ∙ ends-parts 8 cells [] of_eight
 
-  module _ (ranged : T (all in_range r)) where
+  module _ (ranged : T (list_all in_range r)) where
     operands_read : map operand_in (parts 8 4 (tuple_bytes r)) ≡ map as_operand r ++ replicate (4 - length r) Absent
     operands_read = ap (map operand_in) tuple-parts ∙ cells-read r (4 - length r) ranged
 
-    all_there : T (all (λ o. not (is_absent o)) (map as_operand r))
+    all_there : T (list_all (λ o. not (is_absent o)) (map as_operand r))
     all_there = all_map (λ o. not (is_absent o)) as_operand r there
 
     operands_back : operands_in (tuple_bytes r) ≡ map as_operand r
@@ -96,8 +96,8 @@ module _ (r : Row) (few : length r ≤ 4) where
     operands_form_lem : T (operands_form (tuple_bytes r))
     unfolding operands_form
     operands_form_lem =
-        and_in (all operand_form (parts 8 4 (tuple_bytes r))) (then_only is_absent (map operand_in (parts 8 4 (tuple_bytes r))))
-        (subst (λ l. T (all operand_form l)) (sym tuple-parts) (all_append operand_form (map operand_bytes r) (replicate (4 - length r) missing) (all_map operand_form operand_bytes r value-form) (all_replicate operand_form (4 - length r) missing missing-form)))
+        and_in (list_all operand_form (parts 8 4 (tuple_bytes r))) (then_only is_absent (map operand_in (parts 8 4 (tuple_bytes r))))
+        (subst (λ l. T (list_all operand_form l)) (sym tuple-parts) (all_append operand_form (map operand_bytes r) (replicate (4 - length r) missing) (all_map operand_form operand_bytes r value-form) (all_replicate operand_form (4 - length r) missing missing-form)))
         (T_of (then_only is_absent (map operand_in (parts 8 4 (tuple_bytes r))))
         (ap (then_only is_absent) operands_read
         ∙ then_some is_absent (map as_operand r) (replicate (4 - length r) Absent) all_there
@@ -108,7 +108,7 @@ module _ (r : Row) (few : length r ≤ 4) where
         let n : length (map as_operand r) ≡ length r = length-map r as_operand in
         let a : T (leb 1 (length (map as_operand r))) = le→leb 1 (length (map as_operand r)) (omega arith) in
         let b : T (leb (length (map as_operand r)) 4) = le→leb (length (map as_operand r)) 4 (omega arith) in
-        let c : T (all (tagged 3) (map as_operand r)) = all-map_of in_range (tagged 3) as_operand r value-tagged ranged in
+        let c : T (list_all (tagged 3) (map as_operand r)) = all-map_of in_range (tagged 3) as_operand r value-tagged ranged in
         search and_in
 
 -- ── the record ──
@@ -117,7 +117,7 @@ pub row-length : (s : Site) (n : ℕ) (r : Row) → length r ≤ 4 → length (r
 unfolding row_bytes
 row-length s n r h = simp (length-append, tuple-length r h)
 
-module _ (s : Site) (n : ℕ) (r : Row) (site-ok : T (site_ok s)) (name-ok : T (is_text n)) (some : 1 ≤ length r) (few : length r ≤ 4) (ranged : T (all in_range r)) where
+module _ (s : Site) (n : ℕ) (r : Row) (site-ok : T (site_ok s)) (name-ok : T (is_text n)) (some : 1 ≤ length r) (few : length r ≤ 4) (ranged : T (list_all in_range r)) where
   abbrev bytes : List ℕ
   bytes = row_bytes s n r
 

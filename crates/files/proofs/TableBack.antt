@@ -7,7 +7,7 @@ use native.Mathlib.Omega.{arith}
 use lib.Dec.{T, leb, leb→le}
 use borrow.Author.Tests.{ne_eqb}
 use lib.ListN.{length, replicate}
-use Rattle.values.specs.Lists.{all}
+use Rattle.std.specs.List.{list_all}
 use Rattle.values.specs.Values.{site_ok, is_text}
 use Rattle.values.proofs.Bools.{and_l, and_r, and_in, is_true, T_of, T_not_of}
 use Rattle.values.proofs.ListLaws.{all_weaken}
@@ -37,7 +37,7 @@ module _ (cs : Columns) (h : T (columns_ok cs)) where
   few : length cs ≤ 4
   few = leb→le (length cs) 4 (search (and_l, and_r))
 
-  there : T (all (λ c. not (is_zero c)) cs)
+  there : T (list_all (λ c. not (is_zero c)) cs)
   there = all_weaken (λ c. leb 1 c && leb c 3) (λ c. not (is_zero c)) cs kind-there (search and_r)
 
   columns-back : columns_in (column_bytes cs) ≡ cs

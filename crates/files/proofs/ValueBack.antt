@@ -13,7 +13,7 @@ use Rattle.values.specs.declared.Value.{Value}
 use Rattle.values.specs.declared.Value.TheVariants.{Int, Text, Loc}
 use Rattle.values.specs.declared.Operand.{Operand}
 use Rattle.values.specs.declared.Operand.TheVariants.{ConstInt, ConstText, ConstLoc}
-use Rattle.values.specs.Lists.{all}
+use Rattle.std.specs.List.{list_all}
 use Rattle.values.specs.Values.{in32, bytes_of, is_text, in_range}
 use Rattle.values.specs.Operands.{values_in, eval}
 use Rattle.values.proofs.Bools.{and_l}
@@ -37,7 +37,7 @@ little-back : (n : ℕ) → n < 4294967296 → little (little_bytes n) ≡ n
 little-back n h = digits n h
 
 pub text_back : (t : ℕ) → T (is_text t) → text_in (bytes_of t) ≡ t
-text_back t h = digits t (ltb→lt t 4294967296 (and_l (ltb t 4294967296) (all (λ b. leb 0x20 b && leb b 0x7e) (bytes_of t)) h))
+text_back t h = digits t (ltb→lt t 4294967296 (and_l (ltb t 4294967296) (list_all (λ b. leb 0x20 b && leb b 0x7e) (bytes_of t)) h))
 
 int-back : (i : ℤ) → T (in32 i) → signed (little (little_bytes (bits32 i))) ≡ i
 int-back (pos n) h =

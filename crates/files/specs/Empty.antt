@@ -1,5 +1,5 @@
 -- The one empty net of the code: all counts 0, and every array filled with one blank element.
-use Rattle.std.specs.Prelude.{false, replicate}
+use Rattle.std.specs.Prelude.{false, replicate, None}
 use Rattle.values.specs.declared.Operand.TheVariants.{Absent}
 use Rattle.rows.specs.declared.Test.TheVariants.{Always}
 use Rattle.rows.specs.declared.Function.TheVariants.{Unused}
@@ -11,7 +11,7 @@ use Rattle.nets.specs.declared.Table.{Table}
 use Rattle.nets.specs.declared.Node.{Node}
 use Rattle.nets.specs.declared.Entry.TheVariants.{Run}
 use Rattle.nets.specs.declared.Frame.{Frame}
-use Rattle.nets.specs.declared.TableVariable.{TableVariable}
+use Rattle.nets.specs.View.{TableVariable}
 use Rattle.nets.specs.declared.Saved.{Saved}
 use Rattle.nets.specs.declared.Thread.{Thread}
 use Rattle.nets.specs.declared.Net.{Net}
@@ -52,7 +52,7 @@ abbrev pub blank_frame : Frame
 blank_frame = record { entry = Run 0; visit = replicate 16 false }
 
 abbrev pub blank_variable : TableVariable
-blank_variable = record { bound = false; content = blank_relation }
+blank_variable = None
 
 abbrev pub blank_thread : Thread
 blank_thread = record { site = no_site; vars = replicate 16 no_slot; relations = replicate 2 blank_variable; stack = replicate 8 blank_frame; depth = 0 }

@@ -2,7 +2,7 @@
 --
 -- The demand, part by part, and where each part stands:
 --
---   over every net that loading accepted        every `file` and every `l` that `load` returned for it (`LoadIs`), its verdict Accepted
+--   over every net that loading accepted        every `file` and every `l` that `load` returned for it (`LoadIs`), its verdict Ok
 --   over every list of picks, refused ones too  every `ps`; `Chain` has one call of `step` for each pick, whatever it answered
 --   from what the engine itself gave back       `Chain l.net`: each call met its contract; the first got the very net that `load` gave back, and each
 --                                               later one the very net that the call before it gave back
@@ -15,14 +15,13 @@
 --   and taken, exactly                          all rows added, and the accounts summed over all sites, names and rows; `taken..` likewise
 --
 -- The parts themselves are the fields of `FileDemand3`, which has one more, `is_sound`: the last net returned is sound, so no later pick is refused by 10. Nothing here speaks of a pick by itself: it is one claim about the list.
-use Rattle.std.specs.Prelude.{ℕ, ◌≡◌, List, [], ◌∷◌, map}
+use Rattle.std.specs.Prelude.{ℕ, ◌≡◌, List, [], ◌∷◌, map, Ok}
 use Rattle.values.specs.Lists.{sum}
 use Rattle.nets.specs.declared.Pick.{Pick}
 use Rattle.nets.specs.declared.Net.{Net}
 use Rattle.nets.specs.declared.Stepped.{Stepped}
 use Rattle.nets.specs.View.{view}
 use Rattle.nets.specs.Answers.{said_of, added_said, taken_said, StepIs}
-use Rattle.files.specs.declared.Verdict.TheVariants as verdict
 use Rattle.files.specs.declared.Loaded.{Loaded}
 use Rattle.files.specs.FileDemand3.{FileDemand3}
 use Rattle.files.specs.Engine.{LoadIs}
@@ -58,5 +57,5 @@ EngineDemand3 file l ps rs = FileDemand3 file ps (view (last_net l.net rs)) (add
 -- the whole claim over the engine: every file that it accepts, every list of picks, every list of answers to them
 abbrev pub EveryEngineRun : Type 0
 EveryEngineRun =
-    (file : List ℕ) (l : Loaded) → LoadIs file l → l.verdict ≡ verdict.Accepted →
+    (file : List ℕ) (l : Loaded) → LoadIs file l → l.verdict ≡ Ok tt →
     (ps : List Pick) (rs : List Stepped) → Chain l.net ps rs → EngineDemand3 file l ps rs

@@ -2,7 +2,8 @@
 -- number of loading and a write that is read back.
 use Rattle.std.specs.Prelude.{ℕ, zero, suc, Bool, false, ◌&&◌, List, [], ◌∷◌, ◌++◌, T, eqb, pos, length, drop, set, replicate}
 use Rattle.values.specs.declared.Value.TheVariants.{Int, Text}
-use Rattle.values.specs.Lists.{all, agree, places}
+use Rattle.values.specs.Lists.{agree, places}
+use Rattle.std.specs.List.{list_all}
 use Rattle.values.specs.Values.{same_row, text_order}
 use Rattle.values.specs.Operands.{bind}
 use Rattle.rows.specs.Relations.{Row, Columns}
@@ -195,12 +196,12 @@ faults =
     ∷ is_fault 3 0 (load_bytes (9 ∷ z 103))
     ∷ is_fault 3 1 (load_bytes (alias ++ (27 ∷ z 103)))
     -- 4: each unused byte, and fields that break their rule: site 8, locality 0, a name of 0x1f, a column 0 before another, tags, variable 16
-    ∷ all (spoilt alias) (places 4 100)
-    ∷ all (spoilt card) (2 ∷ 3 ∷ places 11 93)
-    ∷ all (spoilt row) (2 ∷ 3 ∷ places 8 48 ++ places 57 3 ++ places 65 3 ++ places 73 31)
-    ∷ all (spoilt update) unused_in_update
-    ∷ all (spoilt start) (places 3 101)
-    ∷ all (spoilt pick) (places 3 101)
+    ∷ list_all (spoilt alias) (places 4 100)
+    ∷ list_all (spoilt card) (2 ∷ 3 ∷ places 11 93)
+    ∷ list_all (spoilt row) (2 ∷ 3 ∷ places 8 48 ++ places 57 3 ++ places 65 3 ++ places 73 31)
+    ∷ list_all (spoilt update) unused_in_update
+    ∷ list_all (spoilt start) (places 3 101)
+    ∷ list_all (spoilt pick) (places 3 101)
     ∷ is_fault 4 0 (load_bytes (set alias 1 8))
     ∷ is_fault 4 0 (load_bytes (set alias 2 0))
     ∷ is_fault 4 0 (load_bytes (set card 7 0x1f))
@@ -241,10 +242,10 @@ opened : Unit {0}
 unfolding bind text_order matches hits draft tuple_for changes selected_columns aggregated distinct change fields_ok_as links_ok_as sound scene_of site_of_l site table relation source visit row_at ready any_ready pick_ready opens reads_ok check12 check13 check14 check15 check16 check17 check18 check19 room_for_round check20 rows_by tables_by added_by taken_by bound_by vars_by bindings_by threads_after net_after performed first_refusal checks step next_net after answers kind_at operand_form operand_in operands_form operands_in node_in alias_form table_form row_form node_bytes start_form pick_form record_in records_in load_checks put advance read_all first_bad_link load load_bytes tuple_bytes table_bytes row_bytes written write
 opened = tt
 
-pub examples_hold : T (all (λ b. b) examples)
+pub examples_hold : T (list_all (λ b. b) examples)
 unfolding opened
 examples_hold = tt
 
-pub faults_hold : T (all (λ b. b) faults)
+pub faults_hold : T (list_all (λ b. b) faults)
 unfolding opened
 faults_hold = tt

@@ -1,7 +1,8 @@
 -- Demand 3 of a file: what holds after any list of picks from what loading accepted. One statement, with named parts.
 use Rattle.std.specs.Prelude.{ℕ, ◌+◌, ◌≡◌, Bool, false, List, map, T, length}
 use Rattle.values.specs.declared.Site.{Site}
-use Rattle.values.specs.Lists.{all, sum}
+use Rattle.values.specs.Lists.{sum}
+use Rattle.std.specs.List.{list_all}
 use Rattle.rows.specs.Relations.{Row}
 use Rattle.nets.specs.declared.Pick.{Pick}
 use Rattle.nets.specs.Nets.{Net}
@@ -36,7 +37,7 @@ pub record FileDemand3 (file : List ℕ) (ps : List Pick) (net : Net) (added_rep
   -- the net is sound, so no pick from it is refused by 10
   pub is_sound : T (sound net)
   -- each row fits its table's columns
-  pub fit : T (all rows_fit net.tables)
+  pub fit : T (list_all rows_fit net.tables)
   -- no site has two tables of one name
   pub names : T (distinct net.tables)
   -- standing + taken = loaded + added, for each site, name and row

@@ -1,6 +1,5 @@
 -- The tables that a file's records give: a table record's columns, and its row records' rows in file order.
-use Rattle.std.specs.Prelude.{ℕ, cond, ◌&&◌, List, [], ◌∷◌, ◌++◌, eqb}
-use Rattle.std.proofs.Math.Option.{Option, none, some}
+use Rattle.std.specs.Prelude.{ℕ, cond, ◌&&◌, List, [], ◌∷◌, ◌++◌, eqb, Option, None, Some}
 use Rattle.values.specs.declared.Site.{Site}
 use Rattle.values.specs.Lists.{keep, count}
 use Rattle.values.specs.Values.{same_site, same_row}
@@ -24,26 +23,26 @@ rows_for s n (good r ∷ xs) = rows_for1 s n r ++ rows_for s n xs
 
 -- the columns that a record gives for a site and name
 abbrev pub columns_for1 : Site → ℕ → Record → Option Columns
-columns_for1 s n (alias_record a) = none
-columns_for1 s n (table_record t m cs) = cond (same_site s t && eqb n m) (some cs) none
-columns_for1 s n (row_record t m r) = none
-columns_for1 s n (node_record d) = none
-columns_for1 s n (start_record t i) = none
-columns_for1 s n (pick_record p) = none
+columns_for1 s n (alias_record a) = None
+columns_for1 s n (table_record t m cs) = cond (same_site s t && eqb n m) (Some cs) None
+columns_for1 s n (row_record t m r) = None
+columns_for1 s n (node_record d) = None
+columns_for1 s n (start_record t i) = None
+columns_for1 s n (pick_record p) = None
 
 abbrev pub or_later : Option Columns → Option Columns → Option Columns
-or_later none o = o
-or_later (some cs) o = some cs
+or_later None o = o
+or_later (Some cs) o = Some cs
 
 unfoldable pub columns_for : Site → ℕ → List Decoded → Option Columns
-columns_for s n [] = none
+columns_for s n [] = None
 columns_for s n (bad k ∷ xs) = columns_for s n xs
 columns_for s n (good r ∷ xs) = or_later (columns_for1 s n r) (columns_for s n xs)
 
 -- a table, where there are columns
 abbrev pub table_with : Site → ℕ → Option Columns → List Row → Option Table
-table_with s n none rs = none
-table_with s n (some cs) rs = some (record { site = s; name = n; content = record { columns = cs; rows = rs } })
+table_with s n None rs = None
+table_with s n (Some cs) rs = Some (record { site = s; name = n; content = record { columns = cs; rows = rs } })
 
 -- ── of a file ──
 

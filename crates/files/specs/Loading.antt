@@ -1,15 +1,14 @@
 -- Loading: record by record, the first fault with its place; or the net and the picks.
-use Rattle.std.specs.Prelude.{ℕ, suc, ◌%◌, Bool, true, false, not, cond, ◌&&◌, List, [], ◌∷◌, ◌++◌, eqb, leb, ltb, length, replicate}
-use Rattle.std.proofs.Math.Option.{Option, none, some}
+use Rattle.std.specs.Prelude.{ℕ, suc, ◌%◌, Bool, true, false, not, cond, ◌&&◌, List, [], ◌∷◌, ◌++◌, eqb, leb, ltb, length, replicate, Option, None, Some, is_some}
 use Rattle.values.specs.declared.Site.{Site}
-use Rattle.values.specs.declared.Got.TheVariants.{Nothing}
-use Rattle.values.specs.Lists.{any, is_some}
+use Rattle.std.specs.List.{list_any}
 use Rattle.rows.specs.Fit.{fits_row}
 use Rattle.nets.specs.declared.Pick.{Pick}
 use Rattle.nets.specs.Nets.{Table, to_run, Thread, Net}
 use Rattle.nets.specs.Tables.{table_at, rows_of, columns_of, change}
 use Rattle.nets.specs.Sound.{same_alias, links_ok_as}
 use Rattle.nets.specs.Steps.{Check, check}
+use Rattle.files.specs.declared.Fault.{Fault}
 use Rattle.record_bytes.specs.Decoding.{Record, alias_record, table_record, row_record, node_record, start_record, pick_record, Decoded, good, bad, whole_records, records_in}
 
 -- ── what has been read ──
@@ -39,7 +38,7 @@ group_of (pick_record p) = 6
 
 -- no earlier alias has its site and locality, no earlier table its site and name
 abbrev pub is_new : Net → Record → Bool
-is_new net (alias_record a) = not (any (λ b. same_alias b a) net.aliases)
+is_new net (alias_record a) = not (list_any (λ b. same_alias b a) net.aliases)
 is_new net (table_record s n cs) = not (is_some (table_at s n net.tables))
 is_new net (row_record s n r) = true
 is_new net (node_record d) = true
@@ -76,7 +75,7 @@ load_checks l r =
 
 -- a thread that starts: nothing bound, one node to run
 abbrev pub fresh : Site → ℕ → Thread
-fresh s i = record { site = s; bindings = record { vars = replicate 16 Nothing; relations = none ∷ none ∷ [] }; stack = to_run i ∷ [] }
+fresh s i = record { site = s; bindings = record { vars = replicate 16 None; relations = None ∷ None ∷ [] }; stack = to_run i ∷ [] }
 
 abbrev pub bare : Site → ℕ → List ℕ → Table
 bare s n cs = record { site = s; name = n; content = record { columns = cs; rows = [] } }
@@ -108,10 +107,10 @@ advance l r = record { net = put l.net r; picks = l.picks ++ picks_of r; group =
 -- the number of the first check that fails
 abbrev pub failed : Bool → ℕ → Option ℕ → Option ℕ
 failed true n o = o
-failed false n o = some n
+failed false n o = Some n
 
 abbrev pub failing : List Check → Option ℕ
-failing [] = none
+failing [] = None
 failing (k ∷ ks) = failed k.passes k.number (failing ks)
 
 -- stopped by a fault, with its number and place; or all was read
@@ -120,8 +119,8 @@ pub data Reading : Type 0 where
   finished : Progress → Reading
 
 abbrev pub proceed : Option ℕ → ℕ → Reading → Reading
-proceed none i x = x
-proceed (some n) i x = stopped n i
+proceed None i x = x
+proceed (Some n) i x = stopped n i
 
 -- checks 3 to 8, from place `i` on
 unfoldable pub read_all : ℕ → Progress → List Decoded → Reading
@@ -150,11 +149,11 @@ number_after j (pick_record p) = j
 
 abbrev pub bad_link : Bool → ℕ → Option ℕ → Option ℕ
 bad_link true i o = o
-bad_link false i o = some i
+bad_link false i o = Some i
 
 -- the place of the first record that fails it
 unfoldable pub first_bad_link : ℕ → ℕ → ℕ → List Decoded → Option ℕ
-first_bad_link n i j [] = none
+first_bad_link n i j [] = None
 first_bad_link n i j (bad k ∷ xs) = first_bad_link n (suc i) j xs
 first_bad_link n i j (good r ∷ xs) = bad_link (link_ok n j r) i (first_bad_link n (suc i) (number_after j r) xs)
 
@@ -166,8 +165,8 @@ pub data LoadAnswer : Type 0 where
   accepted : Net → List Pick → LoadAnswer
 
 abbrev pub linked : Option ℕ → Progress → LoadAnswer
-linked none l = accepted l.net l.picks
-linked (some i) l = rejected 9 i
+linked None l = accepted l.net l.picks
+linked (Some i) l = rejected 9 i
 
 abbrev pub finish : List Decoded → Reading → LoadAnswer
 finish xs (stopped n i) = rejected n i
@@ -185,13 +184,9 @@ load_bytes file =
 
 -- ── what a caller gets ──
 
-pub record Fault : Type 0 where
-  pub number : ℕ
-  pub place : ℕ
-
 abbrev pub fault_of : LoadAnswer → Option Fault
-fault_of (rejected n i) = some (record { number = n; place = i })
-fault_of (accepted net ps) = none
+fault_of (rejected n i) = Some (record { number = n; place = i })
+fault_of (accepted net ps) = None
 
 abbrev pub is_accepted : LoadAnswer → Bool
 is_accepted (rejected n i) = false

@@ -1,13 +1,12 @@
 -- What is written is read again: the statement.
-use Rattle.std.specs.Prelude.{ℕ, ◌≡◌, List, [], T, take}
-use Rattle.std.proofs.Math.Option.{none}
+use Rattle.std.specs.Prelude.{ℕ, ◌≡◌, List, [], T, take, None, Ok}
+use Rattle.std.specs.Result.{result_err}
 use Rattle.nets.specs.declared.Net as Code
 use Rattle.nets.specs.Nets.{Table, Net}
 use Rattle.nets.specs.Sound.{sound}
 use Rattle.nets.specs.View.{view}
 use Rattle.files.specs.declared.Loaded.{Loaded}
-use Rattle.files.specs.declared.Written.TheVariants.{Length}
-use Rattle.files.specs.Engine.{fault_in, own_picks, LoadIs, WriteIs}
+use Rattle.files.specs.Engine.{own_picks, LoadIs, WriteIs}
 use Rattle.files.specs.Loading.{accepted, load_bytes}
 use Rattle.files.specs.Writing.{written}
 
@@ -23,11 +22,11 @@ WrittenIsRead = (ts : List Table) → T (sound (tables_only ts)) → load_bytes 
 
 -- what was loaded is the net's tables, with their columns, rows and order, and nothing else
 pub record ReadBack (net : Code.Net) (l : Loaded) : Type 0 where
-  pub fault : fault_in l.verdict ≡ none
+  pub fault : result_err l.verdict ≡ None
   pub tables : view l.net ≡ tables_only (view net).tables
   pub picks : own_picks l ≡ []
 
 -- `write` answered with a length: `load` of so many bytes from the buffer's start gives the tables back
 abbrev pub EveryWriteIsRead : Type 0
 EveryWriteIsRead =
-    (net : Code.Net) (before after : List ℕ) (n : ℕ) → WriteIs net before after (Length n) → (l : Loaded) → LoadIs (take n after) l → ReadBack net l
+    (net : Code.Net) (before after : List ℕ) (n : ℕ) → WriteIs net before after (Ok n) → (l : Loaded) → LoadIs (take n after) l → ReadBack net l

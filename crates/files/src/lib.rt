@@ -3,26 +3,25 @@
 
 use nets::{Net, Pick};
 
-// A file accepted, or its first fault: number and record place.
-#[derive(Clone, Copy)]
-pub enum Verdict {
-    Accepted,
-    Fault(u8, usize),
+// A fault of a file: its number and record place.
+#[derive(Clone, Copy, PartialEq, Eq)]
+pub struct Fault {
+    pub number: u8,
+    pub place: usize,
 }
 
-// The net and the picks of an accepted file; of a refused one the empty net and no picks.
+// The net and the picks of an accepted file; of a refused one its first fault, the empty net and no picks.
 #[derive(Clone, Copy)]
 pub struct Loaded {
-    pub verdict: Verdict,
+    pub verdict: Result<(), Fault>,
     pub net: Net,
     pub picks: [Pick; 256],
     pub pickcount: usize,
 }
 
-// The length written, or the number of a refusal.
-#[derive(Clone, Copy)]
-pub enum Written {
-    Length(usize),
+// Why nothing is written.
+#[derive(Clone, Copy, PartialEq, Eq)]
+pub enum NotWritten {
     Unsound,
     Short,
 }

@@ -1,5 +1,5 @@
 // The lines of the input.
-ghost use Rattle.std.specs.Prelude.{◌≤◌, length};
+ghost use Rattle.std.specs.Prelude.{◌≤◌};
 
 use crate::trying::try_net;
 use std::io;
@@ -9,53 +9,26 @@ fn digit(b: u8) -> u8
     ensures { result ≤ 15 }
 {
     match b {
-        48..=57 => b - 48,
-        97..=102 => b - 87,
+        b'0'..=b'9' => b - b'0',
+        b'a'..=b'f' => b - b'a' + 10,
         _ => 0,
     }
 }
 
 // 48 digits.
-fn bytes_of(line: &[u8]) -> [u8; 24]
-    requires { 48 ≤ length line.now }
-{
+fn bytes_of(digits: &[u8]) -> [u8; 24] {
     let mut bytes = [0u8; 24];
-    let mut i: usize = 0;
-    while i < 24 {
-        bytes[i] = digit(line[i * 2]) * 16 + digit(line[i * 2 + 1]);
-        i += 1;
+    for (byte, pair) in bytes.iter_mut().zip(digits.chunks_exact(2)) {
+        *byte = digit(pair[0]) * 16 + digit(pair[1]);
     }
     bytes
 }
 
-// Where the line ends that begins `from` here.
-fn line_end(input: &[u8], from: usize) -> usize
-    requires { from ≤ length input.now }
-    ensures { (from ≤ result) × (result ≤ length input.now) }
-{
-    let mut i = from;
-    while i < input.len() {
-        if input[i] == 10 {
-            return i;
-        }
-        i += 1;
-    }
-    i
-}
-
-fn try_line(rt: &impl Print, line: &[u8]) -> io::Result<()> {
-    if 49 <= line.len() {
-        return try_net(rt, &line[49..], bytes_of(line));
-    }
-    Ok(())
-}
-
 pub fn try_lines(rt: &impl Print, input: &[u8]) -> io::Result<()> {
-    let mut from = 0;
-    while from < input.len() {
-        let end = line_end(input, from);
-        try_line(rt, &input[from..end])?;
-        from = end + 1;
+    for line in input.split(|b| *b == b'\n') {
+        if let Some((digits, name)) = line.split_at_checked(49) {
+            try_net(rt, name, bytes_of(digits))?;
+        }
     }
     Ok(())
 }

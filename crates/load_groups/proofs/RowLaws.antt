@@ -3,11 +3,11 @@ use Prim.Native.Nat.{ℕ}
 use mathlib.Core.Path.{◌≡◌, refl, ap, sym, ◌∙◌}
 use mathlib.Core.List.{List, [], ◌∷◌, map}
 use lib.Dec.{T}
-use Rattle.values.specs.declared.Got.{Got}
-use Rattle.values.specs.declared.Got.TheVariants.{Nothing, One}
+use Rattle.values.specs.Operands.{Got}
+use Rattle.std.specs.Prelude.{None, Some}
 use Rattle.values.specs.declared.Operand.{Operand}
 use Rattle.values.specs.declared.Operand.TheVariants.{Absent, ConstInt, ConstText, ConstLoc, Var, Plus, Formal}
-use Rattle.values.specs.Lists.{all}
+use Rattle.std.specs.List.{list_all}
 use Rattle.values.specs.Operands.{is_got, values_in, eval}
 use Rattle.values.proofs.Bools.{and_r}
 use Rattle.values.proofs.ListLaws.{all-map_of}
@@ -29,14 +29,14 @@ constant_got (Var i) h = absurd h
 constant_got (Plus i k) h = absurd h
 constant_got (Formal i) h = absurd h
 
-constants-got : (os : List Operand) → T (operands_ok 3 os) → T (all is_got (map (eval []) os))
+constants-got : (os : List Operand) → T (operands_ok 3 os) → T (list_all is_got (map (eval []) os))
 constants-got os h = all-map_of (tagged 3) is_got (eval []) os constant_got (search and_r)
 
 -- values that are all there, as a draft again
-ones_again : (ds : List Got) → T (all is_got ds) → map One (values_in ds) ≡ ds
+ones_again : (ds : List Got) → T (list_all is_got ds) → map Some (values_in ds) ≡ ds
 ones_again [] h = refl
-ones_again (Nothing ∷ ds) h = absurd h
-ones_again (One v ∷ ds) h = ap (One v ∷◌) (ones_again ds h)
+ones_again (None ∷ ds) h = absurd h
+ones_again (Some v ∷ ds) h = ap (Some v ∷◌) (ones_again ds h)
 
 -- `d` is what the operands give
 pub row_fits_lem : (cs : Columns) (p : List ℕ) (d : Draft) → draft_of d ≡ map (eval []) (operands_in p) → T (operands_ok 3 (operands_in p)) → fits_row cs (row_in p) ≡ fits cs (draft_of d)

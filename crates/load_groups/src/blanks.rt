@@ -5,8 +5,8 @@ ghost use Rattle.files.specs.Empty.{blank_operands, blank_node, blank_variable, 
 
 use load_walk::blanks::{blank_relation, blank_table};
 use nets::{Alias, Entry, Frame, Net, Node, Saved, TableVariable, Thread};
-use rows::{Field, Function, Operands, Selector, Test};
-use values::{Got, Locality, Operand, Site, Slot};
+use rows::{Function, Operands, Selector, Test};
+use values::{Locality, Operand, Site};
 
 pub fn blank_alias() -> Alias
     ensures { result ≡ no_alias }
@@ -21,9 +21,7 @@ pub fn blank_alias() -> Alias
 fn blank_operands() -> Operands
     ensures { result ≡ blank_operands }
 {
-    let field = Field {
-        operand: Operand::Absent,
-    };
+    let field = Operand::Absent;
     Operands {
         fields: [field; 4],
         count: 0,
@@ -60,16 +58,13 @@ pub fn blank_node() -> Node
 fn blank_variable() -> TableVariable
     ensures { result ≡ blank_variable }
 {
-    TableVariable {
-        bound: false,
-        content: blank_relation(),
-    }
+    None
 }
 
 pub fn blank_thread() -> Thread
     ensures { result ≡ blank_thread }
 {
-    let slot = Slot { held: Got::Nothing };
+    let slot = None;
     let variable = blank_variable();
     let frame = Frame {
         entry: Entry::Run(0),
@@ -87,7 +82,7 @@ pub fn blank_thread() -> Thread
 pub fn blank_saved() -> Saved
     ensures { result ≡ blank_saved }
 {
-    let slot = Slot { held: Got::Nothing };
+    let slot = None;
     let other = blank_variable();
     Saved {
         vars: [slot; 16],

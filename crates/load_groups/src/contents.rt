@@ -1,5 +1,6 @@
 // Row records, group 3: checks 4, 7 and 8.
-ghost use Rattle.std.specs.Prelude.{◌≡◌, false, [], ◌∷◌, ◌++◌, ◌≤◌, ltb, length};
+ghost use Rattle.std.specs.Prelude.{◌≡◌, false, [], ◌∷◌, ◌++◌, ◌≤◌, ltb, length, Some, IfOk, MatchResult};
+ghost use Rattle.std.specs.Result.{result_err};
 ghost use Rattle.values.specs.Lists.{place_of};
 ghost use Rattle.rows.specs.View.{relation_of, Shaped};
 ghost use Rattle.rows.specs.Fit.{fits_row};
@@ -8,12 +9,12 @@ ghost use Rattle.nets.specs.Steps.{check};
 ghost use Rattle.nets.specs.View.{table_of, tables_of};
 ghost use Rattle.record_bytes.specs.Bytes.{part};
 ghost use Rattle.record_bytes.specs.Decoding.{site_at, name_in, row_in, row_form};
-ghost use Rattle.load_walk.specs.Walking.{put_tables, AllShaped, Leads, Going, form_then};
+ghost use Rattle.load_walk.specs.Walking.{put_tables, AllShaped, LeadsPast, Stops, Going, first_fault};
 
-use crate::RowTaken;
-use load_walk::contents::{content_fault, content_with};
+use files::Fault;
+use load_walk::contents::content_with;
 use load_walk::walking::{next_group, record_at};
-use load_walk::{Reach, TablesRead};
+use load_walk::{Reach, Read};
 use nets::Table;
 use nets::tables::find_table;
 use record_forms::{record_name, record_site};
@@ -28,91 +29,51 @@ fn row_place(tables: [Table; 8], count: usize, r: &[u8]) -> usize
 }
 
 // The fault of a row that has no table.
-fn lost_fault(r: &[u8]) -> u8
+fn lost_fault(place: usize, r: &[u8]) -> Fault
     requires { length r.now ≡ 104 }
-    ensures { result ≡ form_then (row_form r.now) (check 7 false ∷ []) }
+    ensures { Some result ≡ first_fault place (check 4 (row_form r.now) ∷ check 7 false ∷ []) }
 {
-    let read = row_read(r);
-    if read.right {
-        return 7;
-    }
-    4
+    let number = if row_read(r).is_some() { 7 } else { 4 };
+    Fault { number, place }
 }
 
-// The fault of a row that has a table, and the table with the row.
-fn row_taken(t: Table, r: &[u8]) -> RowTaken
+// The table of a row with the row in it.
+fn row_taken(place: usize, t: Table, r: &[u8]) -> Result<Table, Fault>
     requires { (length r.now ≡ 104) × Shaped t.content }
-    ensures { (result.fault ≡ form_then (row_form r.now) (check 7 (fits_row (relation_of t.content).columns (row_in (part 56 88 r.now))) ∷ check 8 (ltb (length (relation_of t.content).rows) 16) ∷ []))
-        × (result.fault ≡ 0 → table_of result.table ≡ with_rows ((relation_of t.content).rows ++ (row_in (part 56 88 r.now) ∷ [])) (table_of t))
-        × Shaped result.table.content }
+    ensures fault { result_err result ≡ first_fault place (check 4 (row_form r.now) ∷ check 7 (fits_row (relation_of t.content).columns (row_in (part 56 88 r.now))) ∷ check 8 (ltb (length (relation_of t.content).rows) 16) ∷ []) }
+    ensures table { IfOk result (λ o. (table_of o ≡ with_rows ((relation_of t.content).rows ++ (row_in (part 56 88 r.now) ∷ [])) (table_of t)) × Shaped o.content) }
 {
-    let read = row_read(r);
-    if !read.right {
-        return RowTaken { fault: 4, table: t };
-    }
-    let d = read.draft;
-    let old = t.content;
-    let fault = content_fault(old, d);
-    if fault != 0 {
-        return RowTaken { fault, table: t };
-    }
-    let site = t.site;
-    let content = content_with(old, d);
-    RowTaken {
-        fault: 0,
-        table: Table {
-            site,
-            name: t.name,
-            content,
-        },
-    }
+    let Some(d) = row_read(r) else {
+        return Err(Fault { number: 4, place });
+    };
+    let content = content_with(place, t.content, d)?;
+    Ok(Table { content, ..t })
 }
 
-// The tables as they are, with a fault at the next record.
-fn halted(tables: [Table; 8], count: usize, at: Reach, fault: u8) -> TablesRead
-    ensures { result ≡ record { tables = tables; count = count; reach = record { place = at.place; group = 3; fault = fault } } }
-{
-    TablesRead {
-        tables,
-        count,
-        reach: Reach {
-            place: at.place,
-            group: 3,
-            fault,
-        },
-    }
-}
-
-pub fn rows_from(file: &[u8], read: TablesRead) -> TablesRead
-    requires { Going file.now 3 read.reach × AllShaped read.count read.tables }
-    ensures { Leads file.now read.reach result.reach (put_tables (tables_of read.count read.tables)) (put_tables (tables_of result.count result.tables)) × Going file.now 4 result.reach × (result.count ≤ 8) }
+pub fn rows_from(file: &[u8], read: Read<Table, 8>) -> Result<Read<Table, 8>, Fault>
+    requires { Going file.now 3 read.reach × AllShaped read.count read.items }
+    ensures { MatchResult result
+        (λ after. LeadsPast file.now 3 read.reach after.reach (put_tables (tables_of read.count read.items)) (put_tables (tables_of after.count after.items)) × (after.count ≤ 8))
+        (λ fault. Stops file.now read.reach fault (put_tables (tables_of read.count read.items))) }
 {
     let count = read.count;
-    let mut tables = read.tables;
+    let mut tables = read.items;
     let mut at = read.reach;
     while next_group(file, at) == 3 {
         let r = record_at(file, at.place);
         let place = row_place(tables, count, r);
         if count <= place {
-            let fault = lost_fault(r);
-            return halted(tables, count, at, fault);
+            return Err(lost_fault(at.place, r));
         }
-        let t = tables[place];
-        let taken = row_taken(t, r);
-        if taken.fault != 0 {
-            return halted(tables, count, at, taken.fault);
-        }
-        let table = taken.table;
-        tables[place] = table;
+        tables[place] = row_taken(at.place, tables[place], r)?;
         at = Reach {
             place: at.place + 1,
             group: 3,
-            fault: 0,
         };
     }
-    TablesRead {
-        tables,
+    Ok(Read {
+        items: tables,
         count,
         reach: at,
-    }
+    })
 }

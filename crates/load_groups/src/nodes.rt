@@ -1,48 +1,37 @@
 // Node records, group 4: checks 4 and 8.
-ghost use Rattle.std.specs.Prelude.{[]};
+ghost use Rattle.std.specs.Prelude.{[], MatchResult};
 ghost use Rattle.nets.specs.View.{nodes_of};
-ghost use Rattle.load_walk.specs.Walking.{put_nodes, Leads, Going};
+ghost use Rattle.load_walk.specs.Walking.{put_nodes, LeadsPast, Stops, Going};
 
-use crate::NodesRead;
 use crate::blanks::blank_node;
-use load_walk::Reach;
+use files::Fault;
 use load_walk::walking::{first_fault, next_group, record_at};
+use load_walk::{Reach, Read};
+use nets::Node;
 use record_nodes::nodes::node_read;
 
-pub fn nodes_from(file: &[u8], from: Reach) -> NodesRead
+pub fn nodes_from(file: &[u8], from: Reach) -> Result<Read<Node, 128>, Fault>
     requires { Going file.now 4 from }
-    ensures { Leads file.now from result.reach (put_nodes []) (put_nodes (nodes_of result.count result.nodes)) × Going file.now 5 result.reach }
+    ensures { MatchResult result
+        (λ read. LeadsPast file.now 4 from read.reach (put_nodes []) (put_nodes (nodes_of read.count read.items)))
+        (λ fault. Stops file.now from fault (put_nodes [])) }
 {
     let mut nodes = [blank_node(); 128];
     let mut count: usize = 0;
     let mut at = from;
     while next_group(file, at) == 4 {
-        let r = record_at(file, at.place);
-        let read = node_read(r);
-        let fault = first_fault(read.right, true, count < 128);
-        if fault != 0 {
-            return NodesRead {
-                nodes,
-                count,
-                reach: Reach {
-                    place: at.place,
-                    group: 4,
-                    fault,
-                },
-            };
-        }
-        let node = read.node;
-        nodes[count] = node;
+        let node = node_read(record_at(file, at.place));
+        first_fault(at.place, node.is_some(), true, count < 128)?;
+        nodes[count] = node.unwrap();
         count += 1;
         at = Reach {
             place: at.place + 1,
             group: 4,
-            fault: 0,
         };
     }
-    NodesRead {
-        nodes,
+    Ok(Read {
+        items: nodes,
         count,
         reach: at,
-    }
+    })
 }

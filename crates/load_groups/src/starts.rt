@@ -1,17 +1,17 @@
 // Start records, group 5: checks 4 and 8.
-ghost use Rattle.std.specs.Prelude.{ℕ, ◌≡◌, List, [], length};
+ghost use Rattle.std.specs.Prelude.{ℕ, ◌≡◌, List, [], length, MatchResult};
 ghost use Rattle.nets.specs.declared.Saved.{Saved};
 ghost use Rattle.nets.specs.Nets as M;
 ghost use Rattle.nets.specs.View.{thread_of, threads_of};
 ghost use Rattle.record_bytes.specs.Bytes.{at};
 ghost use Rattle.record_bytes.specs.Decoding.{site_at};
 ghost use Rattle.files.specs.Loading.{fresh};
-ghost use Rattle.load_walk.specs.Walking.{put_threads, Leads, Going};
+ghost use Rattle.load_walk.specs.Walking.{put_threads, Leads, Stops, Going};
 
-use crate::ThreadsRead;
 use crate::blanks::blank_thread;
-use load_walk::Reach;
+use files::Fault;
 use load_walk::walking::{first_fault, next_group, record_at};
+use load_walk::{Reach, Read};
 use nets::{Entry, Frame, Thread};
 use record_forms::{record_site, start_form};
 
@@ -20,50 +20,41 @@ fn start_in(r: &[u8]) -> Thread
     requires { length r.now ≡ 104 }
     ensures { (bs : ℕ → M.Bindings) → thread_of bs result ≡ fresh (site_at 1 r.now) (at r.now 2) }
 {
-    let site = record_site(r);
-    let mut t = blank_thread();
-    t.site = site;
+    let mut t = Thread {
+        site: record_site(r),
+        depth: 1,
+        ..blank_thread()
+    };
     t.stack[0] = Frame {
         entry: Entry::Run(r[2]),
         visit: [false; 16],
     };
-    t.depth = 1;
     t
 }
 
 // The threads that start, whatever the nodes are and whatever is saved.
-pub fn starts_from(file: &[u8], from: Reach) -> ThreadsRead
+pub fn starts_from(file: &[u8], from: Reach) -> Result<Read<Thread, 8>, Fault>
     requires { Going file.now 5 from }
-    ensures { ((ds : List M.Node) (saved : List Saved) → Leads file.now from result.reach (put_threads []) (put_threads (threads_of ds saved result.count result.threads))) × Going file.now 6 result.reach }
+    ensures { MatchResult result
+        (λ read. ((ds : List M.Node) (saved : List Saved) → Leads file.now from read.reach (put_threads []) (put_threads (threads_of ds saved read.count read.items))) × Going file.now 6 read.reach)
+        (λ fault. Stops file.now from fault (put_threads [])) }
 {
     let mut threads = [blank_thread(); 8];
     let mut count: usize = 0;
     let mut at = from;
     while next_group(file, at) == 5 {
         let r = record_at(file, at.place);
-        let fault = first_fault(start_form(r), true, count < 8);
-        if fault != 0 {
-            return ThreadsRead {
-                threads,
-                count,
-                reach: Reach {
-                    place: at.place,
-                    group: 5,
-                    fault,
-                },
-            };
-        }
+        first_fault(at.place, start_form(r), true, count < 8)?;
         threads[count] = start_in(r);
         count += 1;
         at = Reach {
             place: at.place + 1,
             group: 5,
-            fault: 0,
         };
     }
-    ThreadsRead {
-        threads,
+    Ok(Read {
+        items: threads,
         count,
         reach: at,
-    }
+    })
 }

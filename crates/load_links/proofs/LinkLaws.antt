@@ -3,12 +3,12 @@ use Prim.Native.Nat.{ℕ, zero, suc, ◌+◌, ◌≤◌, ◌<◌}
 use mathlib.Core.Path.{◌≡◌, refl, sym, ap, subst, ◌∙◌}
 use mathlib.Core.Bool.{Bool, true, false, cond}
 use mathlib.Core.List.{List, [], ◌∷◌}
-use mathlib.Core.Option.{Option}
+use Rattle.std.specs.Prelude.{Option, None, Some}
 use native.Mathlib.Omega.{arith}
 use native.Mathlib.Numerals.{add-one}
 use lib.Dec.{T, eqb, ltb}
 use lib.ListN.{length, drop, drop_of_length-le}
-use Rattle.values.specs.Lists.{all}
+use Rattle.std.specs.List.{list_all}
 use Rattle.values.proofs.Bools.{and_l, and_r}
 use Rattle.nets.specs.Sound.{links_ok_as}
 use Rattle.nets.specs.View.{kind_at}
@@ -17,7 +17,7 @@ use Rattle.record_bytes.specs.Bytes.{at}
 use Rattle.record_bytes.specs.Decoding.{Record, alias_record, table_record, row_record, node_record, start_record, pick_record, Decoded, good, bad, site_at, node_in, node_form, start_form, in_form, record_in, whole_records, records_in}
 use Rattle.record_bytes.specs.RecordKinds.{group_at}
 use Rattle.files.specs.Loading.{group_of, link_ok, number_after, bad_link, first_bad_link}
-use Rattle.load_walk.specs.Walking.{record_at, is_good, place_or, LinkIs}
+use Rattle.load_walk.specs.Walking.{record_at, is_good, LinkIs}
 use Rattle.load_walk.proofs.LeftLaws.{not_good, of_group, good-group}
 use Rattle.load_walk.proofs.WalkLaws.{records_cons, records-length}
 
@@ -61,12 +61,12 @@ number_is j (pick_record p) = refl
 
 -- ── the walk ──
 
-all_drop : {A : Type 0} (p : A → Bool) (l : List A) (i : ℕ) → T (all p l) → T (all p (drop i l))
+all_drop : {A : Type 0} (p : A → Bool) (l : List A) (i : ℕ) → T (list_all p l) → T (list_all p (drop i l))
 all_drop p l zero h = h
 all_drop p [] (suc i) h = tt
-all_drop p (a ∷ l) (suc i) h = all_drop p l i (and_r (p a) (all p l) h)
+all_drop p (a ∷ l) (suc i) h = all_drop p l i (and_r (p a) (list_all p l) h)
 
-module _ (file : List ℕ) (h : T (all is_good (records_in file))) (n i j : ℕ) (l : i < whole_records file) (o : Option ℕ) (e : o ≡ first_bad_link n i j (drop i (records_in file)))
+module _ (file : List ℕ) (h : T (list_all is_good (records_in file))) (n i j : ℕ) (l : i < whole_records file) (o : Option ℕ) (e : o ≡ first_bad_link n i j (drop i (records_in file)))
     (bs : List ℕ) (eb : bs ≡ record_at file i) (b : Bool) (k₀ : LinkIs n j bs b) where
   k : LinkIs n j (record_at file i) b
   k = subst (λ (x : List ℕ). LinkIs n j x b) eb k₀
@@ -80,14 +80,14 @@ module _ (file : List ℕ) (h : T (all is_good (records_in file))) (n i j : ℕ)
 
   fine : T (is_good (record_in (record_at file i)))
   fine =
-      and_l (is_good (record_in (record_at file i))) (all is_good (drop (i + 1) (records_in file)))
-      (subst (λ (ys : List Decoded). T (all is_good ys)) (records_cons file i l) (all_drop is_good (records_in file) i h))
+      and_l (is_good (record_in (record_at file i))) (list_all is_good (drop (i + 1) (records_in file)))
+      (subst (λ (ys : List Decoded). T (list_all is_good ys)) (records_cons file i l) (all_drop is_good (records_in file) i h))
 
-  pub link_found : b ≡ false → i ≡ place_or (whole_records file) o
+  pub link_found : b ≡ false → Some i ≡ o
   link_found z = go (record_in (record_at file i)) refl fine
     where
-      go : (d : Decoded) → record_in (record_at file i) ≡ d → T (is_good d) → i ≡ place_or (whole_records file) o
-      go (good x) q t = sym (ap (place_or (whole_records file)) (here x q ∙ ap (λ (c : Bool). bad_link c i (first_bad_link n (i + 1) (number_after j x) (drop (i + 1) (records_in file)))) z))
+      go : (d : Decoded) → record_in (record_at file i) ≡ d → T (is_good d) → Some i ≡ o
+      go (good x) q t = sym (here x q ∙ ap (λ (c : Bool). bad_link c i (first_bad_link n (i + 1) (number_after j x) (drop (i + 1) (records_in file)))) z)
       go (bad m) q t = absurd t
 
   pub link_passed : (g m : ℕ) → b ≡ true → g ≡ group_at (at bs 0) → m ≡ cond (eqb g 4) (j + 1) j → o ≡ first_bad_link n (i + 1) m (drop (i + 1) (records_in file))
@@ -101,8 +101,8 @@ module _ (file : List ℕ) (h : T (all is_good (records_in file))) (n i j : ℕ)
           (number_is j x ∙ ap (λ (k : ℕ). cond (eqb k 4) (suc j) j) ((good-group (record_at file i) x q).0 ∙ ap (λ (x : List ℕ). group_at (at x 0)) (sym eb) ∙ sym p) ∙ ap (λ (k : ℕ). cond (eqb g 4) k j) (sym (add-one j)) ∙ sym r)
       go (bad y) q t = absurd t
 
-pub no_link : (file : List ℕ) (n i j : ℕ) (o : Option ℕ) → whole_records file ≤ i → o ≡ first_bad_link n i j (drop i (records_in file)) → whole_records file ≡ place_or (whole_records file) o
+pub no_link : (file : List ℕ) (n i j : ℕ) (o : Option ℕ) → whole_records file ≤ i → o ≡ first_bad_link n i j (drop i (records_in file)) → None ≡ o
 unfolding first_bad_link
 no_link file n i j o h e =
     let k : length (records_in file) ≤ i = omega (arith, h, records-length file) in
-    sym (ap (place_or (whole_records file)) (e ∙ ap (first_bad_link n i j) (drop_of_length-le (records_in file) k)))
+    sym (e ∙ ap (first_bad_link n i j) (drop_of_length-le (records_in file) k))

@@ -2,10 +2,10 @@
 #![tactic(auto)]
 
 ghost use Rattle.std.specs.Prelude.{◌≡◌, cond, ◌+◌, ◌≤◌, T, eqb, ltb, length};
-ghost use Rattle.values.specs.Lists.{all};
-ghost use Rattle.record_bytes.specs.Decoding.{whole_records, records_in};
+ghost use Rattle.std.specs.List.{list_all};
+ghost use Rattle.record_bytes.specs.Decoding.{records_in};
 ghost use Rattle.files.specs.Loading.{first_bad_link};
-ghost use Rattle.load_walk.specs.Walking.{Whole, is_good, place_or, LinkIs};
+ghost use Rattle.load_walk.specs.Walking.{Whole, is_good, LinkIs};
 
 use load_walk::walking::record_at;
 use net_parts::nodes::links_at;
@@ -24,10 +24,7 @@ fn number_after(group: u8, j: usize) -> usize
     requires { j ≤ 256 }
     ensures { result ≡ cond (eqb group 4) (j + 1) j }
 {
-    if group == 4 {
-        return j + 1;
-    }
-    j
+    if group == 4 { j + 1 } else { j }
 }
 
 // Check 9 of one record, with `n` nodes in all; `j` is the number of the node met next, which is this record's if it is a node.
@@ -36,29 +33,25 @@ fn link_ok(r: &[u8], n: usize, j: usize) -> bool
     ensures { LinkIs n j r.now result }
 {
     let kind = r[0];
-    let group = group_of(kind);
-    match group {
+    match group_of(kind) {
         4 => links_at(kind, r[1], r[2], j, n),
         5 => start_ok(r[2], n),
         _ => true,
     }
 }
 
-// The place of the first record that fails check 9; the number of records where none does.
-pub fn bad_link(file: &[u8], n: usize) -> usize
-    requires { Whole file.now × T (all is_good (records_in file.now)) }
-    ensures { result ≡ place_or (whole_records file.now) (first_bad_link n 0 0 (records_in file.now)) }
+// The place of the first record that fails check 9.
+pub fn bad_link(file: &[u8], n: usize) -> Option<usize>
+    requires { Whole file.now × T (list_all is_good (records_in file.now)) }
+    ensures { result ≡ first_bad_link n 0 0 (records_in file.now) }
 {
-    let count = file.len() / RECORD;
-    let mut i: usize = 0;
     let mut j: usize = 0;
-    while i < count {
+    for i in 0..file.len() / RECORD {
         let r = record_at(file, i);
         if !link_ok(r, n, j) {
-            return i;
+            return Some(i);
         }
         j = number_after(group_of(r[0]), j);
-        i += 1;
     }
-    count
+    None
 }

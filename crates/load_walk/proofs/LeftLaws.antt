@@ -5,17 +5,15 @@ use mathlib.Core.Bool.{Bool, true, false, cond}
 use mathlib.Core.List.{List}
 use native.Mathlib.Omega.{arith}
 use lib.ListN.{length, drop_of_length-le}
-use lib.Dec.{T, leb, leb→le}
-use borrow.Author.Tests.{leb-true, leb-false, eq-eqb, lt-ltb, lt-leb}
-use Rattle.values.proofs.Bools.{and_l}
+use lib.Dec.{leb}
+use borrow.Author.Tests.{leb-true, leb-false, lt-ltb, lt-leb}
 use Rattle.record_bytes.specs.Bytes.{at, part, columns_in}
 use Rattle.record_bytes.specs.Decoding.{Record, alias_record, table_record, row_record, node_record, start_record, pick_record, Decoded, good, bad, site_at, name_in, alias_in, row_in, pick_in, node_in, alias_form, table_form, row_form, node_form, start_form, pick_form, in_form, record_in, whole_records, records_in}
 use Rattle.record_bytes.specs.RecordKinds.{group_at}
 use Rattle.record_bytes.proofs.GroupLaws.{by_group, by_group_lem}
 use Rattle.load_walk.specs.declared.Reach.{Reach}
 use Rattle.files.specs.Loading.{Progress, group_of, stopped, read_all}
-use Rattle.load_walk.specs.Walking.{record_at, rest, by_fault, outcome, group_next, Going, by_end, Ends, is_good, decoded_fault}
-use Rattle.files.proofs.FaultLaws.{decoded_numbered, record_numbered}
+use Rattle.load_walk.specs.Walking.{record_at, rest, Stops, group_next, Going, Ends, is_good, left_number}
 use Rattle.load_walk.proofs.WalkLaws.{with_group, records-length, rest-bad, rest-early}
 
 -- ── by the group ──
@@ -24,8 +22,8 @@ module _ (bs : List ℕ) (g : ℕ) (e : g ≡ group_at (at bs 0)) where
   pub of_group : (k : ℕ) (form : Bool) (x : Record) → g ≡ k → by_group k bs ≡ in_form form x → record_in bs ≡ in_form form x
   of_group k form x h q = by_group_lem bs ∙ ap (λ (j : ℕ). by_group j bs) (sym e ∙ h) ∙ q
 
-  pub no-group : (g ≡ 1 → ⊥) → (g ≡ 2 → ⊥) → (g ≡ 3 → ⊥) → (g ≡ 4 → ⊥) → (g ≡ 5 → ⊥) → (g ≡ 6 → ⊥) → 3 ≡ decoded_fault (record_in bs)
-  no-group a b c d u v = sym (ap decoded_fault (by_group_lem bs ∙ ap (λ (j : ℕ). by_group j bs) (sym e) ∙ go g a b c d u v))
+  pub no-group : (g ≡ 1 → ⊥) → (g ≡ 2 → ⊥) → (g ≡ 3 → ⊥) → (g ≡ 4 → ⊥) → (g ≡ 5 → ⊥) → (g ≡ 6 → ⊥) → 3 ≡ left_number (record_in bs)
+  no-group a b c d u v = sym (ap left_number (by_group_lem bs ∙ ap (λ (j : ℕ). by_group j bs) (sym e) ∙ go g a b c d u v))
     where
       go : (j : ℕ) → (j ≡ 1 → ⊥) → (j ≡ 2 → ⊥) → (j ≡ 3 → ⊥) → (j ≡ 4 → ⊥) → (j ≡ 5 → ⊥) → (j ≡ 6 → ⊥) → by_group j bs ≡ bad 3
       go zero a b c d u v = refl
@@ -39,10 +37,10 @@ module _ (bs : List ℕ) (g : ℕ) (e : g ≡ group_at (at bs 0)) where
 
 -- a record of the group `k` fails check 4 by the form of its group
 pub form-fault : (k : ℕ) (form : List ℕ → Bool) (said : List ℕ → Record) → ((bs : List ℕ) → by_group k bs ≡ in_form (form bs) (said bs)) →
-    (bs : List ℕ) (g : ℕ) (b : Bool) (f : ℕ) → g ≡ group_at (at bs 0) → g ≡ k → b ≡ form bs → f ≡ cond b 0 4 → f ≡ decoded_fault (record_in bs)
-form-fault k form said same bs g b f e h p z = z ∙ go b (form bs) p ∙ ap decoded_fault (sym (of_group bs g e k (form bs) (said bs) h (same bs)))
+    (bs : List ℕ) (g : ℕ) (b : Bool) (f : ℕ) → g ≡ group_at (at bs 0) → g ≡ k → b ≡ form bs → f ≡ cond b 5 4 → f ≡ left_number (record_in bs)
+form-fault k form said same bs g b f e h p z = z ∙ go b (form bs) p ∙ ap left_number (sym (of_group bs g e k (form bs) (said bs) h (same bs)))
   where
-    go : (b c : Bool) → b ≡ c → cond b 0 4 ≡ decoded_fault (in_form c (said bs))
+    go : (b c : Bool) → b ≡ c → cond b 5 4 ≡ left_number (in_form c (said bs))
     go b true p = rw p
     go b false p = rw p
 
@@ -73,67 +71,40 @@ good-group bs x e = go (group_at (at bs 0)) (sym (by_group_lem bs) ∙ e)
 
 -- ── a record that no group took ──
 
-module _ (file : List ℕ) (r : Reach) where
-  pub faulted : (r.fault ≡ 0 → ⊥) → Ends file r r
-  faulted n = record { ends = λ l. go r.fault n (with_group r.group l) }
-    where
-      go : (f : ℕ) → (f ≡ 0 → ⊥) → (l : Progress) → by_fault f file r.place l ≡ by_end f r.place l
-      go zero n l = absurd (n refl)
-      go (suc f) n l = refl
+module _ (file : List ℕ) (r : Reach) (g : Going file 7 r) where
+  pub at-end : length file ≤ r.place * 104 → Ends file r
+  unfolding rest read_all
+  at-end h =
+      let k : length (records_in file) ≤ r.place = omega (arith, h, g.whole.exact, records-length file) in
+      record { ends = λ l. ap (read_all r.place (with_group r.group l)) (drop_of_length-le (records_in file) k) }
 
-  module _ (z : r.fault ≡ 0) where
-    starts : (l : Progress) → outcome file r l ≡ rest file r.place (with_group r.group l)
-    starts l = ap (λ (f : ℕ). by_fault f file r.place (with_group r.group l)) z
+  module _ (h : r.place * 104 < length file) (bs : List ℕ) (eb : bs ≡ record_at file r.place) (f : ℕ) (e₀ : f ≡ left_number (record_in bs)) where
+    e : f ≡ left_number (record_in (record_at file r.place))
+    e = e₀ ∙ ap (λ (x : List ℕ). left_number (record_in x)) eb
 
-    pub at-end : Going file 7 r → length file ≤ r.place * 104 → Ends file r r
-    unfolding rest read_all
-    at-end g h =
-        let k : length (records_in file) ≤ r.place = omega (arith, h, g.whole.exact, records-length file) in
-        record {
-          ends = λ l.
-              starts l
-              ∙ ap (read_all r.place (with_group r.group l)) (drop_of_length-le (records_in file) k)
-              ∙ ap (λ (f : ℕ). by_end f r.place (with_group r.group l)) (sym z);
-        }
+    below : r.place < whole_records file
+    below = omega (arith, h, g.whole.exact)
 
-    module _ (g : Going file 7 r) (h : r.place * 104 < length file) (bs : List ℕ) (eb : bs ≡ record_at file r.place) (f : ℕ) (e₀ : f ≡ decoded_fault (record_in bs)) where
-      e : f ≡ decoded_fault (record_in (record_at file r.place))
-      e = e₀ ∙ ap (λ (x : List ℕ). decoded_fault (record_in x)) eb
+    next : group_next file r ≡ group_at (at (record_at file r.place) 0)
+    unfolding group_next
+    next = rw (lt-ltb (r.place * 104) (length file) h)
 
-      below : r.place < whole_records file
-      below = omega (arith, h, g.whole.exact)
+    smaller : (k j : ℕ) → k ≡ j → 1 ≤ j → j ≤ 6 → (1 ≤ j → r.group ≤ j → 7 ≤ j) → k < r.group
+    smaller k j q a b p = go (leb r.group j) refl
+      where
+        go : (t : Bool) → leb r.group j ≡ t → k < r.group
+        go true w = absurd (omega (arith, b, p a (leb-true r.group j w)))
+        go false w = omega (arith, q, leb-false r.group j w)
 
-      next : group_next file r ≡ group_at (at (record_at file r.place) 0)
-      unfolding group_next
-      next = rw (eq-eqb r.fault 0 z, lt-ltb (r.place * 104) (length file) h)
+    -- its group is past
+    early : (x : Record) → record_in (record_at file r.place) ≡ good x → leb r.group (group_of x) ≡ false
+    early x q =
+        let p = good-group (record_at file r.place) x q in
+        lt-leb r.group (group_of x) (smaller (group_of x) (group_next file r) (p.0 ∙ sym next) (omega (arith, p.1, next)) (omega (arith, p.2, next)) g.passed)
 
-      smaller : (k j : ℕ) → k ≡ j → 1 ≤ j → j ≤ 6 → (1 ≤ j → r.group ≤ j → 7 ≤ j) → k < r.group
-      smaller k j q a b p = go (leb r.group j) refl
-        where
-          go : (t : Bool) → leb r.group j ≡ t → k < r.group
-          go true w = absurd (omega (arith, b, p a (leb-true r.group j w)))
-          go false w = omega (arith, q, leb-false r.group j w)
-
-      -- its group is past
-      early : (x : Record) → record_in (record_at file r.place) ≡ good x → leb r.group (group_of x) ≡ false
-      early x q =
-          let p = good-group (record_at file r.place) x q in
-          lt-leb r.group (group_of x) (smaller (group_of x) (group_next file r) (p.0 ∙ sym next) (omega (arith, p.1, next)) (omega (arith, p.2, next)) g.passed)
-
-      pub left-past : f ≡ 0 → Ends file r (record { place = r.place; group = r.group; fault = 5 })
-      left-past y = record { ends = λ l. starts l ∙ go (record_in (record_at file r.place)) refl (record_numbered (record_at file r.place)) (sym e ∙ y) l }
-        where
-          go : (d : Decoded) → record_in (record_at file r.place) ≡ d → T (decoded_numbered d) → decoded_fault d ≡ 0 → (l : Progress) → rest file r.place (with_group r.group l) ≡ stopped 5 r.place
-          go (good x) q n k l = rest-early file r.place below (with_group r.group l) x q (early x q)
-          go (bad m) q n k l = absurd (omega (arith, leb→le 1 m (and_l (leb 1 m) (leb m 9) n), k))
-
-      pub left-bad : (f ≡ 0 → ⊥) → Ends file r (record { place = r.place; group = r.group; fault = f })
-      left-bad y = record { ends = λ l. starts l ∙ go (record_in (record_at file r.place)) refl e l ∙ stopped_as f y (with_group r.group l) }
-        where
-          go : (d : Decoded) → record_in (record_at file r.place) ≡ d → f ≡ decoded_fault d → (l : Progress) → rest file r.place (with_group r.group l) ≡ stopped f r.place
-          go (good x) q k l = absurd (y k)
-          go (bad m) q k l = rest-bad file r.place below (with_group r.group l) m q ∙ ap (λ (j : ℕ). stopped j r.place) (sym k)
-
-          stopped_as : (j : ℕ) → (j ≡ 0 → ⊥) → (l : Progress) → stopped j r.place ≡ by_end j r.place l
-          stopped_as zero n l = absurd (n refl)
-          stopped_as (suc j) n l = refl
+    pub left_stops : Stops file r (record { number = f; place = r.place }) (λ l. l)
+    left_stops = record { stops = λ l. go (record_in (record_at file r.place)) refl l ∙ ap (λ (n : ℕ). stopped n r.place) (sym e) }
+      where
+        go : (d : Decoded) → record_in (record_at file r.place) ≡ d → (l : Progress) → rest file r.place (with_group r.group l) ≡ stopped (left_number d) r.place
+        go (good x) q l = rest-early file r.place below (with_group r.group l) x q (early x q)
+        go (bad m) q l = rest-bad file r.place below (with_group r.group l) m q

@@ -1,5 +1,4 @@
 -- Laws of how loading goes through a file.
-pub mod FormLaws
 pub mod LeftLaws
 pub mod PlaceTies
 pub mod WalkLaws

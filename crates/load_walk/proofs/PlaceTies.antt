@@ -1,4 +1,5 @@
 -- The table of a record, by the place that the code finds, and tables within their arrays. Assumes nothing.
+use Rattle.std.specs.Prelude.{is_some}
 use Prim.Native.Nat.{ℕ, ◌+◌, ◌<◌}
 use mathlib.Core.Path.{◌≡◌, refl, sym, ap₂, subst, ◌∙◌}
 use mathlib.Core.Bool.{Bool, true, false}
@@ -9,7 +10,7 @@ use lib.ListN.{length, get_or, set}
 use lib.Seq.{get_or-set_same, get_or-set_other}
 use borrow.Author.Tests.{eqb-true, eqb-false}
 use Rattle.values.specs.declared.Site.{Site}
-use Rattle.values.specs.Lists.{is_some, place_of}
+use Rattle.values.specs.Lists.{place_of}
 use Rattle.values.proofs.Firsts.{length-firsts}
 use Rattle.rows.specs.View.{Shaped}
 use Rattle.nets.specs.declared.Table.{Table}

@@ -1,6 +1,5 @@
 -- How `load` walks a file: group after group, each on from where the last one ended. Only the code speaks of it: the rule is `read_all`.
-use Rattle.std.specs.Prelude.{ℕ, zero, suc, ◌+◌, ◌*◌, ◌≤◌, ◌<◌, ◌≡◌, Bool, true, false, cond, ◌&&◌, List, eqb, ltb, get_or, length, drop}
-use Rattle.std.proofs.Math.Option.{Option, none, some}
+use Rattle.std.specs.Prelude.{ℕ, suc, ◌+◌, ◌*◌, ◌≤◌, ◌<◌, ◌≡◌, Bool, true, false, cond, List, ltb, get_or, length, drop, Option, None, Some}
 use Rattle.rows.specs.View.{Shaped}
 use Rattle.nets.specs.declared.Alias.{Alias}
 use Rattle.nets.specs.declared.Pick.{Pick}
@@ -12,6 +11,7 @@ use Rattle.record_bytes.specs.Bytes.{at, part}
 use Rattle.record_bytes.specs.Decoding.{Record, Decoded, good, bad, record_in, whole_records, records_in}
 use Rattle.record_bytes.specs.RecordKinds.{group_at}
 use Rattle.load_walk.specs.declared.Reach.{Reach}
+use Rattle.files.specs.declared.Fault.{Fault}
 use Rattle.files.specs.Loading.{Progress, failing, Reading, stopped, finished, read_all, link_ok}
 
 -- ── what was read, with one list in the place of another ──
@@ -48,21 +48,21 @@ record_at file i = part (i * 104) (i * 104 + 104) file
 unfoldable pub rest : List ℕ → ℕ → Progress → Reading
 rest file i l = read_all i l (drop i (records_in file))
 
-abbrev pub by_fault : ℕ → List ℕ → ℕ → Progress → Reading
-by_fault zero file i l = rest file i l
-by_fault (suc f) file i l = stopped (suc f) i
-
--- stopped at its fault; or what the records left come to
-abbrev pub outcome : List ℕ → Reach → Progress → Reading
-outcome file r l = by_fault r.fault file r.place (record { net = l.net; picks = l.picks; group = r.group })
+-- what the records left come to, after `l`
+abbrev pub read_from : List ℕ → Reach → Progress → Reading
+read_from file r l = rest file r.place (record { net = l.net; picks = l.picks; group = r.group })
 
 -- reading on from `from` with `p l` comes to the same as reading on from `to` with `q l`, for every `l`
 pub record Leads (file : List ℕ) (from to : Reach) (p q : Progress → Progress) : Type 0 where
-  pub leads : (l : Progress) → outcome file from (p l) ≡ outcome file to (q l)
+  pub leads : (l : Progress) → read_from file from (p l) ≡ read_from file to (q l)
 
--- the group of the next record; 0 for an unknown kind, at a fault, and past the last record
+-- reading on from `from` with `p l` stops at the fault, for every `l`
+pub record Stops (file : List ℕ) (from : Reach) (f : Fault) (p : Progress → Progress) : Type 0 where
+  pub stops : (l : Progress) → read_from file from (p l) ≡ stopped f.number f.place
+
+-- the group of the next record; 0 for an unknown kind, and past the last record
 unfoldable pub group_next : List ℕ → Reach → ℕ
-group_next file r = cond (eqb r.fault 0 && ltb (r.place * 104) (length file)) (group_at (at (record_at file r.place) 0)) 0
+group_next file r = cond (ltb (r.place * 104) (length file)) (group_at (at (record_at file r.place) 0)) 0
 
 -- groups before `k` are past: the next record is of `k` or a later one, or it can't go on
 pub record Going (file : List ℕ) (k : ℕ) (r : Reach) : Type 0 where
@@ -71,25 +71,24 @@ pub record Going (file : List ℕ) (k : ℕ) (r : Reach) : Type 0 where
   pub group : r.group ≤ k
   pub passed : 1 ≤ group_next file r → r.group ≤ group_next file r → k ≤ group_next file r
 
+-- the records of the group `k` lead to a reach, or stop
+abbrev pub LeadsPast : List ℕ → ℕ → Reach → Reach → (Progress → Progress) → (Progress → Progress) → Type 0
+LeadsPast file k from to p q = Leads file from to p q × Going file (suc k) to
+
 -- ── the fault of a record ──
 
-abbrev pub or_zero : Option ℕ → ℕ
-or_zero none = 0
-or_zero (some n) = n
+abbrev pub fault_by : Option ℕ → ℕ → Option Fault
+fault_by None i = None
+fault_by (Some n) i = Some (record { number = n; place = i })
 
--- the number of the first check that fails; 0 for none
-abbrev pub first_failing : List Check → ℕ
-first_failing ks = or_zero (failing ks)
+-- the first check that fails, with the place of the record
+abbrev pub first_fault : ℕ → List Check → Option Fault
+first_fault i ks = fault_by (failing ks) i
 
--- check 4, then those that follow it
-unfoldable pub form_then : Bool → List Check → ℕ
-form_then true ks = first_failing ks
-form_then false ks = 4
-
--- 3 or 4 for a record that by itself is refused, else 0
-abbrev pub decoded_fault : Decoded → ℕ
-decoded_fault (good r) = 0
-decoded_fault (bad n) = n
+-- the check that refuses a record that no group took: 3 or 4, or 5 since its group is past
+abbrev pub left_number : Decoded → ℕ
+left_number (good r) = 5
+left_number (bad n) = n
 
 -- ── tables within their arrays ──
 
@@ -98,25 +97,13 @@ AllShaped n ts = (n ≤ 8) × ((i : ℕ) → i < n → Shaped (get_or ts i no_ta
 
 -- ── the end ──
 
-abbrev pub by_end : ℕ → ℕ → Progress → Reading
-by_end zero i l = finished l
-by_end (suc f) i l = stopped (suc f) i
-
--- stopped at its fault; or all was read
-abbrev pub ending : Reach → Progress → Reading
-ending r l = by_end r.fault r.place (record { net = l.net; picks = l.picks; group = r.group })
-
 -- nothing is left to read
-pub record Ends (file : List ℕ) (from to : Reach) : Type 0 where
-  pub ends : (l : Progress) → outcome file from l ≡ ending to l
+pub record Ends (file : List ℕ) (from : Reach) : Type 0 where
+  pub ends : (l : Progress) → read_from file from l ≡ finished (record { net = l.net; picks = l.picks; group = from.group })
 
 abbrev pub is_good : Decoded → Bool
 is_good (good r) = true
 is_good (bad n) = false
-
-abbrev pub place_or : ℕ → Option ℕ → ℕ
-place_or n none = n
-place_or n (some i) = i
 
 -- ── check 9 ──
 

@@ -3,15 +3,13 @@ ghost use Rattle.std.specs.Prelude.{◌≡◌};
 ghost use Rattle.files.specs.Empty.{blank_relation, blank_table};
 
 use nets::Table;
-use rows::{Cell, Relation, Row};
+use rows::{Relation, Row};
 use values::{Site, Value};
 
 pub fn blank_relation() -> Relation
     ensures { result ≡ blank_relation }
 {
-    let cell = Cell {
-        value: Value::Int(0),
-    };
+    let cell = Value::Int(0);
     let row = Row { cells: [cell; 4] };
     Relation {
         columns: 0,

@@ -1,35 +1,29 @@
 // What a row adds to the content of its table, and checks 7 and 8 of it.
-ghost use Rattle.std.specs.Prelude.{◌≡◌, [], ◌∷◌, ◌++◌, ◌≤◌, ltb, length};
+ghost use Rattle.std.specs.Prelude.{IfOk, ◌≡◌, [], ◌∷◌, ◌++◌, ◌≤◌, ltb, length};
+ghost use Rattle.std.specs.Result.{result_err};
 ghost use Rattle.values.specs.Operands.{values_in};
 ghost use Rattle.rows.specs.View.{relation_of, draft_of, Shaped};
 ghost use Rattle.rows.specs.Fit.{fits};
 ghost use Rattle.row_change.specs.ChangeContracts.{Holds};
 ghost use Rattle.nets.specs.Steps.{check};
-ghost use Rattle.load_walk.specs.Walking.{first_failing};
+ghost use Rattle.load_walk.specs.Walking.{first_fault};
 
+use files::Fault;
 use row_change::appending::push;
 use row_fit::fit::{fits_columns, row_of};
 use rows::{Draft, Relation};
 
-// Checks 7 and 8: does the row fit the columns, and is there room for it? The number of the first that fails, 0 for none.
-pub fn content_fault(content: Relation, d: Draft) -> u8
+// Checks 7 and 8 of the row at a place: does it fit the columns, and is there room for it? It goes last.
+pub fn content_with(place: usize, content: Relation, d: Draft) -> Result<Relation, Fault>
     requires { Shaped content × (d.count ≤ 4) }
-    ensures { result ≡ first_failing (check 7 (fits (relation_of content).columns (draft_of d)) ∷ check 8 (ltb (length (relation_of content).rows) 16) ∷ []) }
+    ensures fault { result_err result ≡ first_fault place (check 7 (fits (relation_of content).columns (draft_of d)) ∷ check 8 (ltb (length (relation_of content).rows) 16) ∷ []) }
+    ensures row { IfOk result (λ o. Holds o (relation_of content).columns ((relation_of content).rows ++ (values_in (draft_of d) ∷ []))) }
 {
-    let kinds = content.kinds;
-    if !fits_columns(content.columns, kinds, d) {
-        return 7;
+    if !fits_columns(content.column_kinds(), d.given()) {
+        return Err(Fault { number: 7, place });
     }
-    if content.count < 16 {
-        return 0;
+    if content.count >= 16 {
+        return Err(Fault { number: 8, place });
     }
-    8
-}
-
-// The row goes last.
-pub fn content_with(content: Relation, d: Draft) -> Relation
-    requires { Shaped content × (d.count ≤ 4) × (first_failing (check 7 (fits (relation_of content).columns (draft_of d)) ∷ check 8 (ltb (length (relation_of content).rows) 16) ∷ []) ≡ 0) }
-    ensures { Holds result (relation_of content).columns ((relation_of content).rows ++ (values_in (draft_of d) ∷ [])) }
-{
-    push(content, row_of(d))
+    Ok(push(content, row_of(d)))
 }

@@ -3,12 +3,12 @@ use Prim.Native.Nat.{ℕ, zero, suc, ◌+◌, ◌<◌, ◌≤◌}
 use mathlib.Core.Path.{◌≡◌, refl, sym, ap, ap₂, ◌∙◌}
 use mathlib.Core.Bool.{Bool, true, false, true≢false, cond, ◌&&◌, and-false}
 use mathlib.Core.List.{List, [], ◌∷◌, map}
-use mathlib.Core.Option.{Option, none, some}
+use Rattle.std.specs.Prelude.{Option, None, Some}
 use native.Mathlib.Omega.{arith}
 use lib.Dec.{eqb, eqb→eq, ltb}
 use lib.ListN.{length, get_or, length-map, get_or-map, get_or-eq_default}
 use borrow.Author.Tests.{ltb-true, lt-ltb, le-ltb, ne_eqb}
-use Rattle.values.specs.Lists.{all}
+use Rattle.std.specs.List.{list_all}
 use Rattle.values.proofs.Bools.{and_first, and_last, T_of}
 use Rattle.values.proofs.Firsts.{firsts_at}
 use Rattle.rows.specs.Relations.{Relation}
@@ -17,7 +17,8 @@ use Rattle.net_parts.specs.declared.Extent.{Extent}
 use Rattle.nets.specs.declared.Entry.{Entry}
 use Rattle.nets.specs.declared.Entry.TheVariants.{Run, Loop}
 use Rattle.nets.specs.declared.Frame.{Frame}
-use Rattle.nets.specs.declared.TableVariable.{TableVariable}
+use Rattle.rows.specs.declared.Relation as Code
+use Rattle.nets.specs.View.{TableVariable}
 use Rattle.nets.specs.Nets.{is_loop, is_sequential, Bindings, Node, visiting}
 use Rattle.nets.specs.Sound.{no_node, has_places}
 use Rattle.net_parts.specs.SoundParts.{shape_of, reads_first, reads_second, ShapesOf, holds_places, ExtentsOf, bare_entry_ok}
@@ -73,10 +74,10 @@ module _ {ds : List Node} {shapes : List ℕ} {count : ℕ} (s : ShapesOf shapes
 
 -- a loop's entry is judged by its node and its places
 bare-is : (ds : List Node) (rs : List (Option Relation)) (i : ℕ) (v : List ℕ) (b : Bindings)
-    → (is_loop (get_or ds i no_node).kind && has_places v (get_or rs (get_or ds i no_node).read none)) ≡ bare_entry_ok ds rs (visiting i v b)
+    → (is_loop (get_or ds i no_node).kind && has_places v (get_or rs (get_or ds i no_node).read None)) ≡ bare_entry_ok ds rs (visiting i v b)
 bare-is ds rs i v b = go (is_loop (get_or ds i no_node).kind) refl
   where
-    go : (l : Bool) → is_loop (get_or ds i no_node).kind ≡ l → (l && has_places v (get_or rs (get_or ds i no_node).read none)) ≡ (ltb i (length ds) && l && has_places v (get_or rs (get_or ds i no_node).read none))
+    go : (l : Bool) → is_loop (get_or ds i no_node).kind ≡ l → (l && has_places v (get_or rs (get_or ds i no_node).read None)) ≡ (ltb i (length ds) && l && has_places v (get_or rs (get_or ds i no_node).read None))
     go true e = rw (loop-there ds i e)
     go false e = rw (and-false (ltb i (length ds)))
 
@@ -94,16 +95,16 @@ module _ (ds : List Node) (rs : List (Option Relation)) (b : Bindings) (f : Fram
     abbrev places : List ℕ
     places = marked 0 f.visit
 
-    whole : (is_loop node.kind && has_places places (get_or rs node.read none)) ≡ bare_entry_ok ds rs (entry_of b f)
+    whole : (is_loop node.kind && has_places places (get_or rs node.read None)) ≡ bare_entry_ok ds rs (entry_of b f)
     whole = bare-is ds rs i places b ∙ entry-is e
 
     -- the node is a loop that reads table variable m
-    found : (m : ℕ) (z : Extent) {r l : Bool} → l ≡ (is_loop node.kind && eqb node.read m) → l ≡ true → has_places places (get_or rs m none) ≡ holds_places z places
+    found : (m : ℕ) (z : Extent) {r l : Bool} → l ≡ (is_loop node.kind && eqb node.read m) → l ≡ true → has_places places (get_or rs m None) ≡ holds_places z places
         → r ≡ holds_places z places → r ≡ bare_entry_ok ds rs (entry_of b f)
     found m z p h a k =
         let t = sym p ∙ h in
         let n : node.read ≡ m = eqb→eq node.read m (T_of (eqb node.read m) (and_last (is_loop node.kind) (eqb node.read m) t)) in
-        k ∙ sym a ∙ ap₂ (λ (u : Bool) (j : ℕ). u && has_places places (get_or rs j none)) (sym (and_first (is_loop node.kind) (eqb node.read m) t)) (sym n) ∙ whole
+        k ∙ sym a ∙ ap₂ (λ (u : Bool) (j : ℕ). u && has_places places (get_or rs j None)) (sym (and_first (is_loop node.kind) (eqb node.read m) t)) (sym n) ∙ whole
 
     first-is : reads_first s ≡ (is_loop node.kind && eqb node.read 0)
     first-is = ap reads_first q ∙ first-shape (is_loop node.kind) (is_sequential node.kind) node.read
@@ -121,7 +122,7 @@ module _ (ds : List Node) (rs : List (Option Relation)) (b : Bindings) (f : Fram
     entry_neither p h p' h' =
         none-asked (is_loop node.kind) node.read (sym (p ∙ first-is) ∙ h) (sym (p' ∙ second_is) ∙ h') ∙ whole
       where
-        none-asked : (loop : Bool) (r : ℕ) → (loop && eqb r 0) ≡ false → (loop && eqb r 1) ≡ false → false ≡ (loop && has_places places (get_or rs r none))
+        none-asked : (loop : Bool) (r : ℕ) → (loop && eqb r 0) ≡ false → (loop && eqb r 1) ≡ false → false ≡ (loop && has_places places (get_or rs r None))
         none-asked false r h k = refl
         none-asked true zero h k = absurd (true≢false h)
         none-asked true (suc zero) h k = absurd (true≢false k)
@@ -130,14 +131,8 @@ module _ (ds : List Node) (rs : List (Option Relation)) (b : Bindings) (f : Fram
 -- ── table variables ──
 
 -- what an extent says of its table variable
-pub extent_is : (v : TableVariable) (e : Extent) → e.bound ≡ v.bound → e.rows ≡ v.content.count → (l : List ℕ) → has_places l (variable_of v) ≡ holds_places e l
-extent_is v e p q l =
-    go v.bound
-    ∙ ap₂ (λ (t : Bool) (n : ℕ). t && all (λ i. ltb i n) l) (sym p) (rows-count v.content ∙ sym q)
-  where
-    go : (t : Bool) → has_places l (cond t (some (relation_of v.content)) none) ≡ (t && all (λ i. ltb i (length (relation_of v.content).rows)) l)
-    go true = refl
-    go false = refl
+pub extent_is : (r : Code.Relation) (n : ℕ) → n ≡ r.count → (l : List ℕ) → has_places l (Some (relation_of r)) ≡ holds_places (record { bound = true; rows = n }) l
+extent_is r n q l = ap (λ (n : ℕ). list_all (λ i. ltb i n) l) (rows-count r ∙ sym q)
 
 pub extents_are : (l : List TableVariable) → length l ≡ 2 → {a b : Extent}
     → ((v : List ℕ) → has_places v (variable_of (get_or l 0 no_variable)) ≡ holds_places a v)
@@ -146,7 +141,7 @@ extents_are l e p q =
     record {
       first = λ v. ap (has_places v) (get_or-map variable_of l 0 no_variable) ∙ p v;
       second = λ v. ap (has_places v) (get_or-map variable_of l 1 no_variable) ∙ q v;
-      others = λ j h. get_or-eq_default (map variable_of l) none (omega (arith, length-map l variable_of));
+      others = λ j h. get_or-eq_default (map variable_of l) None (omega (arith, length-map l variable_of));
     }
 
 -- two elements

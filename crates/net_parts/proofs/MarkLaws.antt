@@ -8,7 +8,8 @@ use lib.Dec.{T, eqb, ltb, eqb→eq}
 use lib.ListN.{length, drop, get_or, set, replicate, length-replicate, get_or-replicate, length-set}
 use lib.Seq.{get_or-set_same, get_or-set_other}
 use borrow.Author.Tests.{eq-eqb, ltb-true}
-use Rattle.values.specs.Lists.{all, any, among}
+use Rattle.values.specs.Lists.{among}
+use Rattle.std.specs.List.{list_all, list_any}
 use Rattle.values.specs.declared.Operand.{Operand}
 use Rattle.values.specs.declared.Operand.TheVariants.{Absent, ConstInt, ConstText, ConstLoc, Var, Plus, Formal}
 use Rattle.values.specs.Operands.{formals}
@@ -88,10 +89,10 @@ same_place a b h k =
     (T_of (eqb a.site.0 b.site.0) (eq-eqb a.site.0 b.site.0 (omega (arith, e, locality-low a h, locality-low b k))))
     (T_of (eqb a.locality.0 b.locality.0) (eq-eqb a.locality.0 b.locality.0 (omega (arith, e, locality-low a h, locality-low b k)))))
 
-same-places : (a : Alias) (l : List Alias) → alias_ok a ≡ true → T (all alias_ok l) → any (same_alias a) l ≡ among (alias_place a) (map alias_place l)
+same-places : (a : Alias) (l : List Alias) → alias_ok a ≡ true → T (list_all alias_ok l) → list_any (same_alias a) l ≡ among (alias_place a) (map alias_place l)
 same-places a [] h k = refl
 same-places a (b ∷ l) h k =
-    ap₂ ◌||◌ (same_place a b h (is_true (alias_ok b) (and_l (alias_ok b) (all alias_ok l) k))) (same-places a l h (and_r (alias_ok b) (all alias_ok l) k))
+    ap₂ ◌||◌ (same_place a b h (is_true (alias_ok b) (and_l (alias_ok b) (list_all alias_ok l) k))) (same-places a l h (and_r (alias_ok b) (list_all alias_ok l) k))
 
 -- aliases that are right, their places marked
 pub record Passed (seen : List Bool) (l : List Alias) : Type 0 where
@@ -102,9 +103,9 @@ pub none_passed : Passed (replicate 64 false) []
 none_passed = record { marks = marks-none 64; right = refl }
 
 module _ {seen : List Bool} {l : List Alias} (p : Passed seen l) (a : Alias) (h : alias_ok a ≡ true) where
-  marked-is : any (same_alias a) l ≡ get_or seen (alias_place a) false
+  marked-is : list_any (same_alias a) l ≡ get_or seen (alias_place a) false
   marked-is =
-      same-places a l h (T_of (all alias_ok l) (and_first (all alias_ok l) (aliases_differ l) (sym (aliases_are l) ∙ p.right)))
+      same-places a l h (T_of (list_all alias_ok l) (and_first (list_all alias_ok l) (aliases_differ l) (sym (aliases_are l) ∙ p.right)))
       ∙ sym (p.marks.each (alias_place a) (place-low a h))
 
   pub one-passed : get_or seen (alias_place a) false ≡ false → Passed (set seen (alias_place a) true) (a ∷ l)
@@ -125,7 +126,7 @@ alias-before l n i h k =
 
 -- one that fails decides
 module _ (l : List Alias) (n i : ℕ) (h : 0 < i) (k : i ≤ n) where
-  pub alias-fails : tails alias_test (get_or l (i - 1) no_alias ∷ drop i (aliases_of n l)) ≡ false → false ≡ (all alias_ok (aliases_of n l) && aliases_differ (aliases_of n l))
+  pub alias-fails : tails alias_test (get_or l (i - 1) no_alias ∷ drop i (aliases_of n l)) ≡ false → false ≡ (list_all alias_ok (aliases_of n l) && aliases_differ (aliases_of n l))
   alias-fails e =
       sym (tails-dropped alias_test (aliases_of n l) (i - 1) (ap (tails alias_test) (alias-before l n i h k) ∙ e))
       ∙ aliases_are (aliases_of n l)

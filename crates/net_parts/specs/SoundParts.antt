@@ -1,12 +1,12 @@
 -- What the soundness test of the code speaks of besides `sound`: labels, formals, links, rows, what each node asks of a loop entry, and what a table
 -- variable holds.
-use Rattle.std.specs.Prelude.{ℕ, ◌+◌, ◌*◌, ◌<◌, ◌≤◌, ◌≡◌, Bool, true, not, cond, ◌&&◌, ◌||◌, List, [], ◌∷◌, map, eqb, leb, ltb, length, get_or}
-use Rattle.std.proofs.Math.Option.{Option, none, some}
+use Rattle.std.specs.Prelude.{ℕ, ◌+◌, ◌*◌, ◌<◌, ◌≤◌, ◌≡◌, Bool, true, not, cond, ◌&&◌, ◌||◌, List, [], ◌∷◌, map, eqb, leb, ltb, length, get_or, Option, None, Some}
 use Rattle.values.specs.declared.Operand.{Operand}
 use Rattle.values.specs.declared.Value.{Value}
-use Rattle.values.specs.Lists.{all, agree, firsts}
+use Rattle.values.specs.Lists.{agree, firsts}
+use Rattle.std.specs.List.{list_all}
 use Rattle.values.specs.Values.{same_site, site_ok, kind_of, in_range}
-use Rattle.values.specs.Operands.{formal_of, vars_of}
+use Rattle.values.specs.Operands.{formal_of}
 use Rattle.rows.specs.Relations.{Row, Columns, Relation}
 use Rattle.net_parts.specs.declared.Extent.{Extent}
 use Rattle.net_parts.specs.declared.Label.{Label}
@@ -38,8 +38,8 @@ labels_in n l = firsts (λ (a : Label). a) no_label n l
 -- ── templates ──
 
 abbrev pub variable_in : Option ℕ → ℕ
-variable_in none = 16
-variable_in (some i) = i
+variable_in None = 16
+variable_in (Some i) = i
 
 -- the variable of a formal; 16, which is none, of any other operand
 abbrev pub formal_variable : Operand → ℕ
@@ -88,22 +88,22 @@ row_ok cs r = agree cell_ok cs r
 
 -- bound, and every place is below the number of rows
 abbrev pub holds_places : Extent → List ℕ → Bool
-holds_places e v = e.bound && all (λ i. ltb i e.rows) v
+holds_places e v = e.bound && list_all (λ i. ltb i e.rows) v
 
 -- the two table variables that two extents stand for
 pub record ExtentsOf (a b : Extent) (rs : List (Option Relation)) : Type 0 where
-  pub first : (v : List ℕ) → has_places v (get_or rs 0 none) ≡ holds_places a v
-  pub second : (v : List ℕ) → has_places v (get_or rs 1 none) ≡ holds_places b v
-  pub others : (j : ℕ) → 2 ≤ j → get_or rs j none ≡ none
+  pub first : (v : List ℕ) → has_places v (get_or rs 0 None) ≡ holds_places a v
+  pub second : (v : List ℕ) → has_places v (get_or rs 1 None) ≡ holds_places b v
+  pub others : (j : ℕ) → 2 ≤ j → get_or rs j None ≡ None
 
 -- ── threads in two parts: all but what their loop entries hold, and that ──
 
 abbrev pub bare_entry_ok : List Node → List (Option Relation) → Entry → Bool
 bare_entry_ok ds rs (to_run i) = ltb i (length ds)
-bare_entry_ok ds rs (visiting i v b) = ltb i (length ds) && is_loop (get_or ds i no_node).kind && has_places v (get_or rs (get_or ds i no_node).read none)
+bare_entry_ok ds rs (visiting i v b) = ltb i (length ds) && is_loop (get_or ds i no_node).kind && has_places v (get_or rs (get_or ds i no_node).read None)
 
 abbrev pub bare_stack_ok : List Node → List (Option Relation) → List Entry → Bool
-bare_stack_ok ds rs s = leb 1 (length s) && leb (length s) 8 && all (bare_entry_ok ds rs) s
+bare_stack_ok ds rs s = leb 1 (length s) && leb (length s) 8 && list_all (bare_entry_ok ds rs) s
 
 abbrev pub bare_thread_ok : List Node → Thread → Bool
 bare_thread_ok ds t = site_ok t.site && bindings_ok t.bindings && bare_stack_ok ds t.bindings.relations t.stack
@@ -112,7 +112,7 @@ bare_thread_ok ds t = site_ok t.site && bindings_ok t.bindings && bare_stack_ok 
 abbrev pub saved_right : List Node → List (Option Relation) → List Entry → Entry → Bool
 saved_right ds rs s (to_run i) = true
 saved_right ds rs s (visiting i v b) =
-    not (is_sequential (get_or ds i no_node).kind) || (bindings_ok b && all (agree_on ds rs b.relations) (visiting i v b ∷ s))
+    not (is_sequential (get_or ds i no_node).kind) || (bindings_ok b && list_all (agree_on ds rs b.relations) (visiting i v b ∷ s))
 
 abbrev pub all_saved_right : List Node → List (Option Relation) → List Entry → Bool
 all_saved_right ds rs [] = true
@@ -121,8 +121,8 @@ all_saved_right ds rs (x ∷ s) = saved_right ds rs s x && all_saved_right ds rs
 -- the same of what the code stores, with the thread's own table variable `o` of the number that the loop does not read; `held` says whether an entry further down reads it
 abbrev pub saved_fits : Bool → Option Relation → Saved → Bool
 saved_fits held o b =
-    eqb (length (vars_of b.vars)) 16
-    && all variable_ok (vars_of b.vars)
+    eqb (length b.vars) 16
+    && list_all variable_ok b.vars
     && relation_ok (variable_of b.other)
     && (not held || same_relation o (variable_of b.other))
 

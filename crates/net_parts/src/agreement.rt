@@ -1,6 +1,5 @@
 // Table variables that agree: both unbound, or both bound with equal columns and equal rows in order. What an array has past its count does not matter.
-ghost use Rattle.std.specs.Prelude.{◌≡◌, true, ◌≤◌};
-ghost use Rattle.std.proofs.Math.Option.{some};
+ghost use Rattle.std.specs.Prelude.{◌≡◌, true, ◌≤◌, Some};
 ghost use Rattle.values.specs.Lists.{agree};
 ghost use Rattle.values.specs.Values.{same_value, same_row};
 ghost use Rattle.rows.specs.View.{values_of, relation_of, Shaped};
@@ -15,23 +14,7 @@ use values::Value;
 fn same_value(a: Value, b: Value) -> bool
     ensures { result ≡ same_value a b }
 {
-    match a {
-        Value::Int(i) => match b {
-            Value::Int(j) => i == j,
-            Value::Text(_) => false,
-            Value::Loc(_) => false,
-        },
-        Value::Text(t) => match b {
-            Value::Int(_) => false,
-            Value::Text(u) => t == u,
-            Value::Loc(_) => false,
-        },
-        Value::Loc(l) => match b {
-            Value::Int(_) => false,
-            Value::Text(_) => false,
-            Value::Loc(m) => l.0 == m.0,
-        },
-    }
+    a == b
 }
 
 // Of rows with `columns` values each.
@@ -39,15 +22,8 @@ fn same_row(a: Row, b: Row, columns: usize) -> bool
     requires { columns ≤ 4 }
     ensures { result ≡ same_row (values_of columns a) (values_of columns b) }
 {
-    let mut i: usize = 0;
-    while i < columns {
-        let x = a.cells[i];
-        let y = b.cells[i];
-        let v = x.value;
-        let w = y.value;
-        if same_value(v, w) {
-            i += 1;
-        } else {
+    for i in 0..columns {
+        if !same_value(a.cells[i], b.cells[i]) {
             return false;
         }
     }
@@ -63,13 +39,10 @@ fn same_rows(a: Relation, b: Relation) -> bool
     if count != b.count {
         return false;
     }
-    let mut i: usize = 0;
-    while i < count {
+    for i in 0..count {
         let x = a.rows[i];
         let y = b.rows[i];
-        if same_row(x, y, columns) {
-            i += 1;
-        } else {
+        if !same_row(x, y, columns) {
             return false;
         }
     }
@@ -78,11 +51,9 @@ fn same_rows(a: Relation, b: Relation) -> bool
 
 fn same_relation(a: Relation, b: Relation) -> bool
     requires { Shaped a × Shaped b }
-    ensures { result ≡ same_relation (some (relation_of a)) (some (relation_of b)) }
+    ensures { result ≡ same_relation (Some (relation_of a)) (Some (relation_of b)) }
 {
-    let k = a.kinds;
-    let l = b.kinds;
-    if same_columns(a.columns, k, b.columns, l) {
+    if same_columns(a.column_kinds(), b.column_kinds()) {
         return same_rows(a, b);
     }
     false
@@ -92,10 +63,9 @@ pub fn same_variable(a: TableVariable, b: TableVariable) -> bool
     requires { (relation_ok (variable_of a) ≡ true) × (relation_ok (variable_of b) ≡ true) }
     ensures { result ≡ same_relation (variable_of a) (variable_of b) }
 {
-    if a.bound & b.bound {
-        let r = a.content;
-        let s = b.content;
-        return same_relation(r, s);
+    match (a, b) {
+        (Some(r), Some(s)) => same_relation(r, s),
+        (None, None) => true,
+        _ => false,
     }
-    !a.bound & !b.bound
 }

@@ -18,17 +18,8 @@ pub struct Extent {
 }
 
 // What no two tables share.
-#[derive(Clone, Copy)]
+#[derive(Clone, Copy, PartialEq, Eq)]
 pub struct Label {
     pub site: Site,
     pub name: u32,
-}
-
-// Whether the nodes are right, and of each its shape: 0 or 1 of a sequential loop that reads table variable 0 or 1, 2 or 3 of a parallel one, and 4 of a
-// node that is no loop.
-// A shape is a number and no enum, since an array of 128 numbers is filled and read with no struct around each.
-#[derive(Clone, Copy)]
-pub struct NodesTested {
-    pub right: bool,
-    pub shapes: [u8; 128],
 }

@@ -1,6 +1,6 @@
 // Aliases and tables: each in its ranges, no two alike.
 ghost use Rattle.std.specs.Prelude.{◌≡◌, not, ◌&&◌, ℕ, ◌<◌, ◌≤◌, leb, length, drop, get_or};
-ghost use Rattle.values.specs.Lists.{all, any};
+ghost use Rattle.std.specs.List.{list_all, list_any};
 ghost use Rattle.nets.specs.Tables.{rows_fit, distinct};
 ghost use Rattle.nets.specs.Sound.{alias_ok, same_alias, aliases_differ, table_ok};
 ghost use Rattle.nets.specs.View.{aliases_of, no_table, table_of, tables_of};
@@ -16,32 +16,24 @@ use nets::{Alias, Table};
 fn alias_ok(a: Alias) -> bool
     ensures { result ≡ alias_ok a }
 {
-    let l = a.locality;
-    site_ok(a.site) & ((1 <= l.0) & locality_ok(l)) & site_ok(a.means)
+    site_ok(a.site) & ((1 <= a.locality.0) & locality_ok(a.locality)) & site_ok(a.means)
 }
 
 fn same_alias(a: Alias, b: Alias) -> bool
     ensures { result ≡ same_alias a b }
 {
-    let s = a.site;
-    let t = b.site;
-    let l = a.locality;
-    let m = b.locality;
-    (s.0 == t.0) & (l.0 == m.0)
+    (a.site == b.site) & (a.locality == b.locality)
 }
 
 // No alias from place `from` on is the same as this one.
 pub fn alias_new(aliases: [Alias; 56], count: usize, a: Alias, from: usize) -> bool
     requires { count ≤ 56 }
-    ensures { result ≡ not (any (same_alias a) (drop from (aliases_of count aliases))) }
+    ensures { result ≡ not (list_any (same_alias a) (drop from (aliases_of count aliases))) }
 {
-    let mut i = from;
-    while i < count {
-        let b = aliases[i];
-        if same_alias(a, b) {
+    for i in from..count {
+        if same_alias(a, aliases[i]) {
             return false;
         }
-        i += 1;
     }
     true
 }
@@ -50,14 +42,12 @@ pub fn alias_new(aliases: [Alias; 56], count: usize, a: Alias, from: usize) -> b
 fn alias_place(a: Alias) -> usize
     ensures { result ≡ alias_place a }
 {
-    let s = a.site;
-    let l = a.locality;
-    (s.0 as usize) * 8 + (l.0 as usize)
+    (a.site.0 as usize) * 8 + (a.locality.0 as usize)
 }
 
 // From the last alias to the first; the pairs of those passed are marked.
 pub fn aliases_ok(aliases: [Alias; 56], count: usize) -> bool
-    ensures { result ≡ (all alias_ok (aliases_of count aliases) && aliases_differ (aliases_of count aliases)) }
+    ensures { result ≡ (list_all alias_ok (aliases_of count aliases) && aliases_differ (aliases_of count aliases)) }
 {
     if 56 < count {
         return false;
@@ -85,73 +75,49 @@ pub fn aliases_ok(aliases: [Alias; 56], count: usize) -> bool
 fn label_of(t: Table) -> Label
     ensures { result ≡ label_of (table_of t) }
 {
-    let site = t.site;
-    Label { site, name: t.name }
+    Label {
+        site: t.site,
+        name: t.name,
+    }
 }
 
 // Tables are compared by their labels, which are small.
 fn labels_of(tables: [Table; 8]) -> [Label; 8]
     ensures { (i : ℕ) → i < 8 → get_or result i no_label ≡ label_of (table_of (get_or tables i no_table)) }
 {
-    let a = tables[0];
-    let b = tables[1];
-    let c = tables[2];
-    let d = tables[3];
-    let e = tables[4];
-    let f = tables[5];
-    let g = tables[6];
-    let h = tables[7];
-    [
-        label_of(a),
-        label_of(b),
-        label_of(c),
-        label_of(d),
-        label_of(e),
-        label_of(f),
-        label_of(g),
-        label_of(h),
-    ]
+    tables.map(label_of)
 }
 
 fn same_label(a: Label, b: Label) -> bool
     ensures { result ≡ same_label a b }
 {
-    let s = a.site;
-    let t = b.site;
-    (s.0 == t.0) & (a.name == b.name)
+    a == b
 }
 
 // No label from place `from` on is this one.
 fn label_new(labels: [Label; 8], count: usize, a: Label, from: usize) -> bool
     requires { count ≤ 8 }
-    ensures { result ≡ not (any (same_label a) (drop from (labels_in count labels))) }
+    ensures { result ≡ not (list_any (same_label a) (drop from (labels_in count labels))) }
 {
-    let mut i = from;
-    while i < count {
-        let b = labels[i];
-        if same_label(a, b) {
+    for i in from..count {
+        if same_label(a, labels[i]) {
             return false;
         }
-        i += 1;
     }
     true
 }
 
 pub fn tables_ok(tables: [Table; 8], count: usize) -> bool
-    ensures { result ≡ (leb (length (tables_of count tables)) 8 && all table_ok (tables_of count tables) && all rows_fit (tables_of count tables) && distinct (tables_of count tables)) }
+    ensures { result ≡ (leb (length (tables_of count tables)) 8 && list_all table_ok (tables_of count tables) && list_all rows_fit (tables_of count tables) && distinct (tables_of count tables)) }
 {
     if 8 < count {
         return false;
     }
     let labels = labels_of(tables);
-    let mut i: usize = 0;
-    while i < count {
+    for i in 0..count {
         let t = tables[i];
         let a = label_of(t);
-        let next = i + 1;
-        if table_ok(t) & label_new(labels, count, a, next) {
-            i = next;
-        } else {
+        if !(table_ok(t) & label_new(labels, count, a, i + 1)) {
             return false;
         }
     }

@@ -1,5 +1,5 @@
 // Nodes: their fields by kind (check 4) and their links (check 9).
-ghost use Rattle.std.specs.Prelude.{◌≡◌, true, false, cond, ◌&&◌, eqb, leb};
+ghost use Rattle.std.specs.Prelude.{◌≡◌, true, false, cond, ◌&&◌, eqb, leb, ℕ, List, Some, is_some};
 ghost use Rattle.values.specs.Values.{is_text};
 ghost use Rattle.rows.specs.View.{columns_of, operands_of};
 ghost use Rattle.nets.specs.Nets.{has_locality, has_template, has_test, has_tuple, is_select, is_loop};
@@ -7,7 +7,6 @@ ghost use Rattle.nets.specs.Sound.{columns_ok, tagged, is_absent, locality_opera
 ghost use Rattle.nets.specs.View.{kind_at, node_of, nodes_of};
 ghost use Rattle.net_parts.specs.SoundParts.{links_at, shape_of, reads_first, reads_second, ShapesOf};
 
-use crate::NodesTested;
 use crate::operands::{
     function_ok, is_absent, locality_operand_ok, no_test, operands_ok, tagged, template_ok, test_ok,
 };
@@ -19,7 +18,6 @@ use nets::kinds::{
     is_sequential, reads_relation,
 };
 use rows::Operands;
-use values::Operand;
 
 // A field that is used is as its rule says, and else zero.
 fn ok_if_used(used: bool, ok: bool, zero: bool) -> bool
@@ -43,75 +41,28 @@ fn tuple_ok(kind: u8, t: Operands) -> bool
     t.count == 0
 }
 
-fn tuple_used(used: bool, t: Operands) -> bool
-    ensures { result ≡ cond used (operands_ok 5 (operands_of t)) (is_empty (operands_of t)) }
-{
-    if used {
-        return operands_ok(5, t);
-    }
-    t.count == 0
-}
-
-fn name_used(used: bool, name: u32) -> bool
-    ensures { result ≡ cond used (is_text name) (eqb name 0) }
-{
-    if used {
-        return is_text(name);
-    }
-    name == 0
-}
-
-fn columns_used(used: bool, columns: usize, kinds: [u8; 4]) -> bool
-    ensures { result ≡ cond used (columns_ok (columns_of columns kinds)) (is_empty (columns_of columns kinds)) }
-{
-    if used {
-        return columns_ok(columns, kinds);
-    }
-    columns == 0
-}
-
-fn locality_used(used: bool, op: Operand) -> bool
-    ensures { result ≡ cond used (locality_operand_ok op) (is_absent op) }
-{
-    if used {
-        return locality_operand_ok(op);
-    }
-    is_absent(op)
-}
-
-fn result_used(used: bool, op: Operand) -> bool
-    ensures { result ≡ cond used (tagged 6 op) (is_absent op) }
-{
-    if used {
-        return tagged(6, op);
-    }
-    is_absent(op)
-}
-
 // A node of an insert, insert-table, create or drop.
 fn plain_ok(d: Node) -> bool
     requires { (has_template (kind_at d.kind) ≡ false) × (has_locality (kind_at d.kind) ≡ true) }
     ensures { result ≡ fields_ok_as (kind_at d.kind) (node_of d) }
 {
     let kind = d.kind;
-    let selector = d.selector;
-    let template = selector.template;
-    let kinds = d.kinds;
-    let locality = d.locality;
-    let result = d.result;
     let tuple = d.tuple;
-    let function = d.function;
     (d.body == 0)
         & is_text(d.name)
         & (d.bound == 0)
         & ok_if_used(reads_relation(kind), d.read < 2, d.read == 0)
-        & function_ok(false, function, d.column)
-        & columns_used(is_create(kind), d.columns, kinds)
-        & locality_operand_ok(locality)
-        & (template.count == 0)
-        & no_test(selector)
-        & tuple_used(has_tuple(kind), tuple)
-        & is_absent(result)
+        & function_ok(false, d.function, d.column)
+        & ok_if_used(
+            is_create(kind),
+            columns_ok(d.columns, d.kinds),
+            d.columns == 0,
+        )
+        & locality_operand_ok(d.locality)
+        & (d.selector.template.count == 0)
+        & no_test(d.selector)
+        & ok_if_used(has_tuple(kind), operands_ok(5, tuple), tuple.count == 0)
+        & is_absent(d.result)
 }
 
 // A node with a predicate: delete, the selects, update, aggregate.
@@ -120,25 +71,21 @@ fn choosing_ok(d: Node) -> bool
     ensures { result ≡ fields_ok_as (kind_at d.kind) (node_of d) }
 {
     let kind = d.kind;
-    let selector = d.selector;
-    let template = selector.template;
-    let locality = d.locality;
+    let op = d.locality;
     let result = d.result;
-    let tuple = d.tuple;
-    let function = d.function;
     let aggregate = is_aggregate(kind);
     let located = has_locality(kind);
     (d.body == 0)
-        & name_used(located, d.name)
+        & ok_if_used(located, is_text(d.name), d.name == 0)
         & ok_if_used(binds_relation(kind), d.bound < 2, d.bound == 0)
         & ok_if_used(reads_relation(kind), d.read < 2, d.read == 0)
-        & function_ok(aggregate, function, d.column)
+        & function_ok(aggregate, d.function, d.column)
         & (d.columns == 0)
-        & locality_used(located, locality)
-        & template_ok(template)
-        & test_ok(selector)
-        & tuple_ok(kind, tuple)
-        & result_used(aggregate, result)
+        & ok_if_used(located, locality_operand_ok(op), is_absent(op))
+        & template_ok(d.selector.template)
+        & test_ok(d.selector)
+        & tuple_ok(kind, d.tuple)
+        & ok_if_used(aggregate, tagged(6, result), is_absent(result))
 }
 
 // A loop's node.
@@ -146,22 +93,16 @@ fn visiting_ok(d: Node) -> bool
     requires { is_loop (kind_at d.kind) ≡ true }
     ensures { result ≡ fields_ok_as (kind_at d.kind) (node_of d) }
 {
-    let selector = d.selector;
-    let template = selector.template;
-    let locality = d.locality;
-    let result = d.result;
-    let tuple = d.tuple;
-    let function = d.function;
     (d.name == 0)
         & (d.bound == 0)
         & (d.read < 2)
-        & function_ok(false, function, d.column)
+        & function_ok(false, d.function, d.column)
         & (d.columns == 0)
-        & is_absent(locality)
-        & template_ok(template)
-        & no_test(selector)
-        & (tuple.count == 0)
-        & is_absent(result)
+        & is_absent(d.locality)
+        & template_ok(d.selector.template)
+        & no_test(d.selector)
+        & (d.tuple.count == 0)
+        & is_absent(d.result)
 }
 
 // Only what a node's kind has is judged.
@@ -197,6 +138,7 @@ fn links_ok(d: Node, i: usize, n: usize) -> bool
 }
 
 // A sequential loop that reads table variable 0 or 1 is 0 or 1, a parallel one 2 or 3, and every other node 4.
+// A shape is a number and no enum, since an array of 128 numbers is filled and read with no struct around each.
 fn shape_of(d: Node) -> u8
     ensures { result ≡ shape_of (node_of d) }
 {
@@ -223,32 +165,20 @@ pub fn reads_second(shape: u8) -> bool
     (shape == 1) | (shape == 3)
 }
 
-// Each node is judged and its shape noted in one pass.
-pub fn nodes_ok(nodes: [Node; 128], count: usize) -> NodesTested
-    ensures { (result.right ≡ (leb count 128 && nodes_ok count 0 (nodes_of count nodes))) × (result.right ≡ true → ShapesOf result.shapes count (nodes_of count nodes)) }
+// Each node is judged and its shape noted in one pass. Of each node its shape, if all are right.
+pub fn nodes_ok(nodes: [Node; 128], count: usize) -> Option<[u8; 128]>
+    ensures { (is_some result ≡ (leb count 128 && nodes_ok count 0 (nodes_of count nodes))) × ((s : List ℕ) → result ≡ Some s → ShapesOf s count (nodes_of count nodes)) }
 {
     let mut shapes: [u8; 128] = [4; 128];
     if 128 < count {
-        return NodesTested {
-            right: false,
-            shapes,
-        };
+        return None;
     }
-    let mut i: usize = 0;
-    while i < count {
+    for i in 0..count {
         let d = nodes[i];
-        shapes[i] = shape_of(d);
-        if fields_ok(d) & links_ok(d, i, count) {
-            i += 1;
-        } else {
-            return NodesTested {
-                right: false,
-                shapes,
-            };
+        if !(fields_ok(d) & links_ok(d, i, count)) {
+            return None;
         }
+        shapes[i] = shape_of(d);
     }
-    NodesTested {
-        right: true,
-        shapes,
-    }
+    Some(shapes)
 }

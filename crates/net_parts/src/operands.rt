@@ -1,5 +1,6 @@
 // Operands, templates, predicates and aggregate functions as the records allow them.
 ghost use Rattle.std.specs.Prelude.{◌≡◌, ◌&&◌};
+ghost use Rattle.std.specs.List.{list_all};
 ghost use Rattle.rows.specs.declared.Test.TheVariants.{Always};
 ghost use Rattle.rows.specs.View.{operands_of};
 ghost use Rattle.nets.specs.Sound.{tagged, is_absent, locality_operand_ok, operands_ok, template_ok, test_ok, is_always, function_ok};
@@ -14,10 +15,7 @@ use values::Operand;
 pub fn is_absent(op: Operand) -> bool
     ensures { result ≡ is_absent op }
 {
-    match op {
-        Operand::Absent => true,
-        _ => false,
-    }
+    op == Operand::Absent
 }
 
 // A tag of 1..hi, its fields in range.
@@ -45,6 +43,12 @@ pub fn locality_operand_ok(op: Operand) -> bool
     }
 }
 
+fn all_tagged(hi: u8, ops: &[Operand]) -> bool
+    ensures { result ≡ list_all (tagged hi) ops.now }
+{
+    ops.iter().all(|op| tagged(hi, *op))
+}
+
 pub fn operands_ok(hi: u8, t: Operands) -> bool
     ensures { result ≡ operands_ok hi (operands_of t) }
 {
@@ -55,17 +59,7 @@ pub fn operands_ok(hi: u8, t: Operands) -> bool
     if 4 < count {
         return false;
     }
-    let mut i: usize = 0;
-    while i < count {
-        let f = t.fields[i];
-        let op = f.operand;
-        if tagged(hi, op) {
-            i += 1;
-        } else {
-            return false;
-        }
-    }
-    true
+    all_tagged(hi, &t.fields[..count])
 }
 
 // ---- templates
@@ -95,8 +89,7 @@ pub fn template_ok(t: Operands) -> bool
     let mut i = count;
     while 0 < i {
         i -= 1;
-        let f = t.fields[i];
-        let op = f.operand;
+        let op = t.fields[i];
         if tagged(6, op) {
             let at = formal_variable(op);
             if seen[at] {
@@ -115,34 +108,22 @@ pub fn template_ok(t: Operands) -> bool
 fn is_always(t: Test) -> bool
     ensures { result ≡ is_always t }
 {
-    match t {
-        Test::Always => true,
-        Test::Equal => false,
-        Test::Unequal => false,
-        Test::Less => false,
-        Test::AtMost => false,
-    }
+    t == Test::Always
 }
 
 pub fn test_ok(s: Selector) -> bool
     ensures { result ≡ test_ok s.test s.left s.right }
 {
-    let t = s.test;
-    let l = s.left;
-    let r = s.right;
-    if is_always(t) {
-        return is_absent(l) & is_absent(r);
+    if is_always(s.test) {
+        return is_absent(s.left) & is_absent(s.right);
     }
-    tagged(5, l) & tagged(5, r)
+    tagged(5, s.left) & tagged(5, s.right)
 }
 
 pub fn no_test(s: Selector) -> bool
     ensures { result ≡ (is_always s.test && test_ok Always s.left s.right) }
 {
-    let t = s.test;
-    let l = s.left;
-    let r = s.right;
-    is_always(t) & (is_absent(l) & is_absent(r))
+    is_always(s.test) & (is_absent(s.left) & is_absent(s.right))
 }
 
 pub fn function_ok(used: bool, f: Function, column: u8) -> bool
@@ -151,8 +132,6 @@ pub fn function_ok(used: bool, f: Function, column: u8) -> bool
     match f {
         Function::Unused => !used & (column == 0),
         Function::Count => used & (column == 0),
-        Function::Sum => used & (column < 4),
-        Function::Least => used & (column < 4),
-        Function::Largest => used & (column < 4),
+        Function::Sum | Function::Least | Function::Largest => used & (column < 4),
     }
 }

@@ -3,7 +3,7 @@ ghost use Rattle.std.specs.Prelude.{◌≡◌};
 ghost use Rattle.values.specs.Values.{site_ok, locality_ok, is_text, in_range};
 ghost use Rattle.nets.specs.Sound.{variable_ok};
 
-use values::{Got, Locality, Site, Slot, Value};
+use values::{Locality, Site, Value};
 
 pub fn site_ok(s: Site) -> bool
     ensures { result ≡ site_ok s }
@@ -38,12 +38,12 @@ pub fn in_range(v: Value) -> bool
     }
 }
 
-pub fn variable_ok(s: Slot) -> bool
-    ensures { result ≡ variable_ok s.held }
+pub fn variable_ok(s: Option<Value>) -> bool
+    ensures { result ≡ variable_ok s }
 {
-    let g = s.held;
+    let g = s;
     match g {
-        Got::Nothing => true,
-        Got::One(v) => in_range(v),
+        None => true,
+        Some(v) => in_range(v),
     }
 }

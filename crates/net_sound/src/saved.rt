@@ -1,6 +1,6 @@
 // What the entries of sequential loops hold, and with it whole threads.
 ghost use Rattle.std.specs.Prelude.{◌≡◌, true, cond, ◌&&◌, List, ◌≤◌, eqb, leb};
-ghost use Rattle.values.specs.Lists.{all};
+ghost use Rattle.std.specs.List.{list_all};
 ghost use Rattle.nets.specs.Nets as Model;
 ghost use Rattle.nets.specs.Sound.{relation_ok, thread_ok};
 ghost use Rattle.net_parts.specs.SoundParts.{ShapesOf, saved_fits};
@@ -28,10 +28,9 @@ fn saved_ok(b: Saved, held: bool, own: TableVariable) -> bool
     requires { relation_ok (variable_of own) ≡ true }
     ensures { result ≡ saved_fits held (variable_of own) b }
 {
-    let vars = b.vars;
     let other = b.other;
     let e = extent_of(other);
-    if vars_ok(vars) & (e.rows <= 16) {
+    if vars_ok(b.vars) & (e.rows <= 16) {
         if held {
             return same_variable(own, other);
         }
@@ -51,23 +50,20 @@ pub fn threads_ok(
     saved: [Saved; 64],
 ) -> bool
     requires { count ≤ 128 }
-    ensures { (ds : List Model.Node) → ShapesOf shapes count ds → result ≡ (leb n 8 && all (thread_ok ds) (threads_of ds saved n threads)) }
+    ensures { (ds : List Model.Node) → ShapesOf shapes count ds → result ≡ (leb n 8 && list_all (thread_ok ds) (threads_of ds saved n threads)) }
 {
     if 8 < n {
         return false;
     }
-    let mut i: usize = 0;
-    while i < n {
+    for i in 0..n {
         let t = threads[i];
         if !thread_ok(shapes, count, t) {
             return false;
         }
         let mut first = false;
         let mut second = false;
-        let mut j: usize = 0;
-        while j < t.depth {
-            let f = t.stack[j];
-            let s = shape_in(shapes, count, f);
+        for j in 0..t.depth {
+            let s = shape_in(shapes, count, t.stack[j]);
             first = reads_first(s) | first;
             second = reads_second(s) | second;
             if s < 2 {
@@ -76,9 +72,7 @@ pub fn threads_ok(
                     return false;
                 }
             }
-            j += 1;
         }
-        i += 1;
     }
     true
 }

@@ -1,9 +1,7 @@
 // A thread but for what its loop entries hold: variables, table variables and its stack. A loop entry is judged by its node's shape and its table
 // variable's extent, which are computed once.
-ghost use Rattle.std.specs.Prelude.{◌≡◌, true, List, ℕ, ◌≤◌, ltb, get_or};
-ghost use Rattle.std.proofs.Math.Option.{Option};
-ghost use Rattle.values.specs.Lists.{all};
-ghost use Rattle.values.specs.Operands.{vars_of};
+ghost use Rattle.std.specs.Prelude.{◌≡◌, true, List, ℕ, ◌≤◌, ltb, get_or, Option};
+ghost use Rattle.std.specs.List.{list_all};
 ghost use Rattle.rows.specs.Relations as Rows;
 ghost use Rattle.nets.specs.Nets as Model;
 ghost use Rattle.nets.specs.Sound.{no_node, variable_ok};
@@ -15,36 +13,24 @@ use net_parts::nodes::{reads_first, reads_second};
 use net_parts::ranges::{site_ok, variable_ok};
 use net_parts::relations::extent_of;
 use nets::{Entry, Frame, Thread};
-use values::Slot;
+use values::Vars;
 
 // ---- parts of a thread
 
-pub fn vars_ok(vars: [Slot; 16]) -> bool
-    ensures { result ≡ all variable_ok (vars_of vars) }
+pub fn vars_ok(vars: Vars) -> bool
+    ensures { result ≡ list_all variable_ok vars }
 {
-    let mut i: usize = 0;
-    while i < 16 {
-        let s = vars[i];
-        if variable_ok(s) {
-            i += 1;
-        } else {
-            return false;
-        }
-    }
-    true
+    vars.iter().all(|g| variable_ok(*g))
 }
 
 // Every place of the visit set is below n.
 fn visit_ok(visit: [bool; 16], n: usize) -> bool
-    ensures { result ≡ all (λ i. ltb i n) (marked 0 visit) }
+    ensures { result ≡ list_all (λ i. ltb i n) (marked 0 visit) }
 {
-    let mut i: usize = 0;
-    while i < 16 {
-        let b = visit[i];
-        if b & (n <= i) {
+    for i in 0..16 {
+        if visit[i] & (n <= i) {
             return false;
         }
-        i += 1;
     }
     true
 }
@@ -71,8 +57,7 @@ pub fn shape_in(shapes: [u8; 128], count: usize, f: Frame) -> u8
     requires { count ≤ 128 }
     ensures { (ds : List Model.Node) (b : Model.Bindings) → ShapesOf shapes count ds → result ≡ shape_in ds (entry_of b f) }
 {
-    let e = f.entry;
-    match e {
+    match f.entry {
         Entry::Run(_) => 4,
         Entry::Loop(i) => shape_at(shapes, count, i as usize),
     }
@@ -82,9 +67,8 @@ fn frame_ok(shapes: [u8; 128], count: usize, a: Extent, b: Extent, f: Frame) -> 
     requires { count ≤ 128 }
     ensures { (ds : List Model.Node) (rs : List (Option Rows.Relation)) (x : Model.Bindings) → ShapesOf shapes count ds → ExtentsOf a b rs → result ≡ bare_entry_ok ds rs (entry_of x f) }
 {
-    let e = f.entry;
     let visit = f.visit;
-    match e {
+    match f.entry {
         Entry::Run(i) => (i as usize) < count,
         Entry::Loop(i) => {
             let s = shape_at(shapes, count, i as usize);
@@ -136,14 +120,10 @@ pub fn thread_ok(shapes: [u8; 128], count: usize, t: Thread) -> bool
     requires { count ≤ 128 }
     ensures { ((ds : List Model.Node) (bs : ℕ → Model.Bindings) → ShapesOf shapes count ds → result ≡ bare_thread_ok ds (thread_of bs t)) × (result ≡ true → Fitting t) }
 {
-    let vars = t.vars;
-    let stack = t.stack;
-    let a = t.relations[0];
-    let b = t.relations[1];
-    let m = extent_of(a);
-    let n = extent_of(b);
-    if site_ok(t.site) & vars_ok(vars) & ((m.rows <= 16) & (n.rows <= 16)) {
-        return stack_ok(shapes, count, m, n, stack, t.depth);
+    let m = extent_of(t.relations[0]);
+    let n = extent_of(t.relations[1]);
+    if site_ok(t.site) & vars_ok(t.vars) & ((m.rows <= 16) & (n.rows <= 16)) {
+        return stack_ok(shapes, count, m, n, t.stack, t.depth);
     }
     false
 }

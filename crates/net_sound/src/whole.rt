@@ -23,33 +23,29 @@ pub fn sound_parts(
     ensures { result ≡ sound (view (record { aliases = aliases; aliascount = aliascount; tables = tables; tablecount = tablecount; nodes = nodes; nodecount = nodecount; threads = threads; threadcount = threadcount; saved = saved })) }
 {
     let judged = nodes_ok(nodes, nodecount);
-    let shapes = judged.shapes;
-    if judged.right {
-        let a = tables_ok(tables, tablecount);
-        let b = aliases_ok(aliases, aliascount);
-        let c = threads_ok(shapes, nodecount, threads, threadcount, saved);
-        return a & b & c;
+    match judged {
+        None => false,
+        Some(shapes) => {
+            let a = tables_ok(tables, tablecount);
+            let b = aliases_ok(aliases, aliascount);
+            let c = threads_ok(shapes, nodecount, threads, threadcount, saved);
+            a & b & c
+        }
     }
-    false
 }
 
 pub fn sound_net(net: Net) -> bool
     ensures { result ≡ sound (view net) }
 {
-    let aliases = net.aliases;
-    let tables = net.tables;
-    let nodes = net.nodes;
-    let threads = net.threads;
-    let saved = net.saved;
     sound_parts(
-        aliases,
+        net.aliases,
         net.aliascount,
-        tables,
+        net.tables,
         net.tablecount,
-        nodes,
+        net.nodes,
         net.nodecount,
-        threads,
+        net.threads,
         net.threadcount,
-        saved,
+        net.saved,
     )
 }

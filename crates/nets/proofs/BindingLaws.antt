@@ -3,13 +3,14 @@ use Prim.Native.Nat.{ℕ}
 use mathlib.Core.Path.{◌≡◌}
 use mathlib.Core.Bool.{Bool, true, ◌&&◌, ◌||◌}
 use mathlib.Core.List.{List, [], ◌∷◌, map}
-use mathlib.Core.Option.{some}
+use Rattle.std.specs.Prelude.{Some}
 use native.Mathlib.Omega.{arith}
 use lib.Dec.{T, eqb, leb, ltb→lt, le→leb, eqb→eq}
 use lib.ListN.{set, length, length-set, length-map}
 use Rattle.values.specs.declared.Operand.{Operand}
 use Rattle.values.specs.declared.Operand.TheVariants.{Absent, ConstInt, ConstText, ConstLoc, Var, Plus, Formal}
-use Rattle.values.specs.Lists.{all, among}
+use Rattle.values.specs.Lists.{among}
+use Rattle.std.specs.List.{list_all}
 use Rattle.values.specs.Values.{in_range}
 use Rattle.values.specs.Operands.{Vars, eval, reads, formals, bind}
 use Rattle.values.proofs.Bools.{and_l, and_r, and_in}
@@ -44,13 +45,13 @@ constant_ok hi (Var i) h = tt
 constant_ok hi (Plus i k) h = tt
 constant_ok hi (Formal i) h = tt
 
-pub constants-ok : (hi : ℕ) (u : List Operand) → T (operands_ok hi u) → T (all (λ o. variable_ok (eval [] o)) u)
+pub constants-ok : (hi : ℕ) (u : List Operand) → T (operands_ok hi u) → T (list_all (λ o. variable_ok (eval [] o)) u)
 constants-ok hi u h = all_weaken (tagged hi) (λ o. variable_ok (eval [] o)) u (constant_ok hi) (search (and_l, and_r))
 
 -- an operand of a select's t has a kind, once what it reads is bound or a formal
-module _ (e : Vars) (t : List Operand) (cs : Columns) (sixteen : length e ≡ 16) (long : length t ≡ length cs) (kinds : T (all is_kind cs)) where
+module _ (e : Vars) (t : List Operand) (cs : Columns) (sixteen : length e ≡ 16) (long : length t ≡ length cs) (kinds : T (list_all is_kind cs)) where
   abbrev readable : Operand → Bool
-  readable o = all (λ i. is_bound e i || among i (formals t)) (reads o)
+  readable o = list_all (λ i. is_bound e i || among i (formals t)) (reads o)
 
   has_kind_lem : (o : Operand) → T (tagged 4 o) → T (readable o) → T (has_kind (bind t cs (kinds_of e)) o)
   has_kind_lem Absent h k = absurd h
@@ -62,7 +63,7 @@ module _ (e : Vars) (t : List Operand) (cs : Columns) (sixteen : length e ≡ 16
   has_kind_lem (Plus i z) h k = absurd h
   has_kind_lem (Formal i) h k = absurd h
 
-  has_kinds : (u : List Operand) → T (all (tagged 4) u) → T (all readable u) → T (all (has_kind (bind t cs (kinds_of e))) u)
+  has_kinds : (u : List Operand) → T (list_all (tagged 4) u) → T (list_all readable u) → T (list_all (has_kind (bind t cs (kinds_of e))) u)
   has_kinds u h k =
       all_weaken (λ o. tagged 4 o && readable o) (has_kind (bind t cs (kinds_of e))) u
       (λ o g. has_kind_lem o (and_l (tagged 4 o) (readable o) g) (and_r (tagged 4 o) (readable o) g))
@@ -72,20 +73,20 @@ module _ (e : Vars) (t : List Operand) (cs : Columns) (sixteen : length e ≡ 16
 
 -- the node's table variable bound anew
 abbrev pub bind_relation : Scene → Relation → Bindings
-bind_relation c r = record { vars = vars c; relations = set c.thread.bindings.relations c.node.bound (some r) }
+bind_relation c r = record { vars = vars c; relations = set c.thread.bindings.relations c.node.bound (Some r) }
 
-pub bind-relation : (c : Scene) (r : Relation) → T (bindings_ok c.thread.bindings) → T (relation_ok (some r)) → T (bindings_ok (bind_relation c r))
+pub bind-relation : (c : Scene) (r : Relation) → T (bindings_ok c.thread.bindings) → T (relation_ok (Some r)) → T (bindings_ok (bind_relation c r))
 bind-relation c r h k =
-    let rs : T (all relation_ok c.thread.bindings.relations) = search (and_l, and_r) in
-    let q = all_set relation_ok c.thread.bindings.relations c.node.bound (some r) rs k in
+    let rs : T (list_all relation_ok c.thread.bindings.relations) = search (and_l, and_r) in
+    let q = all_set relation_ok c.thread.bindings.relations c.node.bound (Some r) rs k in
     rw length-set (search (and_l, and_r, and_in))
 
 module _ {k : Kind} {c : Scene} (s : Sure k c) where
-  pub vars-ok : T (all variable_ok (vars c))
+  pub vars-ok : T (list_all variable_ok (vars c))
   vars-ok = search (and_l, and_r, s.bindings)
 
   -- variables bound anew
-  pub bind-vars : (t : List Operand) (r : Vars) → T (all variable_ok r) → T (bindings_ok (with_vars c.thread.bindings (bind t r (vars c))))
+  pub bind-vars : (t : List Operand) (r : Vars) → T (list_all variable_ok r) → T (bindings_ok (with_vars c.thread.bindings (bind t r (vars c))))
   bind-vars t r h =
       let q = all-bind variable_ok t r (vars c) vars-ok h in
       rw length-bind (search (and_l, and_r, and_in, s.bindings))
@@ -93,17 +94,17 @@ module _ {k : Kind} {c : Scene} (s : Sure k c) where
   hits_few_lem : T (leb (length (hit_rows (parts c))) 16)
   hits_few_lem = le→leb (length (hit_rows (parts c))) 16 s.hits_few
 
-  hits_range : T (all (λ x. all in_range x) (hit_rows (parts c)))
-  hits_range = all_filter (λ x. all in_range x) (hits (vars c) c.node.selector) (source c).rows s.source_range
+  hits_range : T (list_all (λ x. list_all in_range x) (hit_rows (parts c)))
+  hits_range = all_filter (λ x. list_all in_range x) (hits (vars c) c.node.selector) (source c).rows s.source_range
 
-  pub deleted_ok : T (columns_ok (source c).columns) → T (relation_ok (some (bound_by (acting delete) (parts c))))
+  pub deleted_ok : T (columns_ok (source c).columns) → T (relation_ok (Some (bound_by (acting delete) (parts c))))
   unfolding bound_by
   deleted_ok cols =
       let fitting = all_filter (fits_row (source c).columns) (hits (vars c) c.node.selector) (source c).rows s.source_fit in
       search (and_in, hits_few_lem, hits_range)
 
   -- with a t of tags 1..4 and a T as long as the columns
-  pub stored_ok : (o : Other) → T (operands_ok 4 c.node.tuple) → T (eqb (length (template c)) (length (source c).columns)) → T (columns_ok (source c).columns) → T (relation_ok (some (bound_by (other o) (parts c))))
+  pub stored_ok : (o : Other) → T (operands_ok 4 c.node.tuple) → T (eqb (length (template c)) (length (source c).columns)) → T (columns_ok (source c).columns) → T (relation_ok (Some (bound_by (other o) (parts c))))
   unfolding bound_by selected_columns
   stored_ok o tags long cols =
       let kinds =

@@ -2,7 +2,7 @@
 use mathlib.Core.List.{List, [], ◌∷◌}
 use lib.Dec.{T, leb→le, le→leb}
 use lib.ListN.{length}
-use Rattle.values.specs.Lists.{all}
+use Rattle.std.specs.List.{list_all}
 use Rattle.nets.specs.declared.Pick.{Pick}
 use Rattle.nets.specs.Nets.{Net, Outcome}
 use Rattle.nets.specs.Tables.{rows_fit, distinct}
@@ -17,7 +17,7 @@ use Rattle.nets.proofs.RoundLaws.{Threads, threads-ok}
 use Rattle.nets.proofs.KeepTables.{tables-ok, tables-few}
 
 -- a performed step gives a sound net
-performed-sound : (net : Net) (p : Pick) → Pass (scene_of net p) → T (all rows_fit (net_after (scene_of net p)).tables) → T (distinct (net_after (scene_of net p)).tables) → T (sound (net_after (scene_of net p)))
+performed-sound : (net : Net) (p : Pick) → Pass (scene_of net p) → T (list_all rows_fit (net_after (scene_of net p)).tables) → T (distinct (net_after (scene_of net p)).tables) → T (sound (net_after (scene_of net p)))
 unfolding net_after scene_of
 performed-sound net p h f d =
     whole (net_after c)

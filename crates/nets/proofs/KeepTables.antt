@@ -3,15 +3,15 @@ use Prim.Native.Nat.{ℕ, ◌≤◌}
 use mathlib.Core.Path.{◌≡◌, refl}
 use mathlib.Core.Bool.{Bool, true, false, not, cond}
 use mathlib.Core.List.{List, [], ◌∷◌, ◌++◌}
-use mathlib.Core.Option.{Option, none, some}
+use Rattle.std.specs.Prelude.{Option, None, Some}
 use native.Mathlib.Omega.{arith}
 use lib.Dec.{T, eqb, ltb→lt, leb→le, le→leb}
 use lib.ListN.{length, length-append, length-map}
 use Rattle.values.specs.declared.Site.{Site}
 use Rattle.values.specs.declared.Value.TheVariants.{Int, Text, Loc}
-use Rattle.values.specs.declared.Got.{Got}
-use Rattle.values.specs.declared.Got.TheVariants.{Nothing, One}
-use Rattle.values.specs.Lists.{all, find, or_else}
+use Rattle.values.specs.Operands.{Got}
+use Rattle.values.specs.Lists.{or_else}
+use Rattle.std.specs.List.{find, list_all}
 use Rattle.values.specs.Values.{site_ok, in_range, is_text}
 use Rattle.values.specs.Operands.{values_in, eval}
 use Rattle.values.proofs.Bools.{and_l, and_r, and_in}
@@ -33,47 +33,47 @@ use Rattle.nets.proofs.BindingLaws.{ranged, constants-ok, vars-ok}
 -- ── the site that L means ──
 
 abbrev meant_ok : Option Site → Bool
-meant_ok none = true
-meant_ok (some s) = site_ok s
+meant_ok None = true
+meant_ok (Some s) = site_ok s
 
-alias-ok : (o : Option Alias) → ((a : Alias) → o ≡ some a → T (alias_ok a)) → T (meant_ok (meant o))
-alias-ok none h = tt
-alias-ok (some a) h = let k = h a refl in search (and_l, and_r)
+alias-ok : (o : Option Alias) → ((a : Alias) → o ≡ Some a → T (alias_ok a)) → T (meant_ok (meant o))
+alias-ok None h = tt
+alias-ok (Some a) h = let k = h a refl in search (and_l, and_r)
 
-got-ok : (ls : List Alias) (s : Site) (g : Got) → T (all alias_ok ls) → T (site_ok s) → T (meant_ok (site_of_got ls s g))
-got-ok ls s Nothing h k = tt
-got-ok ls s (One (Int i)) h k = tt
-got-ok ls s (One (Text t)) h k = tt
-got-ok ls s (One (Loc l)) h k = go (eqb l.0 0)
+got-ok : (ls : List Alias) (s : Site) (g : Got) → T (list_all alias_ok ls) → T (site_ok s) → T (meant_ok (site_of_got ls s g))
+got-ok ls s None h k = tt
+got-ok ls s (Some (Int i)) h k = tt
+got-ok ls s (Some (Text t)) h k = tt
+got-ok ls s (Some (Loc l)) h k = go (eqb l.0 0)
   where
-    go : (b : Bool) → T (meant_ok (cond b (some s) (meant (find (alias_for s l) ls))))
+    go : (b : Bool) → T (meant_ok (cond b (Some s) (meant (find (alias_for s l) ls))))
     go true = k
     go false = alias-ok (find (alias_for s l) ls) (λ a e. find-all (alias_for s l) alias_ok ls a e h)
 
 or-zero : (o : Option Site) → T (meant_ok o) → T (site_ok (or_else (record { 0 = 0 }) o))
-or-zero none h = tt
-or-zero (some s) h = h
+or-zero None h = tt
+or-zero (Some s) h = h
 
-site-ok : {k : Kind} {c : Scene} → Sure k c → T (all alias_ok c.net.aliases) → T (site_ok (site c))
+site-ok : {k : Kind} {c : Scene} → Sure k c → T (list_all alias_ok c.net.aliases) → T (site_ok (site c))
 unfolding site site_of_l
 site-ok {k} {c} s h = or-zero (site_of_l c) (got-ok c.net.aliases c.thread.site (eval (vars c) c.node.locality) h s.site_fine)
 
 -- ── the tables ──
 
-pub rows_ok_lem : (rs : List Row) (t : Table) → T (table_ok t) → length rs ≤ 16 → T (all (λ x. all in_range x) rs) → T (table_ok (with_rows rs t))
+pub rows_ok_lem : (rs : List Row) (t : Table) → T (table_ok t) → length rs ≤ 16 → T (list_all (λ x. list_all in_range x) rs) → T (table_ok (with_rows rs t))
 rows_ok_lem rs t h l r = let few = le→leb (length rs) 16 l in search (and_l, and_r, and_in) depth 8
 
 table-few : (t : Table) → T (table_ok t) → length t.content.rows ≤ 16
 table-few t h = leb→le (length t.content.rows) 16 (search (and_l, and_r))
 
-pub table_range : (t : Table) → T (table_ok t) → T (all (λ x. all in_range x) t.content.rows)
+pub table_range : (t : Table) → T (table_ok t) → T (list_all (λ x. list_all in_range x) t.content.rows)
 table_range t h = search (and_l, and_r)
 
 create_name : (n i : ℕ) (d : Node) → T (node_ok_as (acting create) n i d) → T (is_text d.name)
 unfolding fields_ok_as
 create_name n i d h = search (and_l, and_r) depth 16
 
-pub tables-ok : (k : Kind) (c : Scene) → Sure k c → T (all alias_ok c.net.aliases) → T (all table_ok c.net.tables) → T (all table_ok (tables_by k c))
+pub tables-ok : (k : Kind) (c : Scene) → Sure k c → T (list_all alias_ok c.net.aliases) → T (list_all table_ok c.net.tables) → T (list_all table_ok (tables_by k c))
 unfolding rows_by tables_by fields_ok_as table
 tables-ok (acting insert) c s a h =
     let tags : T (operands_ok 5 c.node.tuple) = search (and_l, and_r, s.node) depth 16 in
@@ -83,20 +83,20 @@ tables-ok (acting insert) c s a h =
     (λ t e k.
     rows_ok_lem (t.content.rows ++ (new ∷ [])) t k
     (let room = rw e at s.room in rw length-append (omega (arith, ltb→lt)))
-    (all_append (λ x. all in_range x) t.content.rows (new ∷ []) (table_range t k) (search (and_in, range)))) h
+    (all_append (λ x. list_all in_range x) t.content.rows (new ∷ []) (table_range t k) (search (and_in, range)))) h
 tables-ok (acting insert_table) c s a h =
     change-all (site c) c.node.name (λ rs. rs ++ (source c).rows) table_ok c.net.tables
     (λ t e k.
     rows_ok_lem (t.content.rows ++ (source c).rows) t k
     (let room = rw e at s.room in rw length-append (omega (arith, leb→le)))
-    (all_append (λ x. all in_range x) t.content.rows (source c).rows (table_range t k) s.source_range)) h
+    (all_append (λ x. list_all in_range x) t.content.rows (source c).rows (table_range t k) s.source_range)) h
 tables-ok (acting delete) c s a h =
     let spared : Row → Bool = λ r. not (hits (vars c) c.node.selector r) in
     change-all (site c) c.node.name (unselected (vars c) c.node.selector) table_ok c.net.tables
     (λ t e k.
     rows_ok_lem (unselected (vars c) c.node.selector t.content.rows) t k
     (omega (arith, filter-length spared t.content.rows, table-few t k))
-    (all_filter (λ x. all in_range x) spared t.content.rows (table_range t k))) h
+    (all_filter (λ x. list_all in_range x) spared t.content.rows (table_range t k))) h
 tables-ok (acting update) c s a h =
     let tags : T (operands_ok 5 c.node.tuple) = search (and_l, and_r, s.node) depth 16 in
     let cs : Columns = columns_of (table c) in

@@ -6,7 +6,8 @@ use mathlib.Core.List.{List, [], ◌∷◌, map}
 use native.Mathlib.Omega.{arith}
 use lib.Dec.{T}
 use lib.ListN.{length}
-use Rattle.values.specs.Lists.{bit, any, count, sum}
+use Rattle.values.specs.Lists.{bit, count, sum}
+use Rattle.std.specs.List.{list_any}
 use Rattle.values.specs.Values.{same_row}
 use Rattle.values.proofs.Bools.{and_l, and_r, and_in, same_test}
 use Rattle.values.proofs.SameLaws.{row_eq, row_refl}
@@ -50,23 +51,23 @@ sum-add x l [] = omega arith
 sum-add x l (k ∷ keys) = omega (arith, sum-add x l keys)
 
 -- a key that none of the keys is
-none_is : (k : Posting) (keys : List Posting) → T (not (any (same_posting k) keys)) → count (λ j. same_posting j k) keys ≡ 0
+none_is : (k : Posting) (keys : List Posting) → T (not (list_any (same_posting k) keys)) → count (λ j. same_posting j k) keys ≡ 0
 none_is k [] h = refl
 none_is k (j ∷ keys) h = rw (posting_sym j k) (go (same_posting k j) h (none_is k keys))
   where
-    go : (b : Bool) → T (not (b || any (same_posting k) keys)) → (T (not (any (same_posting k) keys)) → count (λ j. same_posting j k) keys ≡ 0) → bit b + count (λ j. same_posting j k) keys ≡ 0
+    go : (b : Bool) → T (not (b || list_any (same_posting k) keys)) → (T (not (list_any (same_posting k) keys)) → count (λ j. same_posting j k) keys ≡ 0) → bit b + count (λ j. same_posting j k) keys ≡ 0
     go true h ih = absurd h
     go false h ih = omega (arith, ih h)
 
 -- one of differing keys is counted once
-once : (x : Posting) (keys : List Posting) → T (differing keys) → T (any (λ k. same_posting k x) keys) → count (λ k. same_posting k x) keys ≡ 1
+once : (x : Posting) (keys : List Posting) → T (differing keys) → T (list_any (λ k. same_posting k x) keys) → count (λ k. same_posting k x) keys ≡ 1
 once x [] d h = absurd h
-once x (k ∷ keys) d h = go (same_posting k x) refl h (once x keys (and_r (not (any (same_posting k) keys)) (differing keys) d))
+once x (k ∷ keys) d h = go (same_posting k x) refl h (once x keys (and_r (not (list_any (same_posting k) keys)) (differing keys) d))
   where
-    go : (b : Bool) → same_posting k x ≡ b → T (b || any (λ j. same_posting j x) keys) → (T (any (λ j. same_posting j x) keys) → count (λ j. same_posting j x) keys ≡ 1) → bit b + count (λ j. same_posting j x) keys ≡ 1
+    go : (b : Bool) → same_posting k x ≡ b → T (b || list_any (λ j. same_posting j x) keys) → (T (list_any (λ j. same_posting j x) keys) → count (λ j. same_posting j x) keys ≡ 1) → bit b + count (λ j. same_posting j x) keys ≡ 1
     go true e h ih =
         let q : count (λ j. same_posting j x) keys ≡ 0 =
-        subst (λ (y : Posting). count (λ j. same_posting j y) keys ≡ 0) (posting_eq k x (subst T (sym e) tt)) (none_is k keys (and_l (not (any (same_posting k) keys)) (differing keys) d)) in
+        subst (λ (y : Posting). count (λ j. same_posting j y) keys ≡ 0) (posting_eq k x (subst T (sym e) tt)) (none_is k keys (and_l (not (list_any (same_posting k) keys)) (differing keys) d)) in
         omega arith
     go false e h ih = omega (arith, ih h)
 
@@ -74,4 +75,4 @@ once x (k ∷ keys) d h = go (same_posting k x) refl h (once x keys (and_r (not 
 pub sum_keys : (keys : List Posting) → T (differing keys) → (l : List Posting) → T (covers keys l) → sum (map (λ k. times k l) keys) ≡ length l
 sum_keys keys d [] h = sum-zero keys
 sum_keys keys d (x ∷ l) h =
-    omega (arith, sum-add x l keys, once x keys d (and_l (any (λ k. same_posting k x) keys) (covers keys l) h), sum_keys keys d l (and_r (any (λ k. same_posting k x) keys) (covers keys l) h))
+    omega (arith, sum-add x l keys, once x keys d (and_l (list_any (λ k. same_posting k x) keys) (covers keys l) h), sum_keys keys d l (and_r (list_any (λ k. same_posting k x) keys) (covers keys l) h))

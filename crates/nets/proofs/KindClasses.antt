@@ -3,7 +3,8 @@ use mathlib.Core.Path.{◌≡◌, refl}
 use mathlib.Core.Bool.{Bool, true, false, not, ◌||◌, beq}
 use mathlib.Core.List.{List, [], ◌∷◌}
 use lib.Dec.{T}
-use Rattle.values.specs.Lists.{all, keep, filter}
+use Rattle.values.specs.Lists.{keep, filter}
+use Rattle.std.specs.List.{list_all}
 use Rattle.values.proofs.Bools.{and_l, and_r}
 use Rattle.nets.specs.Nets.{Kind, acting, other, insert, insert_table, delete, update, create, drop, select, select_relation, aggregate, sequential, parallel, bad_kind}
 use Rattle.nets.specs.View.{every_kind}
@@ -34,15 +35,15 @@ every P h (other sequential) = h.1.1.1.1.1.1.1.1.1.1.0
 every P h (other parallel) = h.1.1.1.1.1.1.1.1.1.1.1.0
 
 -- a test that every kind passes
-pub every-passes : (p : Kind → Bool) → T (all p every_kind) → (k : Kind) → T (p k)
+pub every-passes : (p : Kind → Bool) → T (list_all p every_kind) → (k : Kind) → T (p k)
 every-passes p h = every (λ k. T (p k)) (each every_kind h)
   where
-    each : (ks : List Kind) → T (all p ks) → Each (λ k. T (p k)) ks
+    each : (ks : List Kind) → T (list_all p ks) → Each (λ k. T (p k)) ks
     each [] h = tt
-    each (k ∷ ks) h = (and_l (p k) (all p ks) h, each ks (and_r (p k) (all p ks) h))
+    each (k ∷ ks) h = (and_l (p k) (list_all p ks) h, each ks (and_r (p k) (list_all p ks) h))
 
 -- a class of kinds is part of another
-pub class_in : (p q : Kind → Bool) → T (all (λ k. not (p k) || q k) every_kind) → (k : Kind) → T (p k) → T (q k)
+pub class_in : (p q : Kind → Bool) → T (list_all (λ k. not (p k) || q k) every_kind) → (k : Kind) → T (p k) → T (q k)
 class_in p q h k = go (p k) (q k) (every-passes (λ j. not (p j) || q j) h k)
   where
     go : (a b : Bool) → T (not a || b) → T a → T b
@@ -57,11 +58,11 @@ alike false true h = absurd h
 alike false false h = refl
 
 -- two classes are the same
-pub class_same : (p q : Kind → Bool) → T (all (λ k. beq (p k) (q k)) every_kind) → (k : Kind) → p k ≡ q k
+pub class_same : (p q : Kind → Bool) → T (list_all (λ k. beq (p k) (q k)) every_kind) → (k : Kind) → p k ≡ q k
 class_same p q h k = alike (p k) (q k) (every-passes (λ j. beq (p j) (q j)) h k)
 
 -- a test that answers the same for each kind of a class
-pub in_class : (p : Kind → Bool) (k : Kind) → T (p k) → (q : Kind → Bool) (r : Bool) → T (all (λ j. not (p j) || beq (q j) r) every_kind) → q k ≡ r
+pub in_class : (p : Kind → Bool) (k : Kind) → T (p k) → (q : Kind → Bool) (r : Bool) → T (list_all (λ j. not (p j) || beq (q j) r) every_kind) → q k ≡ r
 in_class p k h q r t = alike (q k) r (class_in p (λ j. beq (q j) r) t k h)
 
 -- `P` of a kind in a class, from `P` of those that are in it

@@ -3,12 +3,13 @@ use Prim.Native.Nat.{ℕ, ◌+◌}
 use mathlib.Core.Path.{◌≡◌, refl, sym, subst, ◌∙◌}
 use mathlib.Core.Bool.{true, false, not, ◌||◌}
 use mathlib.Core.List.{List, [], ◌∷◌, ◌++◌, map}
-use mathlib.Core.Option.{Option, some}
+use Rattle.std.specs.Prelude.{Option, Some, is_some}
 use native.Mathlib.Omega.{arith}
 use lib.Dec.{T}
 use lib.ListN.{length, length-map}
 use Rattle.values.specs.declared.Site.{Site}
-use Rattle.values.specs.Lists.{all, count, is_some}
+use Rattle.values.specs.Lists.{count}
+use Rattle.std.specs.List.{list_all}
 use Rattle.values.specs.Values.{same_row}
 use Rattle.values.specs.Operands.{values_in}
 use Rattle.values.proofs.Bools.{and_in}
@@ -30,15 +31,15 @@ use Rattle.nets.proofs.TableLaws.{same_key, key_refl, none_of, change-same, chan
 pub record Moved (s : Site) (n : ℕ) (ts us : List Table) (added taken : List Row) : Type 0 where
   pub same : (r : Row) → count (same_row r) (rows_of (table_at s n us)) + count (same_row r) taken ≡ count (same_row r) (rows_of (table_at s n ts)) + count (same_row r) added
   pub other : (s' : Site) (n' : ℕ) → same_key s' n' s n ≡ false → table_at s' n' us ≡ table_at s' n' ts
-  pub fit : T (all rows_fit us)
+  pub fit : T (list_all rows_fit us)
   pub names : T (distinct us)
 
-module _ (s : Site) (n : ℕ) (ts : List Table) (f : T (all rows_fit ts)) (d : T (distinct ts)) where
+module _ (s : Site) (n : ℕ) (ts : List Table) (f : T (list_all rows_fit ts)) (d : T (distinct ts)) where
   -- rows changed by `g`
   by_change :
       (g : List Row → List Row) (added taken : List Row) → T (is_some (table_at s n ts)) →
       ((r : Row) → count (same_row r) (g (rows_of (table_at s n ts))) + count (same_row r) taken ≡ count (same_row r) (rows_of (table_at s n ts)) + count (same_row r) added) →
-      ((t : Table) → table_at s n ts ≡ some t → T (rows_fit t) → T (all (fits_row t.content.columns) (g t.content.rows))) →
+      ((t : Table) → table_at s n ts ≡ Some t → T (rows_fit t) → T (list_all (fits_row t.content.columns) (g t.content.rows))) →
       Moved s n ts (change s n g ts) added taken
   by_change g added taken there balanced fitting =
       record {
@@ -75,7 +76,7 @@ module _ (s : Site) (n : ℕ) (ts : List Table) (f : T (all rows_fit ts)) (d : T
   unmoved : Moved s n ts ts [] []
   unmoved = record { same = λ r. refl; other = λ s' n' e. refl; fit = f; names = d }
 
-module _ (c : Scene) (f : T (all rows_fit c.net.tables)) (d : T (distinct c.net.tables)) (src : T (relation_fits (source c))) where
+module _ (c : Scene) (f : T (list_all rows_fit c.net.tables)) (d : T (distinct c.net.tables)) (src : T (relation_fits (source c))) where
   pub moved :
       (k : Kind) → T (not (needs_table k) || is_some (table c)) → T (not (is_create k) || not (is_some (table c))) → T (insert_fits k (parts c)) →
       Moved (site c) c.node.name c.net.tables (tables_by k c) (rows_added k c) (rows_taken k c)

@@ -3,12 +3,12 @@ use Prim.Native.Nat.{ℕ, zero, suc, ◌+◌, ◌≤◌, ◌<◌}
 use mathlib.Core.Path.{◌≡◌, refl, ap, sym, subst, ◌∙◌}
 use mathlib.Core.Bool.{Bool, true, false, not, cond, ◌&&◌, ◌||◌}
 use mathlib.Core.List.{List, [], ◌∷◌, map}
-use mathlib.Core.Option.{Option, none, some}
+use Rattle.std.specs.Prelude.{Option, None, Some, is_some}
 use native.Mathlib.Omega.{arith}
 use lib.Dec.{T, eqb, ltb, ltb→lt, lt→ltb, le→leb}
 use lib.ListN.{get_or, length, length-append}
-use Rattle.values.specs.declared.Got.TheVariants.{One}
-use Rattle.values.specs.Lists.{all, among, filter, places, is_some, or_else}
+use Rattle.values.specs.Lists.{among, filter, places, or_else}
+use Rattle.std.specs.List.{list_all}
 use Rattle.values.specs.Values.{in_range}
 use Rattle.values.proofs.Bools.{and_l, and_r, and_in, T_of}
 use Rattle.values.proofs.ListLaws.{all_filter, all_get_d, all_append, all-map_of}
@@ -26,14 +26,14 @@ use Rattle.nets.proofs.StackLaws.{goes_on_lem}
 
 -- ── the places to visit ──
 
-places-below : (j n m : ℕ) → j + n ≤ m → T (all (λ i. ltb i m) (places j n))
+places-below : (j n m : ℕ) → j + n ≤ m → T (list_all (λ i. ltb i m) (places j n))
 places-below j zero m h = tt
-places-below j (suc n) m h = and_in (ltb j m) (all (λ i. ltb i m) (places (suc j) n)) (lt→ltb j m (omega arith)) (places-below (suc j) n m (omega arith))
+places-below j (suc n) m h = and_in (ltb j m) (list_all (λ i. ltb i m) (places (suc j) n)) (lt→ltb j m (omega arith)) (places-below (suc j) n m (omega arith))
 
-pub visits-ok : (ds : List Node) (rs : List (Option Relation)) (x : Entry) (d : Node) (r : Relation) → get_or ds (entry_node x) no_node ≡ d → get_or rs d.read none ≡ some r → T (entry_ok ds rs x) → T (all (λ i. ltb i (length r.rows)) (still_to_visit x (length r.rows)))
+pub visits-ok : (ds : List Node) (rs : List (Option Relation)) (x : Entry) (d : Node) (r : Relation) → get_or ds (entry_node x) no_node ≡ d → get_or rs d.read None ≡ Some r → T (entry_ok ds rs x) → T (list_all (λ i. ltb i (length r.rows)) (still_to_visit x (length r.rows)))
 visits-ok ds rs (to_run i) d r e q h = places-below 0 (length r.rows) (length r.rows) (omega arith)
 visits-ok ds rs (visiting i v b) d r e q h =
-    subst (λ (o : Option Relation). T (has_places v o)) (ap (λ (n : Node). get_or rs n.read none) e ∙ q) (search (and_l, and_r))
+    subst (λ (o : Option Relation). T (has_places v o)) (ap (λ (n : Node). get_or rs n.read None) e ∙ q) (search (and_l, and_r))
 
 -- ── what a loop reads ──
 
@@ -44,9 +44,9 @@ or_r false b h = h
 pub loop-reads : (k : Kind) → T (is_loop k) → T (reads_relation k)
 loop-reads k h = or_r (eqb (code k) 17) (among (code k) (20 ∷ 25 ∷ 26 ∷ [])) (or_r (eqb (code k) 20) (is_loop k) h)
 
-pub is-some : {A : Type 0} (o : Option A) → T (is_some o) → (a : A) × (o ≡ some a)
-is-some none h = absurd h
-is-some (some a) h = (a, refl)
+pub is-some : {A : Type 0} (o : Option A) → T (is_some o) → (a : A) × (o ≡ Some a)
+is-some None h = absurd h
+is-some (Some a) h = (a, refl)
 
 -- ── what a loop's entry holds ──
 
@@ -60,14 +60,14 @@ module _ (ds : List Node) (t : Thread) where
   held-agrees : (x : Entry) (v : List ℕ) (l : List Entry) → T (saved_agrees ds t.bindings.relations (x ∷ l) x) →
       T (saved_agrees ds t.bindings.relations (visiting (entry_node x) v (first_met t x) ∷ l) (visiting (entry_node x) v (first_met t x)))
   held-agrees (to_run i) v l h =
-      or_r (not (is_sequential (get_or ds i no_node).kind)) (all (agree_on ds t.bindings.relations t.bindings.relations) (visiting i v t.bindings ∷ l))
+      or_r (not (is_sequential (get_or ds i no_node).kind)) (list_all (agree_on ds t.bindings.relations t.bindings.relations) (visiting i v t.bindings ∷ l))
       (agree_same ds t.bindings.relations (visiting i v t.bindings ∷ l))
   held-agrees (visiting i w b) v l h = h
 
 -- ── a round ──
 
 module _ {c : Scene} (s : Sure c.node.kind c) (loop : T (is_loop c.node.kind)) where
-  the_relation : (r : Relation) × (relation c ≡ some r)
+  the_relation : (r : Relation) × (relation c ≡ Some r)
   the_relation = is-some (relation c) (given (reads_relation c.node.kind) (is_some (relation c)) (loop-reads c.node.kind loop) s.held)
 
   the_source : source c ≡ the_relation.0
@@ -83,8 +83,8 @@ module _ {c : Scene} (s : Sure c.node.kind c) (loop : T (is_loop c.node.kind)) w
   loop-entry-ok =
       let r : Relation = the_relation.0 in
       let here = lt→ltb (entry_node c.entry) (length c.net.nodes) (entry-node c.net.nodes c.thread.bindings.relations c.entry s.top_ok) in
-      let visits : T (all (λ i. ltb i (length r.rows)) (visit c)) =
-      subst (λ (q : Relation). T (all (λ i. ltb i (length r.rows)) (still_to_visit c.entry (length q.rows)))) (sym the_source)
+      let visits : T (list_all (λ i. ltb i (length r.rows)) (visit c)) =
+      subst (λ (q : Relation). T (list_all (λ i. ltb i (length r.rows)) (still_to_visit c.entry (length q.rows)))) (sym the_source)
       (visits-ok c.net.nodes c.thread.bindings.relations c.entry c.node r s.node_is the_relation.1 s.top_ok) in
       let fewer = all_filter (λ i. ltb i (length r.rows)) (λ i. not (eqb i c.row)) (visit c) visits in
       let holds : T (not (is_sequential c.node.kind) || bindings_ok (first_met c.thread c.entry)) =
@@ -94,8 +94,8 @@ module _ {c : Scene} (s : Sure c.node.kind c) (loop : T (is_loop c.node.kind)) w
   -- the loop's entry on those below it
   loop-entries-ok : T (entries_ok c.net.nodes c.thread.bindings.relations (loop_entry c ∷ below c.thread.stack))
   loop-entries-ok =
-      let a = and_l (all (entry_ok c.net.nodes c.thread.bindings.relations) (below c.thread.stack)) (all_saved_agree c.net.nodes c.thread.bindings.relations (below c.thread.stack)) s.entries in
-      let b = and_r (all (entry_ok c.net.nodes c.thread.bindings.relations) (below c.thread.stack)) (all_saved_agree c.net.nodes c.thread.bindings.relations (below c.thread.stack)) s.entries in
+      let a = and_l (list_all (entry_ok c.net.nodes c.thread.bindings.relations) (below c.thread.stack)) (all_saved_agree c.net.nodes c.thread.bindings.relations (below c.thread.stack)) s.entries in
+      let b = and_r (list_all (entry_ok c.net.nodes c.thread.bindings.relations) (below c.thread.stack)) (all_saved_agree c.net.nodes c.thread.bindings.relations (below c.thread.stack)) s.entries in
       let agrees = held-agrees c.net.nodes c.thread c.entry (filter (λ i. not (eqb i c.row)) (visit c)) (below c.thread.stack) s.top_agrees in
       search (and_in, loop-entry-ok, agrees)
 
@@ -108,8 +108,8 @@ module _ {c : Scene} (s : Sure c.node.kind c) (loop : T (is_loop c.node.kind)) w
   round_ok : T (bindings_ok (round_bindings c))
   unfolding row_at
   round_ok =
-      bind-vars s (template c) (map One (row_at c c.row))
-      (all-map_of in_range variable_ok One (row_at c c.row) (λ v h. h) (all_get_d (λ x. all in_range x) (source c).rows c.row [] s.source_range tt))
+      bind-vars s (template c) (map Some (row_at c c.row))
+      (all-map_of in_range variable_ok Some (row_at c c.row) (λ v h. h) (all_get_d (λ x. list_all in_range x) (source c).rows c.row [] s.source_range tt))
 
   -- the loop's own thread, with the body on its stack or not, and the new thread
   sequential_ok : suc (length c.thread.stack) ≤ 8 → T (thread_ok c.net.nodes (with_stack (with_bindings c.thread (round_bindings c)) (to_run c.node.body ∷ loop_entry c ∷ below c.thread.stack)))
@@ -130,10 +130,10 @@ module _ {c : Scene} (s : Sure c.node.kind c) (loop : T (is_loop c.node.kind)) w
 
 -- ── the list of threads ──
 
-all-settle : (p : Thread → Bool) (i : ℕ) (us ts : List Thread) → T (all p us) → T (all p ts) → T (all p (settle i us ts))
+all-settle : (p : Thread → Bool) (i : ℕ) (us ts : List Thread) → T (list_all p us) → T (list_all p ts) → T (list_all p (settle i us ts))
 all-settle p i us [] h k = tt
-all-settle p zero us (t ∷ ts) h k = all_append p us ts h (and_r (p t) (all p ts) k)
-all-settle p (suc i) us (t ∷ ts) h k = and_in (p t) (all p (settle i us ts)) (and_l (p t) (all p ts) k) (all-settle p i us ts h (and_r (p t) (all p ts) k))
+all-settle p zero us (t ∷ ts) h k = all_append p us ts h (and_r (p t) (list_all p ts) k)
+all-settle p (suc i) us (t ∷ ts) h k = and_in (p t) (list_all p (settle i us ts)) (and_l (p t) (list_all p ts) k) (all-settle p i us ts h (and_r (p t) (list_all p ts) k))
 
 length-settle : (i : ℕ) (us ts : List Thread) → length us ≤ 1 → length (settle i us ts) ≤ length ts
 length-settle i us [] h = omega arith
@@ -153,11 +153,11 @@ length-go ds n t l = go (eqb n 255)
 
 -- sound and at most eight
 pub record Threads (ds : List Node) (ts : List Thread) : Type 0 where
-  pub fine : T (all (thread_ok ds) ts)
+  pub fine : T (list_all (thread_ok ds) ts)
   pub few : length ts ≤ 8
 
 module _ {c : Scene} (s : Sure c.node.kind c) (before : Threads c.net.nodes c.net.threads) where
-  settled : (us : List Thread) → T (all (thread_ok c.net.nodes) us) → length us ≤ 1 → Threads c.net.nodes (settle c.at us c.net.threads)
+  settled : (us : List Thread) → T (list_all (thread_ok c.net.nodes) us) → length us ≤ 1 → Threads c.net.nodes (settle c.at us c.net.threads)
   settled us h one =
       record {
         fine = all-settle (thread_ok c.net.nodes) c.at us c.net.threads h before.fine;

@@ -7,7 +7,7 @@ use native.Mathlib.Omega.{arith}
 use lib.Dec.{T}
 use lib.ListN.{length, length-append}
 use Rattle.values.specs.declared.Site.{Site}
-use Rattle.values.specs.Lists.{all}
+use Rattle.std.specs.List.{list_all}
 use Rattle.values.proofs.Bools.{or-false-l, or-false_r}
 use Rattle.values.proofs.ListLaws.{count-append}
 use Rattle.rows.specs.Relations.{Row}
@@ -25,7 +25,7 @@ use Rattle.nets.proofs.StepLaws.{Stepped, stepped}
 
 -- what is proved by induction: `Demand3` without the sums over keys
 record Kept (net : Net) (ps : List Pick) : Type 0 where
-  fit : T (all rows_fit (after net ps).tables)
+  fit : T (list_all rows_fit (after net ps).tables)
   names : T (distinct (after net ps).tables)
   balance :
       (s : Site) (n : ℕ) (r : Row) →
@@ -34,7 +34,7 @@ record Kept (net : Net) (ps : List Pick) : Type 0 where
   added_all : reported_added net ps ≡ length (added net ps)
   taken_all : reported_taken net ps ≡ length (taken net ps)
 
-kept : (net : Net) (ps : List Pick) → T (all rows_fit net.tables) → T (distinct net.tables) → Kept net ps
+kept : (net : Net) (ps : List Pick) → T (list_all rows_fit net.tables) → T (distinct net.tables) → Kept net ps
 unfolding next_net after answers added taken acted added_at taken_at acted_at
 kept net [] f d =
     record { fit = f; names = d; balance = λ s n r. refl; untouched = λ s n e. refl; added_all = refl; taken_all = refl }

@@ -2,11 +2,11 @@
 use Prim.Native.Nat.{ℕ, ◌<◌, ◌≤◌}
 use mathlib.Core.Path.{◌≡◌, refl, ap, subst}
 use mathlib.Core.List.{List}
-use mathlib.Core.Option.{some}
+use Rattle.std.specs.Prelude.{Some}
 use native.Mathlib.Omega.{arith}
 use lib.Dec.{T, leb, leb→le}
 use lib.ListN.{length, get_or}
-use Rattle.values.specs.Lists.{all}
+use Rattle.std.specs.List.{list_all}
 use Rattle.values.proofs.Bools.{and_l, and_r}
 use Rattle.values.proofs.Firsts.{length-firsts, all_firsts}
 use Rattle.rows.specs.declared.Relation.{Relation}
@@ -34,13 +34,13 @@ shaped r c h =
     }
 
 -- a bound table variable
-relation-columns : (r : Rows.Relation) → T (relation_ok (some r)) → T (columns_ok r.columns)
+relation-columns : (r : Rows.Relation) → T (relation_ok (Some r)) → T (columns_ok r.columns)
 relation-columns r h = search (and_l, and_r) depth 12
 
-relation-rows : (r : Rows.Relation) → T (relation_ok (some r)) → T (rows_ok r.rows)
+relation-rows : (r : Rows.Relation) → T (relation_ok (Some r)) → T (rows_ok r.rows)
 relation-rows r h = search (and_l, and_r) depth 12
 
-pub relation-shaped : (r : Relation) → T (relation_ok (some (relation_of r))) → Shaped r
+pub relation-shaped : (r : Relation) → T (relation_ok (Some (relation_of r))) → Shaped r
 relation-shaped r h = shaped r (relation-columns (relation_of r) h) (relation-rows (relation_of r) h)
 
 -- ── a table in its ranges ──
@@ -51,7 +51,7 @@ columns-ok t h = search (and_l, and_r) depth 12
 pub rows_ok_lem : (t : M.Table) → T (table_ok t) → T (rows_ok t.content.rows)
 rows_ok_lem t h = search (and_l, and_r) depth 12
 
-module _ (ts : List Table) (n i : ℕ) (below : i < n) (ok : T (all table_ok (tables_of n ts))) where
+module _ (ts : List Table) (n i : ℕ) (below : i < n) (ok : T (list_all table_ok (tables_of n ts))) where
   ok_at : T (table_ok (table_of (get_or ts i no_table)))
   ok_at = all_firsts table_ok table_of no_table n ts i below ok
 
@@ -72,5 +72,5 @@ module _ (net : Net) (ok : T (sound (view net))) where
   few-tables =
       omega (arith, leb→le (length (view net).tables) 8 (clauses (view net) ok).few_tables, ap length (tables_of_lem net), length-firsts table_of no_table net.tablecount net.tables)
 
-  pub tables-ok : T (all table_ok (tables_of net.tablecount net.tables))
-  tables-ok = subst (λ (l : List M.Table). T (all table_ok l)) (tables_of_lem net) (clauses (view net) ok).tables
+  pub tables-ok : T (list_all table_ok (tables_of net.tablecount net.tables))
+  tables-ok = subst (λ (l : List M.Table). T (list_all table_ok l)) (tables_of_lem net) (clauses (view net) ok).tables

@@ -1,7 +1,7 @@
 -- The clauses of soundness by name. Assumes nothing.
 use lib.Dec.{T, leb}
 use lib.ListN.{length}
-use Rattle.values.specs.Lists.{all}
+use Rattle.std.specs.List.{list_all}
 use Rattle.values.proofs.Bools.{and_l, and_r, and_in}
 use Rattle.nets.specs.Nets.{Net}
 use Rattle.nets.specs.Tables.{rows_fit, distinct}
@@ -11,13 +11,13 @@ pub record Clauses (net : Net) : Type 0 where
   pub few_tables : T (leb (length net.tables) 8)
   pub few_nodes : T (leb (length net.nodes) 128)
   pub few_threads : T (leb (length net.threads) 8)
-  pub tables : T (all table_ok net.tables)
-  pub fit : T (all rows_fit net.tables)
+  pub tables : T (list_all table_ok net.tables)
+  pub fit : T (list_all rows_fit net.tables)
   pub names : T (distinct net.tables)
-  pub aliases : T (all alias_ok net.aliases)
+  pub aliases : T (list_all alias_ok net.aliases)
   pub differ : T (aliases_differ net.aliases)
   pub nodes : T (nodes_ok (length net.nodes) 0 net.nodes)
-  pub threads : T (all (thread_ok net.nodes) net.threads)
+  pub threads : T (list_all (thread_ok net.nodes) net.threads)
 
 pub clauses : (net : Net) → T (sound net) → Clauses net
 unfolding sound

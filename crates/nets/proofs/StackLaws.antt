@@ -4,12 +4,12 @@ use mathlib.Core.Path.{sym, subst}
 use mathlib.Core.Bool.{Bool, true, false, not, cond, ◌&&◌, ◌||◌}
 use mathlib.Core.List.{List, [], ◌∷◌}
 use mathlib.Core.Logic.{◌≢◌}
-use mathlib.Core.Option.{Option, none, some}
+use Rattle.std.specs.Prelude.{Option, None, Some}
 use native.Mathlib.Omega.{arith}
 use lib.Dec.{T, T_not, eqb, ltb, le→leb, eqb_refl}
 use lib.ListN.{get_or, set, length}
 use lib.Seq.{get_or-set_other}
-use Rattle.values.specs.Lists.{all, any}
+use Rattle.std.specs.List.{list_all, list_any}
 use Rattle.values.specs.Values.{site_ok}
 use Rattle.values.proofs.Bools.{and_l, and_r, and_in}
 use Rattle.values.proofs.ListLaws.{all_weaken, not-any}
@@ -26,16 +26,16 @@ use Rattle.nets.proofs.BindingLaws.{bind_relation, bind-relation, deleted_ok, st
 
 -- an entry that does not hold it sees the same as before
 module _ (ds : List Node) (rs : List (Option Relation)) (b : ℕ) (r : Relation) where
-  entry_set : (x : Entry) → T (not (holds ds b x)) → T (agree_on ds rs (set rs b (some r)) x)
+  entry_set : (x : Entry) → T (not (holds ds b x)) → T (agree_on ds rs (set rs b (Some r)) x)
   entry_set (to_run i) k = tt
-  entry_set (visiting i v q) k = rw (get_or-set_other rs b (get_or ds i no_node).read (some r) none other) (relation_refl (get_or rs (get_or ds i no_node).read none))
+  entry_set (visiting i v q) k = rw (get_or-set_other rs b (get_or ds i no_node).read (Some r) None other) (relation_refl (get_or rs (get_or ds i no_node).read None))
     where
       other : (get_or ds i no_node).read ≢ b
       other e = T_not (eqb b (get_or ds i no_node).read) k (subst (λ (x : ℕ). T (eqb b x)) (sym e) (eqb_refl b))
 
-  entries-set : (l : List Entry) → T (entries_ok ds rs l) → T (not (any (holds ds b) l)) → T (entries_ok ds (set rs b (some r)) l)
+  entries-set : (l : List Entry) → T (entries_ok ds rs l) → T (not (list_any (holds ds b) l)) → T (entries_ok ds (set rs b (Some r)) l)
   entries-set l h k =
-      entries_swap ds rs (set rs b (some r)) l (all_weaken (λ x. not (holds ds b x)) (agree_on ds rs (set rs b (some r))) l entry_set (not-any (holds ds b) l k)) h
+      entries_swap ds rs (set rs b (Some r)) l (all_weaken (λ x. not (holds ds b x)) (agree_on ds rs (set rs b (Some r))) l entry_set (not-any (holds ds b) l k)) h
 
 -- ── the bindings that a step leaves ──
 
@@ -49,7 +49,7 @@ module _ {k : Kind} {c : Scene} (s : Sure k c) where
   same = record { bindings = s.bindings; entries = s.entries }
 
   -- a table variable that no entry below holds
-  bound : T (not (any (holds c.net.nodes c.node.bound) (below c.thread.stack))) → (r : Relation) → T (relation_ok (some r)) → Rebound c (bind_relation c r)
+  bound : T (not (list_any (holds c.net.nodes c.node.bound) (below c.thread.stack))) → (r : Relation) → T (relation_ok (Some r)) → Rebound c (bind_relation c r)
   bound free r h =
       record {
         bindings = bind-relation c r s.bindings h;
@@ -82,7 +82,7 @@ next-ok {k} {c} s = go (eqb c.node.next 255) (search (and_l, and_r, s.node))
     go true h = tt
     go false h = search and_r
 
-keep-ok : (ds : List Node) (t : Thread) (l : List Entry) → T (site_ok t.site) → T (bindings_ok t.bindings) → length l ≤ 8 → T (entries_ok ds t.bindings.relations l) → T (all (thread_ok ds) (keep_thread t l))
+keep-ok : (ds : List Node) (t : Thread) (l : List Entry) → T (site_ok t.site) → T (bindings_ok t.bindings) → length l ≤ 8 → T (entries_ok ds t.bindings.relations l) → T (list_all (thread_ok ds) (keep_thread t l))
 keep-ok ds t [] p h q k = tt
 keep-ok ds t (x ∷ l) p h q k =
     let few = le→leb (length (x ∷ l)) 8 q in
@@ -90,7 +90,7 @@ keep-ok ds t (x ∷ l) p h q k =
     search and_in
 
 -- the thread after a step that opens no round
-pub goes_on_lem : {k : Kind} {c : Scene} → Sure k c → T (all (thread_ok c.net.nodes) (go_on c.net.nodes c.node.next (with_bindings c.thread (bindings_by k c)) (below c.thread.stack)))
+pub goes_on_lem : {k : Kind} {c : Scene} → Sure k c → T (list_all (thread_ok c.net.nodes) (go_on c.net.nodes c.node.next (with_bindings c.thread (bindings_by k c)) (below c.thread.stack)))
 goes_on_lem {k} {c} s = go (eqb c.node.next 255) (next-ok s)
   where
     ds : List Node
@@ -108,6 +108,6 @@ goes_on_lem {k} {c} s = go (eqb c.node.next 255) (next-ok s)
     back : Back ds (restored ds t l) l
     back = restored-ok ds t l (record { bindings = b.bindings; entries = b.entries })
 
-    go : (b : Bool) → T (b || ltb c.node.next (length ds)) → T (all (thread_ok ds) (cond b (keep_thread (restored ds t l) l) (keep_thread t (to_run c.node.next ∷ l))))
+    go : (b : Bool) → T (b || ltb c.node.next (length ds)) → T (list_all (thread_ok ds) (cond b (keep_thread (restored ds t l) l) (keep_thread t (to_run c.node.next ∷ l))))
     go true h = keep-ok ds (restored ds t l) l (rw (restored-site ds t l) s.site_fine) back.bindings (omega (arith, s.depth)) back.entries
     go false h = keep-ok ds t (to_run c.node.next ∷ l) s.site_fine b.bindings s.depth (push_run ds t.bindings.relations c.node.next l h b.entries)

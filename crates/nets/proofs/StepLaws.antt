@@ -7,7 +7,8 @@ use native.Mathlib.Omega.{arith}
 use lib.Dec.{T, eqb, ltb}
 use lib.ListN.{length, length-map}
 use Rattle.values.specs.declared.Site.{Site}
-use Rattle.values.specs.Lists.{bit, all, count}
+use Rattle.values.specs.Lists.{bit, count}
+use Rattle.std.specs.List.{list_all}
 use Rattle.values.specs.Values.{same_row}
 use Rattle.values.proofs.Bools.{and_l, and_r}
 use Rattle.rows.specs.Relations.{Row}
@@ -134,7 +135,7 @@ unmoved-at k c other s n e = go (acts k) refl e
 
 -- what a pick's outcome does, in the scene `c` of the net
 pub record Stepped (net : Net) (c : Scene) (o : Outcome) : Type 0 where
-  pub fit : T (all rows_fit (net_left net o).tables)
+  pub fit : T (list_all rows_fit (net_left net o).tables)
   pub names : T (distinct (net_left net o).tables)
   pub balance :
       (s : Site) (n : ℕ) (r : Row) →
@@ -145,7 +146,7 @@ pub record Stepped (net : Net) (c : Scene) (o : Outcome) : Type 0 where
   pub added : added_in o ≡ length (if_done o (postings c (rows_added c.node.kind c)))
   pub taken : taken_in o ≡ length (if_done o (postings c (rows_taken c.node.kind c)))
 
-module _ (net : Net) (p : Pick) (f : T (all rows_fit net.tables)) (d : T (distinct net.tables)) where
+module _ (net : Net) (p : Pick) (f : T (list_all rows_fit net.tables)) (d : T (distinct net.tables)) where
   refuses : (n : ℕ) (vs : List ℕ) → Stepped net (scene_of net p) (refused n vs)
   refuses n vs =
       record { fit = f; names = d; balance = λ s m r. refl; untouched = λ s m e. refl; added = refl; taken = refl }

@@ -3,11 +3,12 @@ use Prim.Native.Nat.{ℕ, zero, suc, ◌≤◌, ◌<◌}
 use mathlib.Core.Path.{◌≡◌, refl}
 use mathlib.Core.Bool.{Bool, true, false, not, cond, ◌||◌}
 use mathlib.Core.List.{List, [], ◌∷◌}
-use mathlib.Core.Option.{Option, none, some}
+use Rattle.std.specs.Prelude.{Option, None, Some, is_some}
 use native.Mathlib.Omega.{arith}
 use lib.Dec.{T, eqb, ltb→lt, leb→le}
 use lib.ListN.{get_or, length}
-use Rattle.values.specs.Lists.{all, any, among, is_some, or_else}
+use Rattle.values.specs.Lists.{among, or_else}
+use Rattle.std.specs.List.{list_all, list_any}
 use Rattle.values.specs.Values.{site_ok, in_range}
 use Rattle.values.specs.Operands.{formals}
 use Rattle.values.proofs.Bools.{and_l, and_r, and_in}
@@ -40,14 +41,14 @@ pub record Sure (k : Kind) (c : Scene) : Type 0 where
   pub node : T (node_ok_as k (length c.net.nodes) number c.node)
   -- the rows it reads
   pub source_fit : T (relation_fits (source c))
-  pub source_range : T (all (λ x. all in_range x) (source c).rows)
+  pub source_range : T (list_all (λ x. list_all in_range x) (source c).rows)
   pub source_columns : T (not (reads_relation k || needs_table k) || columns_ok (source c).columns)
   pub hits_few : length (hit_rows (parts c)) ≤ 16
   -- the checks
   pub known_tuple : T (known (λ i. is_bound (vars c) i || among i (formals (template c))) (c.node.selector.left ∷ c.node.selector.right ∷ c.node.tuple))
   pub held : T (not (reads_relation k) || is_some (relation c))
   pub long : T (not (has_template k) || eqb (length (template c)) (length (source c).columns))
-  pub free : T (not (binds_relation k) || not (any (holds c.net.nodes c.node.bound) (below c.thread.stack)))
+  pub free : T (not (binds_relation k) || not (list_any (holds c.net.nodes c.node.bound) (below c.thread.stack)))
   pub room : T (room_by k (parts c) (length c.net.tables))
   pub round_room : T (not (opens c) || room_for_round c)
 
@@ -70,17 +71,17 @@ stack-facts ds rs (x ∷ s) h =
     record {
       s_depth = leb→le (suc (length s)) 8 (search (and_l, and_r));
       s_length = refl;
-      s_entries = and_in (all (entry_ok ds rs) s) (all_saved_agree ds rs s) (search (and_l, and_r)) (search (and_l, and_r));
+      s_entries = and_in (list_all (entry_ok ds rs) s) (all_saved_agree ds rs s) (search (and_l, and_r)) (search (and_l, and_r));
       s_agrees = search (and_l, and_r);
       s_top = search (and_l, and_r);
     }
 
-below_free : (p : Entry → Bool) (b : Bool) (s : List Entry) → T (b || not (any p s)) → T (b || not (any p (below s)))
+below_free : (p : Entry → Bool) (b : Bool) (s : List Entry) → T (b || not (list_any p s)) → T (b || not (list_any p (below s)))
 below_free p true s h = tt
 below_free p false [] h = tt
 below_free p false (x ∷ s) h = go (p x) h
   where
-    go : (b : Bool) → T (not (b || any p s)) → T (not (any p s))
+    go : (b : Bool) → T (not (b || list_any p s)) → T (not (list_any p s))
     go true h = absurd h
     go false h = h
 
@@ -99,12 +100,12 @@ record SourceFacts (there : Bool) (r : Relation) : Type 0 where
   s_columns : T (not there || columns_ok r.columns)
 
 of_relation : (o : Option Relation) → T (relation_ok o) → SourceFacts (is_some o) (or_else no_relation o)
-of_relation none h = record { s_rows = tt; s_columns = tt }
-of_relation (some r) h = record { s_rows = search (and_l, and_r); s_columns = search (and_l, and_r) }
+of_relation None h = record { s_rows = tt; s_columns = tt }
+of_relation (Some r) h = record { s_rows = search (and_l, and_r); s_columns = search (and_l, and_r) }
 
-of_table : (o : Option Table) → ((t : Table) → o ≡ some t → T (table_ok t)) → SourceFacts (is_some o) (content_of o)
-of_table none h = record { s_rows = tt; s_columns = tt }
-of_table (some t) h = let k = h t refl in record { s_rows = search (and_l, and_r); s_columns = search (and_l, and_r) }
+of_table : (o : Option Table) → ((t : Table) → o ≡ Some t → T (table_ok t)) → SourceFacts (is_some o) (content_of o)
+of_table None h = record { s_rows = tt; s_columns = tt }
+of_table (Some t) h = let k = h t refl in record { s_rows = search (and_l, and_r); s_columns = search (and_l, and_r) }
 
 or_chain : (a b c : Bool) → T (not a || b) → T (not b || c) → T (not a || c)
 or_chain true true c h k = k
@@ -175,13 +176,13 @@ sure net p h =
     d : (m : ℕ) × T (node_ok_as c.node.kind (length net.nodes) m c.node)
     d = node_at (length net.nodes) 0 net.nodes (entry_node (top t.stack)) (entry-node net.nodes t.bindings.relations (top t.stack) s.s_top) q.nodes
 
-    relations : T (all relation_ok t.bindings.relations)
+    relations : T (list_all relation_ok t.bindings.relations)
     relations = search (and_l, and_r, thread_fine) depth 8
 
     src : SourceFacts (reads_relation c.node.kind || needs_table c.node.kind) (source c)
     src =
         source-facts (reads_relation c.node.kind) (needs_table c.node.kind) (relation c) (table c) held h.fourteen
-        (of_relation (relation c) (all_get_d relation_ok t.bindings.relations c.node.read none relations tt))
+        (of_relation (relation c) (all_get_d relation_ok t.bindings.relations c.node.read None relations tt))
         (of_table (table c) (λ u e. find-all (is_at (site c) c.node.name) table_ok net.tables u e q.tables))
 
     rows : T (rows_ok (source c).rows)

@@ -3,12 +3,12 @@ use Prim.Native.Nat.{ℕ, suc, ◌≤◌}
 use mathlib.Core.Path.{◌≡◌, refl, ap, ap₂, sym, subst, ◌∙◌}
 use mathlib.Core.Bool.{Bool, true, false, not, ◌&&◌, ◌||◌}
 use mathlib.Core.List.{List, [], ◌∷◌, ◌++◌}
-use mathlib.Core.Option.{Option, none, some}
+use Rattle.std.specs.Prelude.{Option, None, Some, is_some, cond}
 use native.Mathlib.Omega.{arith}
 use lib.Dec.{T, eqb, eqb→eq, eqb_refl}
 use lib.ListN.{length}
 use Rattle.values.specs.declared.Site.{Site}
-use Rattle.values.specs.Lists.{all, first, is_some}
+use Rattle.std.specs.List.{list_all}
 use Rattle.values.specs.Values.{same_site}
 use Rattle.values.proofs.Bools.{and_l, and_r, and_in, is_true, eqb_sym}
 use Rattle.values.proofs.SameLaws.{site_eq}
@@ -37,20 +37,20 @@ at_other s n s' n' t e h = rw (← key_site s n t.site t.name h, ← key_name s 
 
 -- ── none found ──
 
-pub none_of : {A : Type 0} (o : Option A) → T (not (is_some o)) → o ≡ none
-none_of none h = refl
-none_of (some a) h = absurd h
+pub none_of : {A : Type 0} (o : Option A) → T (not (is_some o)) → o ≡ None
+none_of None h = refl
+none_of (Some a) h = absurd h
 
-has_first : {A : Type 0} (b : Bool) (a : A) (o : Option A) → is_some (first b a o) ≡ (b || is_some o)
+has_first : {A : Type 0} (b : Bool) (a : A) (o : Option A) → is_some (cond b (Some a) o) ≡ (b || is_some o)
 has_first true a o = refl
 has_first false a o = refl
 
 -- none found, so the first is not it, and none is found further on
-not_first : {A : Type 0} (b : Bool) (a : A) (o : Option A) → T (not (is_some (first b a o))) → b ≡ false
+not_first : {A : Type 0} (b : Bool) (a : A) (o : Option A) → T (not (is_some (cond b (Some a) o))) → b ≡ false
 not_first true a o h = absurd h
 not_first false a o h = refl
 
-first-none : {A : Type 0} (b : Bool) (a : A) (o : Option A) → T (not (is_some (first b a o))) → T (not (is_some o))
+first-none : {A : Type 0} (b : Bool) (a : A) (o : Option A) → T (not (is_some (cond b (Some a) o))) → T (not (is_some o))
 first-none true a o h = absurd h
 first-none false a o h = h
 
@@ -73,8 +73,8 @@ module _ (s : Site) (n : ℕ) (g : List Row → List Row) where
     where
       go : (b : Bool) → is_at s n t ≡ b
           → (T (is_some (table_at s n ts)) → rows_of (table_at s n (change s n g ts)) ≡ g (rows_of (table_at s n ts)))
-          → T (is_some (first b t (table_at s n ts)))
-          → rows_of (table_at s n (changed b g t ts (change s n g ts))) ≡ g (rows_of (first b t (table_at s n ts)))
+          → T (is_some (cond b (Some t) (table_at s n ts)))
+          → rows_of (table_at s n (changed b g t ts (change s n g ts))) ≡ g (rows_of (cond b (Some t) (table_at s n ts)))
       go true e ih h = rw e
       go false e ih h = rw e (ih h)
 
@@ -83,9 +83,9 @@ module _ (s : Site) (n : ℕ) (g : List Row → List Row) where
   change-other s' n' d [] = refl
   change-other s' n' d (t ∷ ts) = go (is_at s n t) refl (change-other s' n' d ts)
     where
-      go : (b : Bool) → is_at s n t ≡ b → table_at s' n' (change s n g ts) ≡ table_at s' n' ts → table_at s' n' (changed b g t ts (change s n g ts)) ≡ first (is_at s' n' t) t (table_at s' n' ts)
+      go : (b : Bool) → is_at s n t ≡ b → table_at s' n' (change s n g ts) ≡ table_at s' n' ts → table_at s' n' (changed b g t ts (change s n g ts)) ≡ cond (is_at s' n' t) (Some t) (table_at s' n' ts)
       go true e ih = rw (at_other s n s' n' t d (subst T (sym e) tt))
-      go false e ih = ap (first (is_at s' n' t) t) ih
+      go false e ih = ap (cond (is_at s' n' t) (Some t)) ih
 
   -- a change leaves every site and name with or without a table
   change_has : (s' : Site) (n' : ℕ) (ts : List Table) → is_some (table_at s' n' (change s n g ts)) ≡ is_some (table_at s' n' ts)
@@ -93,7 +93,7 @@ module _ (s : Site) (n : ℕ) (g : List Row → List Row) where
   change_has s' n' [] = refl
   change_has s' n' (t ∷ ts) = go (is_at s n t) (change_has s' n' ts)
     where
-      go : (b : Bool) → is_some (table_at s' n' (change s n g ts)) ≡ is_some (table_at s' n' ts) → is_some (table_at s' n' (changed b g t ts (change s n g ts))) ≡ is_some (first (is_at s' n' t) t (table_at s' n' ts))
+      go : (b : Bool) → is_some (table_at s' n' (change s n g ts)) ≡ is_some (table_at s' n' ts) → is_some (table_at s' n' (changed b g t ts (change s n g ts))) ≡ is_some (cond (is_at s' n' t) (Some t) (table_at s' n' ts))
       go true ih = simp has_first
       go false ih = simp (has_first, ih)
 
@@ -111,18 +111,18 @@ module _ (s : Site) (n : ℕ) (g : List Row → List Row) where
   -- a test of each table holds after a change that keeps it for the table found
   pub change-all :
       (q : Table → Bool) (ts : List Table) →
-      ((t : Table) → table_at s n ts ≡ some t → T (q t) → T (q (with_rows (g t.content.rows) t))) →
-      T (all q ts) → T (all q (change s n g ts))
+      ((t : Table) → table_at s n ts ≡ Some t → T (q t) → T (q (with_rows (g t.content.rows) t))) →
+      T (list_all q ts) → T (list_all q (change s n g ts))
   unfolding change
   change-all q [] k h = tt
   change-all q (t ∷ ts) k h = go (is_at s n t) k (change-all q ts)
     where
       go : (b : Bool) →
-          ((u : Table) → first b t (table_at s n ts) ≡ some u → T (q u) → T (q (with_rows (g u.content.rows) u))) →
-          (((u : Table) → table_at s n ts ≡ some u → T (q u) → T (q (with_rows (g u.content.rows) u))) → T (all q ts) → T (all q (change s n g ts))) →
-          T (all q (changed b g t ts (change s n g ts)))
-      go true k ih = and_in (q (with_rows (g t.content.rows) t)) (all q ts) (k t refl (and_l (q t) (all q ts) h)) (and_r (q t) (all q ts) h)
-      go false k ih = and_in (q t) (all q (change s n g ts)) (and_l (q t) (all q ts) h) (ih k (and_r (q t) (all q ts) h))
+          ((u : Table) → cond b (Some t) (table_at s n ts) ≡ Some u → T (q u) → T (q (with_rows (g u.content.rows) u))) →
+          (((u : Table) → table_at s n ts ≡ Some u → T (q u) → T (q (with_rows (g u.content.rows) u))) → T (list_all q ts) → T (list_all q (change s n g ts))) →
+          T (list_all q (changed b g t ts (change s n g ts)))
+      go true k ih = and_in (q (with_rows (g t.content.rows) t)) (list_all q ts) (k t refl (and_l (q t) (list_all q ts) h)) (and_r (q t) (list_all q ts) h)
+      go false k ih = and_in (q t) (list_all q (change s n g ts)) (and_l (q t) (list_all q ts) h) (ih k (and_r (q t) (list_all q ts) h))
 
   pub change-length : (ts : List Table) → length (change s n g ts) ≡ length ts
   unfolding change
@@ -136,12 +136,12 @@ module _ (s : Site) (n : ℕ) (g : List Row → List Row) where
 -- ── remove ──
 
 module _ (s : Site) (n : ℕ) where
-  pub remove-same : (ts : List Table) → T (distinct ts) → table_at s n (remove s n ts) ≡ none
+  pub remove-same : (ts : List Table) → T (distinct ts) → table_at s n (remove s n ts) ≡ None
   unfolding remove
   remove-same [] h = refl
   remove-same (t ∷ ts) h = go (is_at s n t) refl (remove-same ts (rest t ts h))
     where
-      go : (b : Bool) → is_at s n t ≡ b → table_at s n (remove s n ts) ≡ none → table_at s n (removed b t ts (remove s n ts)) ≡ none
+      go : (b : Bool) → is_at s n t ≡ b → table_at s n (remove s n ts) ≡ None → table_at s n (removed b t ts (remove s n ts)) ≡ None
       go true e ih =
           let h' = subst T (sym e) tt in
           rw (key_site s n t.site t.name h', key_name s n t.site t.name h') (none_of (table_at t.site t.name ts) (alone t ts h))
@@ -152,9 +152,9 @@ module _ (s : Site) (n : ℕ) where
   remove-other s' n' d [] = refl
   remove-other s' n' d (t ∷ ts) = go (is_at s n t) refl (remove-other s' n' d ts)
     where
-      go : (b : Bool) → is_at s n t ≡ b → table_at s' n' (remove s n ts) ≡ table_at s' n' ts → table_at s' n' (removed b t ts (remove s n ts)) ≡ first (is_at s' n' t) t (table_at s' n' ts)
+      go : (b : Bool) → is_at s n t ≡ b → table_at s' n' (remove s n ts) ≡ table_at s' n' ts → table_at s' n' (removed b t ts (remove s n ts)) ≡ cond (is_at s' n' t) (Some t) (table_at s' n' ts)
       go true e ih = rw (at_other s n s' n' t d (subst T (sym e) tt))
-      go false e ih = ap (first (is_at s' n' t) t) ih
+      go false e ih = ap (cond (is_at s' n' t) (Some t)) ih
 
   -- where there was no table there is none
   remove-none : (s' : Site) (n' : ℕ) (ts : List Table) → T (not (is_some (table_at s' n' ts))) → T (not (is_some (table_at s' n' (remove s n ts))))
@@ -180,14 +180,14 @@ module _ (s : Site) (n : ℕ) where
           and_in (not (is_some (table_at t.site t.name (remove s n ts)))) (distinct (remove s n ts))
           (remove-none t.site t.name ts (alone t ts h)) ih
 
-  pub remove-all : (q : Table → Bool) (ts : List Table) → T (all q ts) → T (all q (remove s n ts))
+  pub remove-all : (q : Table → Bool) (ts : List Table) → T (list_all q ts) → T (list_all q (remove s n ts))
   unfolding remove
   remove-all q [] h = tt
-  remove-all q (t ∷ ts) h = go (is_at s n t) (remove-all q ts (and_r (q t) (all q ts) h))
+  remove-all q (t ∷ ts) h = go (is_at s n t) (remove-all q ts (and_r (q t) (list_all q ts) h))
     where
-      go : (b : Bool) → T (all q (remove s n ts)) → T (all q (removed b t ts (remove s n ts)))
-      go true ih = and_r (q t) (all q ts) h
-      go false ih = and_in (q t) (all q (remove s n ts)) (and_l (q t) (all q ts) h) ih
+      go : (b : Bool) → T (list_all q (remove s n ts)) → T (list_all q (removed b t ts (remove s n ts)))
+      go true ih = and_r (q t) (list_all q ts) h
+      go false ih = and_in (q t) (list_all q (remove s n ts)) (and_l (q t) (list_all q ts) h) ih
 
   pub remove-length : (ts : List Table) → length (remove s n ts) ≤ length ts
   unfolding remove
@@ -203,9 +203,9 @@ module _ (s : Site) (n : ℕ) where
 module _ (u : Table) where
   pub append-other : (s : Site) (n : ℕ) → is_at s n u ≡ false → (ts : List Table) → table_at s n (ts ++ (u ∷ [])) ≡ table_at s n ts
   append-other s n d [] = rw d
-  append-other s n d (t ∷ ts) = ap (first (is_at s n t) t) (append-other s n d ts)
+  append-other s n d (t ∷ ts) = ap (cond (is_at s n t) (Some t)) (append-other s n d ts)
 
-  pub append-same : (s : Site) (n : ℕ) → T (is_at s n u) → (ts : List Table) → T (not (is_some (table_at s n ts))) → table_at s n (ts ++ (u ∷ [])) ≡ some u
+  pub append-same : (s : Site) (n : ℕ) → T (is_at s n u) → (ts : List Table) → T (not (is_some (table_at s n ts))) → table_at s n (ts ++ (u ∷ [])) ≡ Some u
   append-same s n a [] h = rw (is_true (is_at s n u) a)
   append-same s n a (t ∷ ts) h =
       rw (not_first (is_at s n t) t (table_at s n ts) h) (append-same s n a ts (first-none (is_at s n t) t (table_at s n ts) h))

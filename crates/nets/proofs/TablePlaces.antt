@@ -3,11 +3,11 @@ use Prim.Native.Nat.{ℕ, ◌<◌}
 use mathlib.Core.Path.{◌≡◌, refl, ap, sym}
 use mathlib.Core.Bool.{Bool, true, false}
 use mathlib.Core.List.{List, [], ◌∷◌}
-use mathlib.Core.Option.{some}
+use Rattle.std.specs.Prelude.{Some, is_some}
 use lib.Dec.{T, ltb, ltb→lt}
 use lib.ListN.{length, get_or, set}
 use Rattle.values.specs.declared.Site.{Site}
-use Rattle.values.specs.Lists.{is_some, next_place, place_of, remove_at}
+use Rattle.values.specs.Lists.{next_place, place_of, remove_at}
 use Rattle.values.proofs.PlaceLaws.{find-place, place_found}
 use Rattle.rows.specs.Relations.{Row}
 use Rattle.nets.specs.Nets.{Table}
@@ -24,7 +24,7 @@ module _ (s : Site) (n : ℕ) where
   pub place-below : (ts : List Table) → T (is_some (table_at s n ts)) → place_at ts < length ts
   place-below ts h = ltb→lt (place_at ts) (length ts) (rw table-there at h)
 
-  pub table-at : (ts : List Table) (d : Table) → place_at ts < length ts → table_at s n ts ≡ some (get_or ts (place_at ts) d)
+  pub table-at : (ts : List Table) (d : Table) → place_at ts < length ts → table_at s n ts ≡ Some (get_or ts (place_at ts) d)
   table-at ts d h = place_found (is_at s n) ts d h
 
   pub change-place : (g : List Row → List Row) (ts : List Table) (d : Table) → change s n g ts ≡ set ts (place_at ts) (with_rows (g (get_or ts (place_at ts) d).content.rows) (get_or ts (place_at ts) d))

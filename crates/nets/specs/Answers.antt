@@ -1,10 +1,9 @@
 -- What an answer of the code says, in the paper's numbers and counts, and the contract of a step.
-use Rattle.std.specs.Prelude.{ℕ, ◌≡◌, Bool, true, false, List, [], T}
+use Rattle.std.specs.Prelude.{ℕ, ◌≡◌, Bool, true, false, List, [], T, Err, Ok, Result}
 use Rattle.nets.specs.declared.Pick.{Pick}
+use Rattle.nets.specs.declared.Done.{Done}
 use Rattle.nets.specs.declared.Refusal.{Refusal}
 use Rattle.nets.specs.declared.Refusal.TheVariants.{Unsound, NoThread, Unbound, NoSite, NoTable, TableThere, Misfit, Held, NoResult, NotReady, Full}
-use Rattle.nets.specs.declared.Answer.{Answer}
-use Rattle.nets.specs.declared.Answer.TheVariants.{Done, Refused}
 use Rattle.nets.specs.declared.Net.{Net}
 use Rattle.nets.specs.declared.Stepped.{Stepped}
 use Rattle.nets.specs.Nets.{Outcome, refused, done}
@@ -29,6 +28,10 @@ is_doing (doing a t) = true
 -- what a step that is no loop answers once checks 10 to 15 have passed. Only the code speaks of it: the rule is `step`
 unfoldable pub step_said : Parts → Bool → ℕ → Said
 step_said p is_held tables = first_refusal refusing (part_checks p is_held tables) (doing (added_by p.node.kind p) (taken_by p.node.kind p))
+
+-- what a pick comes to: the counts of one carried out, or the refusal
+abbrev pub Answer : Type 0
+Answer = Result Done Refusal
 
 -- the counts in an answer; a refused pick reports none
 abbrev pub added_said : Said → ℕ
@@ -58,12 +61,12 @@ abbrev pub values_of : Refusal → List ℕ
 values_of r = []
 
 abbrev pub said_of : Answer → Said
-said_of (Done a t) = doing a t
-said_of (Refused r) = refusing (number_of r) (values_of r)
+said_of (Ok d) = doing d.added d.taken
+said_of (Err r) = refusing (number_of r) (values_of r)
 
 abbrev pub is_refused : Answer → Bool
-is_refused (Done a t) = false
-is_refused (Refused r) = true
+is_refused (Ok d) = false
+is_refused (Err r) = true
 
 -- the answer is the rule's; the net given back is the one that the rule leaves; and after a refusal it is the very struct that came in
 pub record StepIs (net : Net) (pick : Pick) (r : Stepped) : Type 0 where

@@ -2,7 +2,8 @@
 -- stand for the loaded ones, and nets and answers are those of the rules.
 use Rattle.std.specs.Prelude.{ℕ, ◌+◌, ◌≡◌, Bool, true, false, not, ◌&&◌, List, [], ◌∷◌, map, T, length}
 use Rattle.values.specs.declared.Site.{Site}
-use Rattle.values.specs.Lists.{all, any, keep, sum}
+use Rattle.values.specs.Lists.{keep, sum}
+use Rattle.std.specs.List.{list_all, list_any}
 use Rattle.rows.specs.Relations.{Row}
 use Rattle.nets.specs.declared.Pick.{Pick}
 use Rattle.nets.specs.Nets.{Net}
@@ -13,16 +14,16 @@ use Rattle.nets.specs.Accounts.{after, reported_added, reported_taken, Posting, 
 -- postings of which no two are one
 abbrev pub differing : List Posting → Bool
 differing [] = true
-differing (p ∷ ps) = not (any (same_posting p) ps) && differing ps
+differing (p ∷ ps) = not (list_any (same_posting p) ps) && differing ps
 
 -- every posting of a ledger is among the keys
 abbrev pub covers : List Posting → List Posting → Bool
-covers keys ledger = all (λ p. any (λ k. same_posting k p) keys) ledger
+covers keys ledger = list_all (λ p. list_any (λ k. same_posting k p) keys) ledger
 
 -- the postings of a ledger, each once: keys that differ and cover it
 abbrev pub keys_of : List Posting → List Posting
 keys_of [] = []
-keys_of (p ∷ ps) = keep (not (any (same_posting p) (keys_of ps))) p (keys_of ps)
+keys_of (p ∷ ps) = keep (not (list_any (same_posting p) (keys_of ps))) p (keys_of ps)
 
 -- the accounts summed over all sites, names and rows that have any
 abbrev pub accounts : List Posting → ℕ
@@ -30,7 +31,7 @@ accounts ledger = sum (map (λ k. times k ledger) (keys_of ledger))
 
 pub record Demand3 (net : Net) (ps : List Pick) : Type 0 where
   -- each row fits its table's columns
-  pub fit : T (all rows_fit (after net ps).tables)
+  pub fit : T (list_all rows_fit (after net ps).tables)
   -- no site has two tables of one name
   pub names : T (distinct (after net ps).tables)
   -- standing + taken = loaded + added, for each site, name and row

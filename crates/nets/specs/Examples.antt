@@ -1,13 +1,12 @@
 -- The table of proved examples, (c) to (j): one list of tests over the definitions, and one proof, by computation.
-use Rattle.std.specs.Prelude.{ℕ, Bool, false, not, ◌&&◌, List, [], ◌∷◌, T, eqb, pos, get_or, replicate}
-use Rattle.std.proofs.Math.Option.{Option, none, some}
+use Rattle.std.specs.Prelude.{ℕ, Bool, false, not, ◌&&◌, List, [], ◌∷◌, T, eqb, pos, get_or, replicate, Option, None, Some}
 use Rattle.values.specs.declared.Site.{Site}
 use Rattle.values.specs.declared.Value.TheVariants.{Int, Text}
-use Rattle.values.specs.declared.Got.{Got}
-use Rattle.values.specs.declared.Got.TheVariants.{Nothing, One}
+use Rattle.values.specs.Operands.{Got}
 use Rattle.values.specs.declared.Operand.{Operand}
 use Rattle.values.specs.declared.Operand.TheVariants.{Absent, ConstInt, ConstText, ConstLoc, Var, Plus, Formal}
-use Rattle.values.specs.Lists.{all, agree, or_else}
+use Rattle.values.specs.Lists.{agree, or_else}
+use Rattle.std.specs.List.{list_all}
 use Rattle.values.specs.Values.{same_row, text_order}
 use Rattle.values.specs.Operands.{values_in, bind}
 use Rattle.rows.specs.declared.Test.TheVariants.{Always, Unequal}
@@ -60,7 +59,7 @@ net_of cs rs x r d =
       aliases = [];
       tables = record { site = site0; name = CARD; content = record { columns = cs; rows = rs } } ∷ [];
       nodes = d 1 ∷ d 255 ∷ [];
-      threads = record { site = site0; bindings = record { vars = x ∷ replicate 15 Nothing; relations = r ∷ none ∷ [] }; stack = to_run 0 ∷ [] } ∷ [];
+      threads = record { site = site0; bindings = record { vars = x ∷ replicate 15 None; relations = r ∷ None ∷ [] }; stack = to_run 0 ∷ [] } ∷ [];
     }
 
 -- ── what one pick does to them ──
@@ -87,18 +86,18 @@ abbrev bindings : Net → Bindings
 bindings net = (get_or (next_net net pick).threads 0 no_thread).bindings
 
 abbrev stands : List Row → Option Table → Bool
-stands rs none = false
-stands rs (some t) = agree same_row rs t.content.rows
+stands rs None = false
+stands rs (Some t) = agree same_row rs t.content.rows
 
 -- CARD stands with these rows after it, in order; what variable 0 holds, and the rows of table variable 0
 abbrev leaves : List Row → Net → Bool
 leaves rs net = stands rs (table_at site0 CARD (next_net net pick).tables)
 
 abbrev binds : Row → Net → Bool
-binds r net = same_row r (values_in (get_or (bindings net).vars 0 Nothing ∷ []))
+binds r net = same_row r (values_in (get_or (bindings net).vars 0 None ∷ []))
 
 abbrev holds : List Row → Net → Bool
-holds rs net = agree same_row rs (or_else no_relation (get_or (bindings net).relations 0 none)).rows
+holds rs net = agree same_row rs (or_else no_relation (get_or (bindings net).relations 0 None)).rows
 
 -- ── the nets of the table ──
 
@@ -107,13 +106,13 @@ int n = Int (pos n) ∷ []
 
 -- one column of Ints: t is x0 + 1; an aggregate of all rows is bound to x0
 abbrev updating : List Row → Net
-updating rs = net_of (1 ∷ []) rs Nothing none (node (acting update) Unused (Formal 0 ∷ []) (Plus 0 (pos 1) ∷ []) Absent)
+updating rs = net_of (1 ∷ []) rs None None (node (acting update) Unused (Formal 0 ∷ []) (Plus 0 (pos 1) ∷ []) Absent)
 
 abbrev inserting : ℕ → List Row → Net
-inserting n rs = net_of (1 ∷ []) rs (One (Int (pos n))) none (node (acting insert) Unused [] (Plus 0 (pos 1) ∷ []) Absent)
+inserting n rs = net_of (1 ∷ []) rs (Some (Int (pos n))) None (node (acting insert) Unused [] (Plus 0 (pos 1) ∷ []) Absent)
 
 abbrev aggregating : Function → List Row → Net
-aggregating f rs = net_of (1 ∷ []) rs Nothing none (node (other aggregate) f (Formal 1 ∷ []) [] (Formal 0))
+aggregating f rs = net_of (1 ∷ []) rs None None (node (other aggregate) f (Formal 1 ∷ []) [] (Formal 0))
 
 abbrev TEAL : ℕ
 TEAL = 0x5445414c
@@ -122,13 +121,13 @@ abbrev teal : ℕ
 teal = 0x7465616c
 
 abbrev deleting : ℕ → ℕ → Net
-deleting t row = net_of (2 ∷ []) ((Text row ∷ []) ∷ []) Nothing none (node (acting delete) Unused (ConstText t ∷ []) [] Absent)
+deleting t row = net_of (2 ∷ []) ((Text row ∷ []) ∷ []) None None (node (acting delete) Unused (ConstText t ∷ []) [] Absent)
 
 abbrev selecting : List Row → Net
-selecting rs = net_of (1 ∷ []) rs Nothing none (node (other select) Unused (Formal 0 ∷ []) (Var 0 ∷ []) Absent)
+selecting rs = net_of (1 ∷ []) rs None None (node (other select) Unused (Formal 0 ∷ []) (Var 0 ∷ []) Absent)
 
 abbrev doubling : List Row → Net
-doubling rs = net_of (1 ∷ []) rs Nothing (some (record { columns = 1 ∷ []; rows = rs })) (node (acting insert_table) Unused [] [] Absent)
+doubling rs = net_of (1 ∷ []) rs None (Some (record { columns = 1 ∷ []; rows = rs })) (node (acting insert_table) Unused [] [] Absent)
 
 -- ── the table ──
 
@@ -160,6 +159,6 @@ examples =
     ∷ leaves (int 1 ∷ int 2 ∷ int 1 ∷ int 2 ∷ []) (doubling (int 1 ∷ int 2 ∷ []))
     ∷ []
 
-pub examples_hold : T (all (λ b. b) examples)
+pub examples_hold : T (list_all (λ b. b) examples)
 unfolding bind text_order matches hits draft tuple_for changes selected_columns aggregated distinct change fields_ok_as links_ok_as sound scene_of site_of_l site table relation source any_ready opens reads_ok check12 check13 check14 check15 check16 check17 check18 check19 check20 rows_by tables_by added_by taken_by bound_by vars_by bindings_by threads_after net_after performed first_refusal checks step next_net
 examples_hold = tt

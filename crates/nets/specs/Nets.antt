@@ -1,6 +1,5 @@
 -- Nets as lists: what the rules read. Names, node numbers and places are numbers; sites and localities are types of their own. `Alias` is the code's own type.
-use Rattle.std.specs.Prelude.{ℕ, Bool, true, false, List, [], ◌∷◌, eqb}
-use Rattle.std.proofs.Math.Option.{Option}
+use Rattle.std.specs.Prelude.{ℕ, Bool, true, false, List, [], ◌∷◌, eqb, Option}
 use Rattle.values.specs.declared.Site.{Site}
 use Rattle.values.specs.declared.Operand.{Operand}
 use Rattle.values.specs.Lists.{among}

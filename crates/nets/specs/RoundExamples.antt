@@ -1,13 +1,12 @@
 -- What a round binds ends with the round, by example: a sequential loop whose body binds anew what the loop's template reads. One list of tests over the definitions, and one proof, by computation.
-use Rattle.std.specs.Prelude.{ℕ, Bool, not, ◌&&◌, List, [], ◌∷◌, T, eqb, pos, get_or, length, replicate, take}
-use Rattle.std.proofs.Math.Option.{Option, none, some}
+use Rattle.std.specs.Prelude.{ℕ, Bool, not, ◌&&◌, List, [], ◌∷◌, T, eqb, pos, get_or, length, replicate, take, Option, None, Some, is_some}
 use Rattle.values.specs.declared.Site.{Site}
 use Rattle.values.specs.declared.Value.{Value}
 use Rattle.values.specs.declared.Value.TheVariants.{Int, Loc}
-use Rattle.values.specs.declared.Got.TheVariants.{Nothing, One}
 use Rattle.values.specs.declared.Operand.{Operand}
 use Rattle.values.specs.declared.Operand.TheVariants.{Absent, ConstInt, ConstText, ConstLoc, Var, Plus, Formal}
-use Rattle.values.specs.Lists.{all, agree, is_some, or_else}
+use Rattle.values.specs.Lists.{agree, or_else}
+use Rattle.std.specs.List.{list_all}
 use Rattle.values.specs.Values.{same_row, text_order}
 use Rattle.values.specs.Operands.{values_in, bind}
 use Rattle.rows.specs.declared.Test.TheVariants.{Always}
@@ -88,7 +87,7 @@ one n = record { columns = 1 ∷ []; rows = (int n ∷ []) ∷ [] }
 
 -- what x0, T0 and T1 hold; all else is unbound
 abbrev bound : ℕ → Option Relation → Option Relation → Bindings
-bound n t0 t1 = record { vars = One (int n) ∷ replicate 15 Nothing; relations = t0 ∷ t1 ∷ [] }
+bound n t0 t1 = record { vars = Some (int n) ∷ replicate 15 None; relations = t0 ∷ t1 ∷ [] }
 
 -- CARD has the row 2; one thread with these bindings and this stack
 abbrev net_of : Kind → Kind → Bindings → List Entry → Net
@@ -107,7 +106,7 @@ abbrev par : Kind
 par = other parallel
 
 abbrev start : Kind → Net
-start k = net_of k seq (bound 1 (some readings) none) (to_run 0 ∷ [])
+start k = net_of k seq (bound 1 (Some readings) None) (to_run 0 ∷ [])
 
 -- ── the run ──
 
@@ -127,13 +126,13 @@ done_at n a t = is_done_with a t (step (at n) (get_or picks n (row 0)))
 
 -- of bindings: the value of a variable, no row where it is unbound; the rows of T1
 abbrev value : ℕ → Row → Bindings → Bool
-value i r b = same_row r (values_in (get_or b.vars i Nothing ∷ []))
+value i r b = same_row r (values_in (get_or b.vars i None ∷ []))
 
 abbrev in_t1 : List Row → Bindings → Bool
-in_t1 rs b = is_some (get_or b.relations 1 none) && agree same_row rs (or_else no_relation (get_or b.relations 1 none)).rows
+in_t1 rs b = is_some (get_or b.relations 1 None) && agree same_row rs (or_else no_relation (get_or b.relations 1 None)).rows
 
 abbrev no_t1 : Bindings → Bool
-no_t1 b = not (is_some (get_or b.relations 1 none))
+no_t1 b = not (is_some (get_or b.relations 1 None))
 
 -- of a net: the bindings of the thread at a place, and how deep its stack is; those that the entry below its top keeps; the rows of CARD
 abbrev own : ℕ → Net → Bindings
@@ -158,19 +157,19 @@ card rs net = agree same_row rs (rows_of (table_at site0 CARD net.tables))
 
 -- x0 is 5 and T1 has the row 9; the loop 0 of kind `k` keeps x0 = 1 and the row 7 in T1. A pick of the entry `x` above it
 abbrev ends : Kind → Kind → Entry → Net
-ends k j x = next_net (net_of k j (bound 5 (some readings) (some (one 9))) (x ∷ visiting 0 [] (bound 1 (some readings) (some (one 7))) ∷ [])) (row 0)
+ends k j x = next_net (net_of k j (bound 5 (Some readings) (Some (one 9))) (x ∷ visiting 0 [] (bound 1 (Some readings) (Some (one 7))) ∷ [])) (row 0)
 
 -- the loop 4 is over: its entry has no row left to visit
 abbrev over : Entry
-over = visiting 4 [] (bound 6 (some readings) (some (one 9)))
+over = visiting 4 [] (bound 6 (Some readings) (Some (one 9)))
 
 -- the thread's own bindings where the loop 0 keeps `b`
 abbrev keeping : Kind → Bindings → Net
-keeping k b = net_of k seq (bound 5 (some readings) none) (to_run 3 ∷ visiting 0 [] b ∷ [])
+keeping k b = net_of k seq (bound 5 (Some readings) None) (to_run 3 ∷ visiting 0 [] b ∷ [])
 
 -- the entry of loop 4 above that of loop 0, which holds T0: what it keeps as T0
 abbrev above : Kind → Relation → Net
-above k r = net_of k seq (bound 5 (some readings) (some (one 3))) (to_run 5 ∷ visiting 4 [] (bound 1 (some r) (some (one 3))) ∷ visiting 0 [] (bound 1 (some readings) none) ∷ [])
+above k r = net_of k seq (bound 5 (Some readings) (Some (one 3))) (to_run 5 ∷ visiting 4 [] (bound 1 (Some r) (Some (one 3))) ∷ visiting 0 [] (bound 1 (Some readings) None) ∷ [])
 
 -- the readings, with other rows
 abbrev with_rows : List Row → Relation
@@ -223,24 +222,24 @@ examples =
     -- under a parallel loop's entry none do, nor under an entry to run, whatever stands below that
     ∷ value 0 (int 5 ∷ []) (own 0 (ends par seq (to_run 3)))
     ∷ in_t1 ((int 2 ∷ []) ∷ []) (own 0 (ends par seq (to_run 3)))
-    ∷ value 0 (int 5 ∷ []) (own 0 (next_net (net_of seq seq (bound 5 (some readings) none) (to_run 3 ∷ to_run 1 ∷ visiting 0 [] (bound 1 (some readings) none) ∷ [])) (row 0)))
-    ∷ in_t1 ((int 2 ∷ []) ∷ []) (own 0 (next_net (net_of seq seq (bound 5 (some readings) none) (to_run 3 ∷ to_run 1 ∷ visiting 0 [] (bound 1 (some readings) none) ∷ [])) (row 0)))
+    ∷ value 0 (int 5 ∷ []) (own 0 (next_net (net_of seq seq (bound 5 (Some readings) None) (to_run 3 ∷ to_run 1 ∷ visiting 0 [] (bound 1 (Some readings) None) ∷ [])) (row 0)))
+    ∷ in_t1 ((int 2 ∷ []) ∷ []) (own 0 (next_net (net_of seq seq (bound 5 (Some readings) None) (to_run 3 ∷ to_run 1 ∷ visiting 0 [] (bound 1 (Some readings) None) ∷ [])) (row 0)))
     -- what an entry keeps is not renewed by a later round
-    ∷ value 0 (int 7 ∷ []) (kept (next_net (net_of seq seq (bound 1 (some readings) none) (visiting 0 (0 ∷ []) (bound 7 (some readings) none) ∷ [])) (row 0)))
+    ∷ value 0 (int 7 ∷ []) (kept (next_net (net_of seq seq (bound 1 (Some readings) None) (visiting 0 (0 ∷ []) (bound 7 (Some readings) None) ∷ [])) (row 0)))
     -- what an entry keeps agrees with the thread's own T0, which the loop holds: bound, equal columns, equal rows in order
-    ∷ sound (keeping seq (bound 1 (some readings) none))
-    ∷ not (sound (keeping seq (bound 1 none none)))
-    ∷ not (sound (keeping seq (bound 1 (some (one 3)) none)))
-    ∷ not (sound (keeping seq (bound 1 (some (with_rows ((int 1 ∷ int 10 ∷ []) ∷ (int 2 ∷ int 20 ∷ []) ∷ []))) none)))
-    ∷ not (sound (keeping seq (bound 1 (some (with_rows ((int 1 ∷ int 10 ∷ []) ∷ (int 1 ∷ int 30 ∷ []) ∷ (int 2 ∷ int 20 ∷ []) ∷ []))) none)))
-    ∷ not (sound (keeping seq (bound 1 (some (with_rows ((int 1 ∷ int 10 ∷ []) ∷ (int 2 ∷ int 20 ∷ []) ∷ (int 1 ∷ int 31 ∷ []) ∷ []))) none)))
+    ∷ sound (keeping seq (bound 1 (Some readings) None))
+    ∷ not (sound (keeping seq (bound 1 None None)))
+    ∷ not (sound (keeping seq (bound 1 (Some (one 3)) None)))
+    ∷ not (sound (keeping seq (bound 1 (Some (with_rows ((int 1 ∷ int 10 ∷ []) ∷ (int 2 ∷ int 20 ∷ []) ∷ []))) None)))
+    ∷ not (sound (keeping seq (bound 1 (Some (with_rows ((int 1 ∷ int 10 ∷ []) ∷ (int 1 ∷ int 30 ∷ []) ∷ (int 2 ∷ int 20 ∷ []) ∷ []))) None)))
+    ∷ not (sound (keeping seq (bound 1 (Some (with_rows ((int 1 ∷ int 10 ∷ []) ∷ (int 2 ∷ int 20 ∷ []) ∷ (int 1 ∷ int 31 ∷ []) ∷ []))) None)))
     -- T1, which nobody holds, may be anything within the limits and ranges of a thread's own
-    ∷ sound (keeping seq (bound 1 (some readings) (some (one 3))))
-    ∷ not (sound (keeping seq (bound 1 (some readings) (some (record { columns = []; rows = [] })))))
-    ∷ not (sound (keeping seq (bound 1 (some readings) (some (record { columns = 1 ∷ []; rows = replicate 17 (int 1 ∷ []) })))))
-    ∷ not (sound (keeping seq (bound 1 (some readings) (some (record { columns = 2 ∷ []; rows = (int 1 ∷ []) ∷ [] })))))
-    ∷ not (sound (keeping seq (record { vars = One (Loc (record { 0 = 8 })) ∷ replicate 15 Nothing; relations = some readings ∷ none ∷ [] })))
-    ∷ not (sound (keeping seq (record { vars = []; relations = some readings ∷ none ∷ [] })))
+    ∷ sound (keeping seq (bound 1 (Some readings) (Some (one 3))))
+    ∷ not (sound (keeping seq (bound 1 (Some readings) (Some (record { columns = []; rows = [] })))))
+    ∷ not (sound (keeping seq (bound 1 (Some readings) (Some (record { columns = 1 ∷ []; rows = replicate 17 (int 1 ∷ []) })))))
+    ∷ not (sound (keeping seq (bound 1 (Some readings) (Some (record { columns = 2 ∷ []; rows = (int 1 ∷ []) ∷ [] })))))
+    ∷ not (sound (keeping seq (record { vars = Some (Loc (record { 0 = 8 })) ∷ replicate 15 None; relations = Some readings ∷ None ∷ [] })))
+    ∷ not (sound (keeping seq (record { vars = []; relations = Some readings ∷ None ∷ [] })))
     -- of a parallel loop nothing is judged
     ∷ sound (keeping par (record { vars = []; relations = [] }))
     -- nor may it disagree on what an entry further down holds, of either kind
@@ -250,6 +249,6 @@ examples =
     ∷ not (sound (above par (with_rows ((int 1 ∷ int 10 ∷ []) ∷ []))))
     ∷ []
 
-pub examples_hold : T (all (λ b. b) examples)
+pub examples_hold : T (list_all (λ b. b) examples)
 unfolding bind text_order matches hits draft tuple_for changes selected_columns aggregated distinct change fields_ok_as links_ok_as sound scene_of site_of_l site table relation source visit row_at ready any_ready pick_ready opens reads_ok check12 check13 check14 check15 check16 check17 check18 check19 room_for_round check20 rows_by tables_by added_by taken_by bound_by vars_by bindings_by threads_after net_after performed first_refusal checks step next_net after
 examples_hold = tt

@@ -1,13 +1,12 @@
 -- What a pick meets: the thread with its top entry, the node, where L leads, the rows that the step speaks of, and the rows that a loop has still to visit.
-use Rattle.std.specs.Prelude.{ℕ, Bool, cond, ◌&&◌, List, [], ◌∷◌, eqb, get_or, length}
-use Rattle.std.proofs.Math.Option.{Option, none, some}
+use Rattle.std.specs.Prelude.{ℕ, Bool, cond, ◌&&◌, List, [], ◌∷◌, eqb, get_or, length, Option, None, Some}
 use Rattle.values.specs.declared.Site.{Site}
 use Rattle.values.specs.declared.Locality.{Locality}
 use Rattle.values.specs.declared.Value.TheVariants.{Int, Text, Loc}
-use Rattle.values.specs.declared.Got.{Got}
-use Rattle.values.specs.declared.Got.TheVariants.{Nothing, One}
+use Rattle.values.specs.Operands.{Got}
 use Rattle.values.specs.declared.Operand.{Operand}
-use Rattle.values.specs.Lists.{any, find, or_else, among, places}
+use Rattle.values.specs.Lists.{or_else, among, places}
+use Rattle.std.specs.List.{find, list_any}
 use Rattle.values.specs.Values.{same_site, same_locality}
 use Rattle.values.specs.Operands.{Vars, eval}
 use Rattle.rows.specs.Relations.{Row, Relation, no_relation}
@@ -64,18 +63,18 @@ abbrev pub alias_for : Site → Locality → Alias → Bool
 alias_for s l a = same_site s a.site && same_locality l a.locality
 
 abbrev pub meant : Option Alias → Option Site
-meant none = none
-meant (some a) = some a.means
+meant None = None
+meant (Some a) = Some a.means
 
 -- the site that a locality means at a site: 0 is the site itself, others need an alias
 abbrev pub site_meant : List Alias → Site → Locality → Option Site
-site_meant ls s l = cond (eqb l.0 0) (some s) (meant (find (alias_for s l) ls))
+site_meant ls s l = cond (eqb l.0 0) (Some s) (meant (find (alias_for s l) ls))
 
 abbrev pub site_of_got : List Alias → Site → Got → Option Site
-site_of_got ls s Nothing = none
-site_of_got ls s (One (Int i)) = none
-site_of_got ls s (One (Text t)) = none
-site_of_got ls s (One (Loc l)) = site_meant ls s l
+site_of_got ls s None = None
+site_of_got ls s (Some (Int i)) = None
+site_of_got ls s (Some (Text t)) = None
+site_of_got ls s (Some (Loc l)) = site_meant ls s l
 
 -- the site that L means at the thread's site, if any
 unfoldable pub site_of_l : Scene → Option Site
@@ -89,7 +88,7 @@ table c = table_at (site c) c.node.name c.net.tables
 
 -- the table variable read
 unfoldable pub relation : Scene → Option Relation
-relation c = get_or c.thread.bindings.relations c.node.read none
+relation c = get_or c.thread.bindings.relations c.node.read None
 
 -- the source of rows: the table variable read, or the table
 unfoldable pub source : Scene → Relation
@@ -138,7 +137,7 @@ ready c i = matches (vars c) (template c) (row_at c i)
 
 -- a row still to visit matches T
 unfoldable pub any_ready : Scene → Bool
-any_ready c = any (ready c) (visit c)
+any_ready c = list_any (ready c) (visit c)
 
 -- the pick's row place is a row still to visit that matches T
 unfoldable pub pick_ready : Scene → Bool

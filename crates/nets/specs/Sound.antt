@@ -1,11 +1,10 @@
 -- A sound net. Each line of `sound` is a clause of the paper's sentence.
-use Rattle.std.specs.Prelude.{ℕ, suc, Bool, true, false, not, cond, ◌&&◌, ◌||◌, List, [], ◌∷◌, eqb, leb, ltb, get_or, length}
-use Rattle.std.proofs.Math.Option.{Option, none, some}
+use Rattle.std.specs.Prelude.{ℕ, suc, Bool, true, false, not, cond, ◌&&◌, ◌||◌, List, [], ◌∷◌, eqb, leb, ltb, get_or, length, Option, None, Some}
 use Rattle.values.specs.declared.Operand.{Operand}
 use Rattle.values.specs.declared.Operand.TheVariants.{Absent, ConstInt, ConstText, ConstLoc, Var, Plus, Formal}
-use Rattle.values.specs.declared.Got.{Got}
-use Rattle.values.specs.declared.Got.TheVariants.{Nothing, One}
-use Rattle.values.specs.Lists.{all, any, among, agree}
+use Rattle.values.specs.Operands.{Got}
+use Rattle.values.specs.Lists.{among, agree}
+use Rattle.std.specs.List.{list_all, list_any}
 use Rattle.values.specs.Values.{same_site, site_ok, same_locality, locality_ok, in_range, in32, is_text, same_row}
 use Rattle.values.specs.Operands.{formals}
 use Rattle.rows.specs.declared.Test.{Test}
@@ -49,27 +48,27 @@ entry_node (visiting i v b) = i
 -- ── tables, rows, variables ──
 
 abbrev pub columns_ok : Columns → Bool
-columns_ok cs = leb 1 (length cs) && leb (length cs) 4 && all (λ c. leb 1 c && leb c 3) cs
+columns_ok cs = leb 1 (length cs) && leb (length cs) 4 && list_all (λ c. leb 1 c && leb c 3) cs
 
 abbrev pub rows_ok : List Row → Bool
-rows_ok rs = leb (length rs) 16 && all (λ r. all in_range r) rs
+rows_ok rs = leb (length rs) 16 && list_all (λ r. list_all in_range r) rs
 
 abbrev pub table_ok : Table → Bool
 table_ok t = site_ok t.site && is_text t.name && columns_ok t.content.columns && rows_ok t.content.rows
 
 -- what an unbound table variable holds is no matter
 abbrev pub relation_ok : Option Relation → Bool
-relation_ok none = true
-relation_ok (some r) = columns_ok r.columns && rows_ok r.rows && relation_fits r
+relation_ok None = true
+relation_ok (Some r) = columns_ok r.columns && rows_ok r.rows && relation_fits r
 
 abbrev pub variable_ok : Got → Bool
-variable_ok Nothing = true
-variable_ok (One v) = in_range v
+variable_ok None = true
+variable_ok (Some v) = in_range v
 
 -- sixteen variables and two table variables
 abbrev pub bindings_ok : Bindings → Bool
 bindings_ok b =
-    eqb (length b.vars) 16 && all variable_ok b.vars && eqb (length b.relations) 2 && all relation_ok b.relations
+    eqb (length b.vars) 16 && list_all variable_ok b.vars && eqb (length b.relations) 2 && list_all relation_ok b.relations
 
 -- ── aliases ──
 
@@ -81,7 +80,7 @@ same_alias a b = same_site a.site b.site && same_locality a.locality b.locality
 
 abbrev pub aliases_differ : List Alias → Bool
 aliases_differ [] = true
-aliases_differ (a ∷ others) = not (any (same_alias a) others) && aliases_differ others
+aliases_differ (a ∷ others) = not (list_any (same_alias a) others) && aliases_differ others
 
 -- ── nodes: checks 4 and 9 ──
 
@@ -116,7 +115,7 @@ locality_operand_ok (Formal i) = false
 
 -- 1..4 operands with tags 1..hi
 abbrev pub operands_ok : ℕ → List Operand → Bool
-operands_ok hi os = leb 1 (length os) && leb (length os) 4 && all (tagged hi) os
+operands_ok hi os = leb 1 (length os) && leb (length os) 4 && list_all (tagged hi) os
 
 abbrev pub is_empty : {A : Type 0} → List A → Bool
 is_empty l = eqb (length l) 0
@@ -184,8 +183,8 @@ nodes_ok n i (d ∷ ds) = node_ok_as d.kind n i d && nodes_ok n (suc i) ds
 -- ── threads ──
 
 abbrev pub has_places : List ℕ → Option Relation → Bool
-has_places v none = false
-has_places v (some r) = all (λ i. ltb i (length r.rows)) v
+has_places v None = false
+has_places v (Some r) = list_all (λ i. ltb i (length r.rows)) v
 
 -- an entry to run names a node; a loop entry a loop node whose table variable is bound and has the places. What a sequential loop's entry keeps is under the limits and ranges of a thread's own bindings
 abbrev pub entry_ok : List Node → List (Option Relation) → Entry → Bool
@@ -193,25 +192,25 @@ entry_ok ds rs (to_run i) = ltb i (length ds)
 entry_ok ds rs (visiting i v b) =
     ltb i (length ds)
     && is_loop (get_or ds i no_node).kind
-    && has_places v (get_or rs (get_or ds i no_node).read none)
+    && has_places v (get_or rs (get_or ds i no_node).read None)
     && (not (is_sequential (get_or ds i no_node).kind) || bindings_ok b)
 
 -- both unbound; or both bound, with equal columns and equal rows in order
 abbrev pub same_relation : Option Relation → Option Relation → Bool
-same_relation none none = true
-same_relation none (some r) = false
-same_relation (some q) none = false
-same_relation (some q) (some r) = same_columns q.columns r.columns && agree same_row q.rows r.rows
+same_relation None None = true
+same_relation None (Some r) = false
+same_relation (Some q) None = false
+same_relation (Some q) (Some r) = same_columns q.columns r.columns && agree same_row q.rows r.rows
 
 -- table variables `rs` and `qs` agree on the one that an entry holds; an entry to run holds none
 abbrev pub agree_on : List Node → List (Option Relation) → List (Option Relation) → Entry → Bool
 agree_on ds rs qs (to_run i) = true
-agree_on ds rs qs (visiting i v b) = same_relation (get_or rs (get_or ds i no_node).read none) (get_or qs (get_or ds i no_node).read none)
+agree_on ds rs qs (visiting i v b) = same_relation (get_or rs (get_or ds i no_node).read None) (get_or qs (get_or ds i no_node).read None)
 
 -- the bindings that a sequential loop's entry keeps agree with the thread's own table variables `rs` on each that one of the entries `s` holds (as in check 17)
 abbrev pub saved_agrees : List Node → List (Option Relation) → List Entry → Entry → Bool
 saved_agrees ds rs s (to_run i) = true
-saved_agrees ds rs s (visiting i v b) = not (is_sequential (get_or ds i no_node).kind) || all (agree_on ds rs b.relations) s
+saved_agrees ds rs s (visiting i v b) = not (is_sequential (get_or ds i no_node).kind) || list_all (agree_on ds rs b.relations) s
 
 -- for each entry, on the table variables that it or a loop entry below it holds
 abbrev pub all_saved_agree : List Node → List (Option Relation) → List Entry → Bool
@@ -219,7 +218,7 @@ all_saved_agree ds rs [] = true
 all_saved_agree ds rs (x ∷ s) = saved_agrees ds rs (x ∷ s) x && all_saved_agree ds rs s
 
 abbrev pub entries_ok : List Node → List (Option Relation) → List Entry → Bool
-entries_ok ds rs s = all (entry_ok ds rs) s && all_saved_agree ds rs s
+entries_ok ds rs s = list_all (entry_ok ds rs) s && all_saved_agree ds rs s
 
 abbrev pub stack_ok : List Node → List (Option Relation) → List Entry → Bool
 stack_ok ds rs s = leb 1 (length s) && leb (length s) 8 && entries_ok ds rs s
@@ -234,10 +233,10 @@ sound net =
     leb (length net.tables) 8
     && leb (length net.nodes) 128
     && leb (length net.threads) 8
-    && all table_ok net.tables
-    && all rows_fit net.tables
+    && list_all table_ok net.tables
+    && list_all rows_fit net.tables
     && distinct net.tables
-    && all alias_ok net.aliases
+    && list_all alias_ok net.aliases
     && aliases_differ net.aliases
     && nodes_ok (length net.nodes) 0 net.nodes
-    && all (thread_ok net.nodes) net.threads
+    && list_all (thread_ok net.nodes) net.threads

@@ -1,9 +1,8 @@
 -- One step: the checks 10..20 in their order, what a done step does, and the step.
-use Rattle.std.specs.Prelude.{ℕ, zero, suc, ◌+◌, Bool, true, false, not, cond, ◌&&◌, ◌||◌, List, [], ◌∷◌, ◌++◌, eqb, leb, ltb, get_or, set, length}
-use Rattle.std.proofs.Math.Option.{Option, none, some}
-use Rattle.values.specs.declared.Got.TheVariants.{Nothing}
+use Rattle.std.specs.Prelude.{ℕ, zero, suc, ◌+◌, Bool, true, false, not, cond, ◌&&◌, ◌||◌, List, [], ◌∷◌, ◌++◌, eqb, leb, ltb, get_or, set, length, Option, None, Some, is_some}
 use Rattle.values.specs.declared.Operand.{Operand}
-use Rattle.values.specs.Lists.{all, any, filter, count, is_some, among}
+use Rattle.values.specs.Lists.{filter, count, among}
+use Rattle.std.specs.List.{list_all, list_any}
 use Rattle.values.specs.Operands.{Vars, is_got, values_in, reads, formals, bind}
 use Rattle.rows.specs.Relations.{Row, Relation}
 use Rattle.rows.specs.Matching.{matches1, row_vars, hits, unselected}
@@ -21,14 +20,14 @@ use Rattle.nets.specs.Scenes.{Scene, below, scene_of, vars, template, site_of_l,
 -- checks 16 to 18 and `room_by` take `Parts` and not the whole scene, so that contracts of the code can cite them, too
 
 abbrev pub is_bound : Vars → ℕ → Bool
-is_bound e i = is_got (get_or e i Nothing)
+is_bound e i = is_got (get_or e i None)
 
 abbrev pub is_bound_table : List (Option Relation) → ℕ → Bool
-is_bound_table rs i = is_some (get_or rs i none)
+is_bound_table rs i = is_some (get_or rs i None)
 
 -- every variable that the operands read is among the bound ones
 abbrev pub known : (ℕ → Bool) → List Operand → Bool
-known v os = all (λ o. all v (reads o)) os
+known v os = list_all (λ o. list_all v (reads o)) os
 
 -- with the variables `v` and the table variables `r` bound: L, T and T' read bound ones; the predicate and t also formals of T
 unfoldable pub reads_ok : (ℕ → Bool) → (ℕ → Bool) → Node → Bool
@@ -77,7 +76,7 @@ holds ds v (visiting i l b) = eqb v (get_or ds i no_node).read
 
 -- one holds the table variable that the step binds
 abbrev pub held : Scene → Bool
-held c = any (holds c.net.nodes c.node.bound) c.thread.stack
+held c = list_any (holds c.net.nodes c.node.bound) c.thread.stack
 
 -- a table variable to be bound is not held
 unfoldable pub check17 : Parts → Bool → Bool
@@ -174,7 +173,7 @@ unfoldable pub bindings_by : Kind → Scene → Bindings
 bindings_by k c =
     record {
       vars = vars_by k (parts c);
-      relations = cond (binds_relation k) (set c.thread.bindings.relations c.node.bound (some (bound_by k (parts c)))) c.thread.bindings.relations;
+      relations = cond (binds_relation k) (set c.thread.bindings.relations c.node.bound (Some (bound_by k (parts c)))) c.thread.bindings.relations;
     }
 
 -- ── what it does to the threads ──

@@ -1,8 +1,7 @@
 -- Tables by site and name.
-use Rattle.std.specs.Prelude.{ℕ, Bool, true, false, not, ◌&&◌, List, [], ◌∷◌, eqb}
-use Rattle.std.proofs.Math.Option.{Option, none, some}
+use Rattle.std.specs.Prelude.{ℕ, Bool, true, false, not, ◌&&◌, List, [], ◌∷◌, eqb, Option, None, Some, is_some}
 use Rattle.values.specs.declared.Site.{Site}
-use Rattle.values.specs.Lists.{find, is_some}
+use Rattle.std.specs.List.{find}
 use Rattle.values.specs.Values.{same_site}
 use Rattle.rows.specs.Relations.{Row, Columns, Relation, no_relation}
 use Rattle.rows.specs.Fit.{relation_fits}
@@ -16,8 +15,8 @@ abbrev pub table_at : Site → ℕ → List Table → Option Table
 table_at s n ts = find (is_at s n) ts
 
 abbrev pub content_of : Option Table → Relation
-content_of none = no_relation
-content_of (some t) = t.content
+content_of None = no_relation
+content_of (Some t) = t.content
 
 abbrev pub rows_of : Option Table → List Row
 rows_of o = (content_of o).rows

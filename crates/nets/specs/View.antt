@@ -1,12 +1,11 @@
 -- The net of the model that a net of the code stands for. Lists are as long as the counts say, even past an array's end, so that a count out of
 -- its range is seen by the model's limits.
-use Rattle.std.specs.Prelude.{ℕ, zero, suc, ◌+◌, ◌*◌, Bool, false, cond, List, [], ◌∷◌, map, eqb, get_or}
-use Rattle.std.proofs.Math.Option.{Option, none, some}
+use Rattle.std.specs.Prelude.{ℕ, zero, suc, ◌+◌, ◌*◌, Bool, false, List, [], ◌∷◌, map, eqb, get_or, Option, None, Some, option_map}
 use Rattle.values.specs.declared.Site.{Site}
 use Rattle.values.specs.declared.Operand.TheVariants.{Absent}
-use Rattle.values.specs.declared.Slot.{Slot}
-use Rattle.values.specs.Lists.{find, firsts, keep, or_else, places}
-use Rattle.values.specs.Operands.{vars_of}
+use Rattle.values.specs.Operands.{Got}
+use Rattle.values.specs.Lists.{firsts, keep, or_else, places}
+use Rattle.std.specs.List.{find}
 use Rattle.rows.specs.declared.Test.TheVariants.{Always}
 use Rattle.rows.specs.declared.Function.TheVariants.{Unused}
 use Rattle.rows.specs.declared.Operands.{Operands}
@@ -19,7 +18,6 @@ use Rattle.nets.specs.declared.Node.{Node}
 use Rattle.nets.specs.declared.Entry.{Entry}
 use Rattle.nets.specs.declared.Entry.TheVariants.{Run, Loop}
 use Rattle.nets.specs.declared.Frame.{Frame}
-use Rattle.nets.specs.declared.TableVariable.{TableVariable}
 use Rattle.nets.specs.declared.Saved.{Saved}
 use Rattle.nets.specs.declared.Thread.{Thread}
 use Rattle.nets.specs.declared.Net.{Net}
@@ -65,8 +63,12 @@ no_node =
       result = Absent;
     }
 
+-- what a table variable holds; one that holds nothing is unbound
+abbrev pub TableVariable : Type 0
+TableVariable = Option Code.Relation
+
 abbrev pub no_variable : TableVariable
-no_variable = record { bound = false; content = no_content }
+no_variable = None
 
 abbrev pub no_saved : Saved
 no_saved = record { vars = []; other = no_variable }
@@ -149,10 +151,10 @@ stack_of bs zero l = []
 stack_of bs (suc n) l = entry_of (bs n) (get_or l n no_frame) ∷ stack_of bs n l
 
 abbrev pub variable_of : TableVariable → Option Relation
-variable_of v = cond v.bound (some (relation_of v.content)) none
+variable_of v = option_map relation_of v
 
-abbrev pub bindings_of : List Slot → List TableVariable → M.Bindings
-bindings_of vs rs = record { vars = vars_of vs; relations = map variable_of rs }
+abbrev pub bindings_of : List Got → List TableVariable → M.Bindings
+bindings_of vs rs = record { vars = vs; relations = map variable_of rs }
 
 abbrev pub thread_of : (ℕ → M.Bindings) → Thread → M.Thread
 thread_of bs t = record { site = t.site; bindings = bindings_of t.vars t.relations; stack = stack_of bs t.depth t.stack }
@@ -162,8 +164,8 @@ thread_of bs t = record { site = t.site; bindings = bindings_of t.vars t.relatio
 -- the bindings that are saved for a loop that reads table variable 0, or 1 (a node that reads another is not sound). That one is the thread's own: while the loop's entry stands, check 17 lets no step bind it anew, and agreement
 -- lets none that comes back differ. The other one is stored
 abbrev pub saved_of : ℕ → List TableVariable → Saved → M.Bindings
-saved_of zero rs b = record { vars = vars_of b.vars; relations = variable_of (get_or rs 0 no_variable) ∷ variable_of b.other ∷ [] }
-saved_of (suc i) rs b = record { vars = vars_of b.vars; relations = variable_of b.other ∷ variable_of (get_or rs 1 no_variable) ∷ [] }
+saved_of zero rs b = record { vars = b.vars; relations = variable_of (get_or rs 0 no_variable) ∷ variable_of b.other ∷ [] }
+saved_of (suc i) rs b = record { vars = b.vars; relations = variable_of b.other ∷ variable_of (get_or rs 1 no_variable) ∷ [] }
 
 abbrev pub node_in : Entry → ℕ
 node_in (Run i) = i

@@ -2,21 +2,21 @@
 #![tactic(auto)]
 
 use rows::{Function, Operands, Relation, Selector};
-use values::{Locality, Operand, Site, Slot};
+use values::{Locality, Operand, Site, Vars};
 
 pub mod kinds;
 pub mod refusals;
 pub mod tables;
 
 // At a site, a locality means a site.
-#[derive(Clone, Copy)]
+#[derive(Clone, Copy, PartialEq, Eq)]
 pub struct Alias {
     pub site: Site,
     pub locality: Locality,
     pub means: Site,
 }
 
-#[derive(Clone, Copy)]
+#[derive(Clone, Copy, PartialEq, Eq)]
 pub struct Table {
     pub site: Site,
     pub name: u32,
@@ -24,7 +24,7 @@ pub struct Table {
 }
 
 // A node of kind 16..26. A field that its kind does not use is zero or absent.
-#[derive(Clone, Copy)]
+#[derive(Clone, Copy, PartialEq, Eq)]
 pub struct Node {
     pub kind: u8,
     pub next: u8,
@@ -43,43 +43,40 @@ pub struct Node {
 }
 
 // A node to run, or a loop node; its frame has the rows still to visit.
-#[derive(Clone, Copy)]
+#[derive(Clone, Copy, PartialEq, Eq)]
 pub enum Entry {
     Run(u8),
     Loop(u8),
 }
 
-#[derive(Clone, Copy)]
+#[derive(Clone, Copy, PartialEq, Eq)]
 pub struct Frame {
     pub entry: Entry,
     pub visit: [bool; 16],
 }
 
-#[derive(Clone, Copy)]
-pub struct TableVariable {
-    pub bound: bool,
-    pub content: Relation,
-}
+// What a table variable holds; one that holds nothing is unbound.
+pub type TableVariable = Option<Relation>;
 
 // What a loop's entry keeps of the moment when the loop was first met: the variables, and the table variable that the loop does not read. The one that it reads
 // stays what it was while the entry stands, so the thread's own serves. A parallel loop's is stored and never read.
-#[derive(Clone, Copy)]
+#[derive(Clone, Copy, PartialEq, Eq)]
 pub struct Saved {
-    pub vars: [Slot; 16],
+    pub vars: Vars,
     pub other: TableVariable,
 }
 
 // The stack's top is its last frame in use.
-#[derive(Clone, Copy)]
+#[derive(Clone, Copy, PartialEq, Eq)]
 pub struct Thread {
     pub site: Site,
-    pub vars: [Slot; 16],
+    pub vars: Vars,
     pub relations: [TableVariable; 2],
     pub stack: [Frame; 8],
     pub depth: usize,
 }
 
-#[derive(Clone, Copy)]
+#[derive(Clone, Copy, PartialEq, Eq)]
 pub struct Net {
     pub aliases: [Alias; 56],
     pub aliascount: usize,
@@ -95,14 +92,14 @@ pub struct Net {
 
 // A pick names a thread place and a row place. Lists of picks come from outside, so the layout is C's.
 #[repr(C)]
-#[derive(Clone, Copy)]
+#[derive(Clone, Copy, PartialEq, Eq)]
 pub struct Pick {
     pub thread: u8,
     pub row: u8,
 }
 
 // The refusals of a pick, numbers 10 to 20 in this order.
-#[derive(Clone, Copy)]
+#[derive(Clone, Copy, PartialEq, Eq)]
 pub enum Refusal {
     Unsound,
     NoThread,
@@ -117,14 +114,17 @@ pub enum Refusal {
     Full,
 }
 
-// Done with rows added and rows taken, or refused.
-#[derive(Clone, Copy)]
-pub enum Answer {
-    Done(usize, usize),
-    Refused(Refusal),
+// How many rows a pick added and took.
+#[derive(Clone, Copy, PartialEq, Eq)]
+pub struct Done {
+    pub added: usize,
+    pub taken: usize,
 }
 
-#[derive(Clone, Copy)]
+// What a pick comes to: carried out, or refused.
+pub type Answer = Result<Done, Refusal>;
+
+#[derive(Clone, Copy, PartialEq, Eq)]
 pub struct Stepped {
     pub answer: Answer,
     pub net: Net,

@@ -4,7 +4,7 @@ ghost use Rattle.nets.specs.Answers.{number_of};
 
 use crate::Refusal;
 
-// The number of the check that failed.
+// The number of the check that failed. A function and no From, since its name says at each call which number is meant.
 pub fn number_of(why: Refusal) -> usize
     ensures { (result ≡ number_of why) × (result < 21) }
 {

@@ -1,13 +1,13 @@
 // Reads a stream of records on standard input, piece by piece, and answers each: sum, least and largest of a column over the last W rows.
 #![tactic(auto)]
 
-use crate::numbers::{Number, argument};
-use crate::stream::{Ended, print_answers};
+use crate::numbers::argument;
+use crate::stream::{Failed, print_answers};
 use print_lines::arguments::has_argument;
 use print_lines::endings::{status_after, tell_failed};
 use std::io::Read;
 use std::process::ExitCode;
-use window::{Beginning, begin};
+use window::begin;
 
 mod lines;
 mod numbers;
@@ -29,24 +29,20 @@ fn print_window(
     column: usize,
 ) -> ExitCode {
     let begun = begin(width, column);
-    let beginning = begun.beginning;
-    match beginning {
-        Beginning::Accepted => {
-            let window = begun.window;
-            match print_answers(rt, from, window) {
-                Ended::Whole => ExitCode::SUCCESS,
-                Ended::Unread(failed) => {
-                    tell_failed(
-                        rt,
-                        "netwindow: standard input could not be read to its end",
-                        failed,
-                    );
-                    ExitCode::SUCCESS
-                }
-                Ended::Unwritten(why) => status_after(rt, Err(why), UNWRITTEN),
-            }
+    if begun.beginning.is_err() {
+        return status_after(rt, rt.write_all(b"window no 23\n"), UNWRITTEN);
+    }
+    match print_answers(rt, from, begun.window) {
+        Ok(()) => ExitCode::SUCCESS,
+        Err(Failed::Unread(why)) => {
+            tell_failed(
+                rt,
+                "netwindow: standard input could not be read to its end",
+                why,
+            );
+            ExitCode::SUCCESS
         }
-        Beginning::BadWidth => status_after(rt, rt.write_all(b"window no 23\n"), UNWRITTEN),
+        Err(Failed::Unwritten(why)) => status_after(rt, Err(why), UNWRITTEN),
     }
 }
 
@@ -54,13 +50,8 @@ fn main(rt: HostRuntime) -> ExitCode {
     if !has_argument(&rt, 2) | has_argument(&rt, 3) {
         return print_usage(&rt);
     }
-    let width = argument(&rt, 1);
-    let column = argument(&rt, 2);
-    match width {
-        Number::Decimal(w) => match column {
-            Number::Decimal(c) => print_window(&rt, &mut rt.stdin(), w, c),
-            Number::Other => print_usage(&rt),
-        },
-        Number::Other => print_usage(&rt),
+    match (argument(&rt, 1), argument(&rt, 2)) {
+        (Some(width), Some(column)) => print_window(&rt, &mut rt.stdin(), width, column),
+        _ => print_usage(&rt),
     }
 }

@@ -2,69 +2,52 @@
 ghost use Rattle.std.specs.Prelude.{◌≡◌, ◌+◌, ◌≤◌, ◌<◌, length, IfOk};
 
 use crate::lines::put_line;
-use print_lines::buffer::write_buffer;
+use print_lines::buffer::Buffered;
 use record_bytes::RECORD;
 use std::io;
-use std::io::Read;
+use std::io::{Read, Write};
 use window::{Window, take};
 
 // Unread where a read failed; with no error where the tries are used up.
 #[derive(Clone, Copy)]
-pub enum Ended {
-    Whole,
+pub enum Failed {
     Unread(Option<io::Error>),
     Unwritten(io::Error),
 }
 
-// The window that the next record meets, the place of that record, and where its line goes in the buffer of lines.
-#[derive(Clone, Copy)]
-pub struct Reached {
-    pub window: Window,
-    pub place: u64,
-    pub at: usize,
+// What is reached of a stream: the window that the next record meets, the place of that record, and the lines still to be written.
+#[derive(Drop)]
+struct Reached<'a, P> {
+    window: Window,
+    place: u64,
+    lines: Buffered<'a, P>,
 }
 
-// No stream is so long that the places end.
-fn next_place(place: u64) -> u64 {
-    if place < 18446744073709551615 {
-        return place + 1;
+impl<'a, P: Print> Reached<'a, P> {
+    fn take_record(&mut self, record: &[u8]) -> io::Result<()> {
+        let taken = take(self.window, record);
+        put_line(&mut self.lines, self.place, taken.answer)?;
+        self.window = taken.window;
+        // No stream is so long that the places end.
+        self.place = self.place.saturating_add(1);
+        Ok(())
     }
-    place
-}
 
-fn take_record(
-    rt: &impl Print,
-    buffer: &mut [u8; 4096],
-    reached: Reached,
-    record: &[u8],
-) -> io::Result<Reached> {
-    let window = reached.window;
-    let taken = take(window, record);
-    let answer = taken.answer;
-    let at = put_line(rt, buffer, reached.at, reached.place, answer)?;
-    let next = taken.window;
-    Ok(Reached {
-        window: next,
-        place: next_place(reached.place),
-        at,
-    })
-}
-
-// Each whole record of a piece.
-fn take_piece(
-    rt: &impl Print,
-    buffer: &mut [u8; 4096],
-    reached: Reached,
-    piece: &[u8],
-) -> io::Result<Reached> {
-    let count = piece.len() / RECORD;
-    let mut now = reached;
-    let mut i: usize = 0;
-    while i < count {
-        now = take_record(rt, buffer, now, &piece[i * RECORD..i * RECORD + RECORD])?;
-        i += 1;
+    // Each whole record of a piece. The lines go out with every piece, so that whoever sends records slowly sees each answer.
+    fn take_piece(&mut self, piece: &[u8]) -> io::Result<()> {
+        for record in piece.chunks_exact(RECORD) {
+            self.take_record(record)?;
+        }
+        self.lines.flush()
     }
-    Ok(now)
+
+    // The end of the stream: what is left of it is a record too.
+    fn take_last(&mut self, last: &[u8]) -> io::Result<()> {
+        if !last.is_empty() {
+            self.take_record(last)?;
+        }
+        self.lines.flush()
+    }
 }
 
 // Moves what is left behind the whole records of a piece to the front, and gives how much that is.
@@ -73,12 +56,7 @@ fn keep_rest(space: &mut [u8], filled: usize) -> usize
     ensures { (result < 104) × (length space.new ≡ length space.old) }
 {
     let left = filled % RECORD;
-    let start = filled - left;
-    let mut i: usize = 0;
-    while i < left {
-        space[i] = space[start + i];
-        i += 1;
-    }
+    space.copy_within(filled - left..filled, 0);
     left
 }
 
@@ -91,92 +69,35 @@ fn read_more(from: &mut impl Read, space: &mut [u8], held: usize) -> io::Result<
     from.read(&mut space[held..])
 }
 
-// The lines gathered so far go out with every piece, so that whoever sends records slowly sees each answer.
-fn flushed(rt: &impl Print, buffer: &[u8; 4096], reached: Reached) -> io::Result<Reached> {
-    let window = reached.window;
-    write_buffer(rt, buffer, reached.at)?;
-    Ok(Reached {
-        window,
-        place: reached.place,
-        at: 0,
-    })
-}
+// A proved loop has to end, so it counts its tries up to a number that no run reaches.
+const TRIES: usize = 1152921504606846976;
 
-// One piece more: its whole records are answered, and what is left of it is kept.
-#[derive(Clone, Copy)]
-struct Piece {
-    reached: Reached,
-    held: usize,
-}
-
-fn take_read(
+fn print_stream(
     rt: &impl Print,
-    buffer: &mut [u8; 4096],
-    reached: Reached,
-    space: &mut [u8],
-    filled: usize,
-) -> io::Result<Piece>
-    requires { filled ≤ length space.old }
-    ensures { IfOk result (λ piece. piece.held < 104) × (length space.new ≡ length space.old) }
-{
-    let taken = take_piece(rt, buffer, reached, &space[..filled])?;
-    let out = flushed(rt, buffer, taken)?;
-    Ok(Piece {
-        reached: out,
-        held: keep_rest(space, filled),
-    })
-}
-
-// The end of the stream: what is left of it is a record too.
-fn take_last(
-    rt: &impl Print,
-    buffer: &mut [u8; 4096],
-    reached: Reached,
-    last: &[u8],
-) -> io::Result<()> {
-    let mut at = reached.at;
-    if last.len() > 0 {
-        let end = take_record(rt, buffer, reached, last)?;
-        at = end.at;
-    }
-    write_buffer(rt, buffer, at)
-}
-
-// A proved loop has to end, so it counts its tries down from a number that no run uses up.
-fn print_stream(rt: &impl Print, from: &mut impl Read, window: Window, space: &mut [u8]) -> Ended
-    requires { 65536 ≡ length space.old }
-{
-    let mut buffer = [0u8; 4096];
+    from: &mut impl Read,
+    window: Window,
+    space: &mut [u8; 65536],
+) -> Result<(), Failed> {
     let mut reached = Reached {
         window,
         place: 0,
-        at: 0,
+        lines: Buffered::new(rt),
     };
-    let mut held: usize = 0;
-    let mut tries: usize = 1152921504606846976;
-    while tries > 0 {
-        let got = match read_more(from, space, held) {
-            Ok(got) => got,
-            Err(why) => return Ended::Unread(Some(why)),
-        };
+    let mut held = 0;
+    for _ in 0..TRIES {
+        let got = read_more(from, space, held).map_err(|why| Failed::Unread(Some(why)))?;
         if got == 0 {
-            return match take_last(rt, &mut buffer, reached, &space[..held]) {
-                Ok(()) => Ended::Whole,
-                Err(why) => Ended::Unwritten(why),
-            };
+            return reached.take_last(&space[..held]).map_err(Failed::Unwritten);
         }
-        let piece = match take_read(rt, &mut buffer, reached, space, held + got) {
-            Ok(piece) => piece,
-            Err(why) => return Ended::Unwritten(why),
-        };
-        reached = piece.reached;
-        held = piece.held;
-        tries -= 1;
+        reached
+            .take_piece(&space[..held + got])
+            .map_err(Failed::Unwritten)?;
+        held = keep_rest(space, held + got);
     }
-    Ended::Unread(None)
+    Err(Failed::Unread(None))
 }
 
-pub fn print_answers(rt: &impl Print, from: &mut impl Read, window: Window) -> Ended {
+pub fn print_answers(rt: &impl Print, from: &mut impl Read, window: Window) -> Result<(), Failed> {
     let mut space = [0u8; 65536];
     print_stream(rt, from, window, &mut space)
 }

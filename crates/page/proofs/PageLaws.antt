@@ -3,6 +3,7 @@ use Prim.Native.Nat.{ℕ, ◌+◌, ◌*◌}
 use mathlib.Core.Path.{◌≡◌, refl, sym, ap, ◌∙◌, subst}
 use mathlib.Core.Bool.{Bool, true, false}
 use mathlib.Core.List.{List}
+use Rattle.std.specs.Prelude.{Result, Ok, Err}
 use lib.Dec.{T}
 use lib.ListN.{length}
 use Rattle.values.specs.declared.Site.{Site}
@@ -11,8 +12,8 @@ use Rattle.nets.specs.View.{view}
 use Rattle.page_rules.specs.Pages.{PageOutcome, no_page, a_page, page, PageAnswer, page_refused, page_length, page_answer, buffer_after}
 use Rattle.page_rules.specs.Readable.{ReadsAs}
 use Rattle.page_lines.proofs.OutcomeLaws.{asked, buffer-reads, asked-long, table-long, table-page}
-use Rattle.page.specs.declared.Paged.{Paged}
-use Rattle.page.specs.declared.Paged.TheVariants.{Length, Unsound, NoTable, Short}
+use Rattle.page.specs.declared.NotPaged.{NotPaged}
+use Rattle.page.specs.declared.NotPaged.TheVariants.{Unsound, NoTable, Short}
 use Rattle.page.specs.PageCall.{answer_of, Reads, PageReads, PageGiven}
 
 abbrev is_length : PageAnswer → Bool
@@ -42,11 +43,11 @@ page-reads net site name before after k is = by_outcome net site name before aft
 
 -- ── each table is put ──
 
-of_length : (r : Paged) (k : ℕ) → answer_of r ≡ page_length k → r ≡ Length k
-of_length (Length n) k e = ap (λ (a : PageAnswer). Length (length_in a)) e
-of_length Unsound k e = absurd (subst T (sym (ap is_length e)) tt)
-of_length NoTable k e = absurd (subst T (sym (ap is_length e)) tt)
-of_length (Short n) k e = absurd (subst T (sym (ap is_length e)) tt)
+of_length : (r : Result ℕ NotPaged) (k : ℕ) → answer_of r ≡ page_length k → r ≡ Ok k
+of_length (Ok n) k e = ap (λ (a : PageAnswer). Ok (length_in a)) e
+of_length (Err Unsound) k e = absurd (subst T (sym (ap is_length e)) tt)
+of_length (Err NoTable) k e = absurd (subst T (sym (ap is_length e)) tt)
+of_length (Err (Short n)) k e = absurd (subst T (sym (ap is_length e)) tt)
 
 pub page-given : PageGiven
 page-given net site name before after r t is ok found h =

@@ -10,22 +10,20 @@ use values::Site;
 
 pub mod tables;
 
-// The page's length, or why there is none; with a buffer that is too short, the length that is needed.
-#[derive(Clone, Copy)]
-pub enum Paged {
-    Length(usize),
+// Why there is no page; with a buffer that is too short, the length that is needed.
+#[derive(Clone, Copy, PartialEq, Eq)]
+pub enum NotPaged {
     Unsound,
     NoTable,
     Short(usize),
 }
 
-// What follows the page stays, and after a refusal every byte does.
-pub fn page(net: Net, site: Site, name: u32, out: &mut [u8]) -> Paged
+// The page's length, or why there is none. What follows the page stays, and after a refusal every byte does.
+pub fn page(net: Net, site: Site, name: u32, out: &mut [u8]) -> Result<usize, NotPaged>
     ensures { PageIs net site name out.old out.new result }
 {
-    let tables = net.tables;
-    if sound_net(net) {
-        return page_tables(tables, net.tablecount, site, name, out);
+    if !sound_net(net) {
+        return Err(NotPaged::Unsound);
     }
-    Paged::Unsound
+    page_tables(net.tables, net.tablecount, site, name, out)
 }

@@ -8,7 +8,7 @@ use lib.Dec.{T, eqb}
 use lib.ListN.{length, get_or}
 use Rattle.values.specs.declared.Value.{Value}
 use Rattle.values.specs.declared.Value.TheVariants.{Int, Text, Loc}
-use Rattle.values.specs.Lists.{all, any}
+use Rattle.std.specs.List.{list_all, list_any}
 use Rattle.values.specs.Values.{bytes_of, in_range}
 use Rattle.values.proofs.Bools.{and_l, and_r}
 use Rattle.value_decimal.specs.Decimals.{digit, signed, blanks}
@@ -20,13 +20,13 @@ use Rattle.page_lines.proofs.CellLaws.{few-in32}
 use Rattle.page_lines.proofs.SumLaws.{few_in_sum}
 
 abbrev pub HasBlank : List ℕ → Type 0
-HasBlank bs = T (any (eqb 0x20) bs)
+HasBlank bs = T (list_any (eqb 0x20) bs)
 
 blank_behind : (bs cs : List ℕ) → HasBlank cs → HasBlank (bs ++ cs)
 blank_behind [] cs h = h
 blank_behind (b ∷ bs) cs h = go (eqb 0x20 b) (blank_behind bs cs h)
   where
-    go : (t : Bool) → HasBlank (bs ++ cs) → T (t || any (eqb 0x20) (bs ++ cs))
+    go : (t : Bool) → HasBlank (bs ++ cs) → T (t || list_any (eqb 0x20) (bs ++ cs))
     go true h = tt
     go false h = h
 
@@ -49,10 +49,10 @@ cell_blank (Int i) h = right_blank (signed i) (omega (arith, few-in32 i h))
 cell_blank (Text t) h = blank_behind (bytes_of t) (blanks 9) tt
 cell_blank (Loc l) h = blank_behind (0x40 ∷ digit l.0 ∷ []) (blanks 11) tt
 
-pub row_blank : (r : Row) → T (all in_range r) → (i : ℕ) → HasBlank (row_cell r i)
+pub row_blank : (r : Row) → T (list_all in_range r) → (i : ℕ) → HasBlank (row_cell r i)
 row_blank [] h i = tt
-row_blank (v ∷ r) h zero = cell_blank v (and_l (in_range v) (all in_range r) h)
-row_blank (v ∷ r) h (suc i) = row_blank r (and_r (in_range v) (all in_range r) h) i
+row_blank (v ∷ r) h zero = cell_blank v (and_l (in_range v) (list_all in_range r) h)
+row_blank (v ∷ r) h (suc i) = row_blank r (and_r (in_range v) (list_all in_range r) h) i
 
 pub sum_blank : (r : Relation) → T (rows_ok r.rows) → (i : ℕ) → HasBlank (sum_cell r i)
 unfolding sum_cell

@@ -8,13 +8,13 @@ use lib.IntN.{ℤ}
 use lib.ListN.{length, get_or, length-append, length-replicate}
 use Rattle.values.specs.declared.Value.{Value}
 use Rattle.values.specs.declared.Value.TheVariants.{Int, Text, Loc}
-use Rattle.values.specs.Lists.{all, firsts}
+use Rattle.values.specs.Lists.{firsts}
+use Rattle.std.specs.List.{list_all}
 use Rattle.values.specs.Values.{in32, in_range}
 use Rattle.values.proofs.Bools.{and_l, and_r}
 use Rattle.values.proofs.Ints.{in32_mag}
 use Rattle.value_decimal.specs.Decimals.{signed, blanks}
 use Rattle.value_decimal.proofs.DecimalLaws.{few-int}
-use Rattle.rows.specs.declared.Cell.{Cell}
 use Rattle.rows.specs.Relations.{Row}
 use Rattle.page_rules.specs.Pages.{right_aligned, cell, row_cell}
 
@@ -41,22 +41,22 @@ cell-length (Int i) h = right-length (signed i) (omega (arith, few-in32 i h))
 cell-length (Text t) h = refl
 cell-length (Loc l) h = refl
 
-pub row-cell-length : (r : Row) → T (all in_range r) → (i : ℕ) → length (row_cell r i) ≡ 13
+pub row-cell-length : (r : Row) → T (list_all in_range r) → (i : ℕ) → length (row_cell r i) ≡ 13
 row-cell-length [] h i = refl
-row-cell-length (v ∷ r) h zero = cell-length v (and_l (in_range v) (all in_range r) h)
-row-cell-length (v ∷ r) h (suc i) = row-cell-length r (and_r (in_range v) (all in_range r) h) i
+row-cell-length (v ∷ r) h zero = cell-length v (and_l (in_range v) (list_all in_range r) h)
+row-cell-length (v ∷ r) h (suc i) = row-cell-length r (and_r (in_range v) (list_all in_range r) h) i
 
 -- ── the cells of an array in use ──
 
-module _ (f : Cell → Value) (z : Cell) where
-  pub cell-there : (n : ℕ) (l : List Cell) (i : ℕ) → i < n → row_cell (firsts f z n l) i ≡ cell (f (get_or l i z))
+module _ (f : Value → Value) (z : Value) where
+  pub cell-there : (n : ℕ) (l : List Value) (i : ℕ) → i < n → row_cell (firsts f z n l) i ≡ cell (f (get_or l i z))
   cell-there zero l i h = absurd (omega arith)
   cell-there (suc n) [] zero h = refl
   cell-there (suc n) (a ∷ l) zero h = refl
   cell-there (suc n) [] (suc i) h = cell-there n [] i (omega arith)
   cell-there (suc n) (a ∷ l) (suc i) h = cell-there n l i (omega arith)
 
-  pub cell-missing : (n : ℕ) (l : List Cell) (i : ℕ) → n ≤ i → row_cell (firsts f z n l) i ≡ blanks 13
+  pub cell-missing : (n : ℕ) (l : List Value) (i : ℕ) → n ≤ i → row_cell (firsts f z n l) i ≡ blanks 13
   cell-missing zero l i h = refl
   cell-missing (suc n) l zero h = absurd (omega arith)
   cell-missing (suc n) [] (suc i) h = cell-missing n [] i (omega arith)

@@ -6,7 +6,7 @@ use native.Mathlib.Omega.{arith}
 use lib.Dec.{T, leb}
 use lib.ListN.{length, get_or, drop, set, length-append, length-map, drop_of_length-le}
 use lib.Seq.{set_at, drop-cons}
-use Rattle.values.specs.Lists.{all}
+use Rattle.std.specs.List.{list_all}
 use Rattle.values.specs.Values.{in_range}
 use Rattle.values.proofs.Bools.{and_l, and_r}
 use Rattle.value_bytes.specs.Bytes.{end_to_end}
@@ -40,21 +40,21 @@ module _ (g : ℕ → List ℕ) (sized : (i : ℕ) → length (g i) ≡ 13) wher
 abbrev pub row_line : Row → List ℕ
 row_line row = line_of (row_cell row)
 
-rows-sized : (rs : List Row) → T (all (λ r. all in_range r) rs) → Sized 53 (map row_line rs)
+rows-sized : (rs : List Row) → T (list_all (λ r. list_all in_range r) rs) → Sized 53 (map row_line rs)
 rows-sized [] h = tt
 rows-sized (r ∷ rs) h =
-    (line-length (row_cell r) (row-cell-length r (and_l (all in_range r) (all (λ r. all in_range r) rs) h)), rows-sized rs (and_r (all in_range r) (all (λ r. all in_range r) rs) h))
+    (line-length (row_cell r) (row-cell-length r (and_l (list_all in_range r) (list_all (λ r. list_all in_range r) rs) h)), rows-sized rs (and_r (list_all in_range r) (list_all (λ r. list_all in_range r) rs) h))
 
 module _ (r : Relation) (ok : T (rows_ok r.rows)) where
   sums-length : length (line_of (sum_cell r)) ≡ 53
   sums-length = line-length (sum_cell r) (sum-cell-length r ok)
 
   pub lines-sized : Sized 53 (map row_line r.rows ++ (line_of (sum_cell r) ∷ []))
-  lines-sized = sized-append 53 (map row_line r.rows) (line_of (sum_cell r) ∷ []) (rows-sized r.rows (and_r (leb (length r.rows) 16) (all (λ r. all in_range r) r.rows) ok)) (sums-length, tt)
+  lines-sized = sized-append 53 (map row_line r.rows) (line_of (sum_cell r) ∷ []) (rows-sized r.rows (and_r (leb (length r.rows) 16) (list_all (λ r. list_all in_range r) r.rows) ok)) (sums-length, tt)
 
   pub rows-length : length (end_to_end (map row_line r.rows)) ≡ length r.rows * 53
   rows-length =
-      sized-length 53 (map row_line r.rows) (rows-sized r.rows (and_r (leb (length r.rows) 16) (all (λ r. all in_range r) r.rows) ok))
+      sized-length 53 (map row_line r.rows) (rows-sized r.rows (and_r (leb (length r.rows) 16) (list_all (λ r. list_all in_range r) r.rows) ok))
       ∙ ap (λ (n : ℕ). n * 53) (length-map r.rows row_line)
 
   pub page-parts : page_of r ≡ end_to_end (map row_line r.rows) ++ line_of (sum_cell r)

@@ -3,7 +3,7 @@ use Prim.Native.Nat.{ℕ, ◌+◌, ◌*◌, ◌≤◌}
 use mathlib.Core.Path.{◌≡◌, refl, sym, ap, ◌∙◌, subst}
 use mathlib.Core.Bool.{Bool, true, false, cond}
 use mathlib.Core.List.{List, [], ◌∷◌, ◌++◌}
-use mathlib.Core.Option.{Option, none, some}
+use Rattle.std.specs.Prelude.{Option, None, Some}
 use native.Mathlib.Omega.{arith}
 use lib.Dec.{T, leb, leb→le}
 use lib.ListN.{length, drop}
@@ -30,14 +30,14 @@ is_page (a_page bs) = true
 pub record Asked (net : Net) (site : Site) (name : ℕ) (bs : List ℕ) : Type 0 where
   pub is_sound : T (sound net)
   pub table : Table
-  pub found : table_at site name net.tables ≡ some table
+  pub found : table_at site name net.tables ≡ Some table
   pub bytes : bs ≡ page_of table.content
 
 abbrev bytes_put : PageOutcome → List ℕ
 bytes_put (no_page n vs) = []
 bytes_put (a_page bs) = bs
 
-by_room : (t : Table) (o bs : List ℕ) → page_for (some t) o ≡ a_page bs → bs ≡ page_of t.content
+by_room : (t : Table) (o bs : List ℕ) → page_for (Some t) o ≡ a_page bs → bs ≡ page_of t.content
 by_room t o bs e = go (leb (length (page_of t.content)) (length o)) e
   where
     go : (b : Bool) → cond b (a_page (page_of t.content)) (no_page 22 (length (page_of t.content) ∷ [])) ≡ a_page bs → bs ≡ page_of t.content
@@ -45,8 +45,8 @@ by_room t o bs e = go (leb (length (page_of t.content)) (length o)) e
     go false e = absurd (subst T (sym (ap is_page e)) tt)
 
 by_table : (net : Net) (site : Site) (name : ℕ) (o bs : List ℕ) → T (sound net) → (t : Option Table) → table_at site name net.tables ≡ t → page_for t o ≡ a_page bs → Asked net site name bs
-by_table net site name o bs s none f e = absurd (subst T (sym (ap is_page e)) tt)
-by_table net site name o bs s (some t) f e = record { is_sound = s; table = t; found = f; bytes = by_room t o bs e }
+by_table net site name o bs s None f e = absurd (subst T (sym (ap is_page e)) tt)
+by_table net site name o bs s (Some t) f e = record { is_sound = s; table = t; found = f; bytes = by_room t o bs e }
 
 pub asked : (net : Net) (site : Site) (name : ℕ) (o bs : List ℕ) → page net site name o ≡ a_page bs → Asked net site name bs
 unfolding page
@@ -64,7 +64,7 @@ by_sound net site name o t e = ap (λ (u : Bool). cond u (page_for (table_at sit
 
 -- ── a table of a sound net ──
 
-module _ (net : Net) (site : Site) (name : ℕ) (t : Table) (ok : T (sound net)) (found : table_at site name net.tables ≡ some t) where
+module _ (net : Net) (site : Site) (name : ℕ) (t : Table) (ok : T (sound net)) (found : table_at site name net.tables ≡ Some t) where
   table-ok : T (table_ok t)
   table-ok = find-all (is_at site name) table_ok net.tables t found (clauses net ok).tables
 
@@ -98,8 +98,8 @@ has_number (no_page n vs) = leb 1 n
 has_number (a_page bs) = true
 
 room-numbered : (t : Option Table) (o : List ℕ) → T (has_number (page_for t o))
-room-numbered none o = tt
-room-numbered (some t) o = go (leb (length (page_of t.content)) (length o))
+room-numbered None o = tt
+room-numbered (Some t) o = go (leb (length (page_of t.content)) (length o))
   where
     go : (b : Bool) → T (has_number (cond b (a_page (page_of t.content)) (no_page 22 (length (page_of t.content) ∷ []))))
     go true = tt

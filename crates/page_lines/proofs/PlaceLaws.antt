@@ -6,7 +6,8 @@ use native.Mathlib.Omega.{arith}
 use lib.Dec.{T, leb}
 use lib.ListN.{length, get_or, take, drop, length-append, length-map, get_or-append}
 use lib.Seq.{take_at, drop-drop, get_or_at}
-use Rattle.values.specs.Lists.{all, places}
+use Rattle.values.specs.Lists.{places}
+use Rattle.std.specs.List.{list_all}
 use Rattle.values.specs.Values.{in_range}
 use Rattle.values.proofs.Bools.{and_r}
 use Rattle.values.proofs.ListLaws.{all-at}
@@ -60,8 +61,8 @@ module _ (r : Relation) (ok : T (rows_ok r.rows)) (xs : List ℕ) where
       ∙ ap (λ (l : List ℕ). take 13 (drop (i * 13) l)) (f.whole ∙ ap (λ (l : List ℕ). l ++ f.rest) e)
       ∙ in_line g sized f.rest i q
 
-  pub row_in_range : (j : ℕ) → j < length r.rows → T (all in_range (get_or r.rows j []))
-  row_in_range j h = all-at (λ x. all in_range x) r.rows j [] (and_r (leb (length r.rows) 16) (all (λ x. all in_range x) r.rows) ok) h
+  pub row_in_range : (j : ℕ) → j < length r.rows → T (list_all in_range (get_or r.rows j []))
+  row_in_range j h = all-at (λ x. list_all in_range x) r.rows j [] (and_r (leb (length r.rows) 16) (list_all (λ x. list_all in_range x) r.rows) ok) h
 
   pub row-cell-at : (j i : ℕ) → j < length r.rows → i < 4 → take 13 (drop (j * 53 + i * 13) (page_of r ++ xs)) ≡ row_cell (get_or r.rows j []) i
   row-cell-at j i h q =

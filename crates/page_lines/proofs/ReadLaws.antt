@@ -3,7 +3,7 @@ use Prim.Native.Nat.{ℕ, ◌≤◌, ◌<◌}
 use mathlib.Core.Path.{◌≡◌, refl, sym, ap, ◌∙◌, subst}
 use mathlib.Core.Bool.{Bool, true, false}
 use mathlib.Core.List.{List, [], ◌++◌}
-use mathlib.Core.Option.{some}
+use Rattle.std.specs.Prelude.{Some}
 use native.Mathlib.Omega.{arith}
 use lib.Dec.{T, ltb}
 use lib.IntN.{ℤ}
@@ -36,7 +36,7 @@ module _ (r : Relation) (xs : List ℕ) (ok : T (rows_ok r.rows)) (fit : T (rela
 
   -- ── the cells of rows ──
 
-  value_read : (j i : ℕ) (z : ℤ) → j < length r.rows → get_or (row_at j) i (Text 0) ≡ Int z → read_number (cell_at buffer j i) ≡ some z
+  value_read : (j i : ℕ) (z : ℤ) → j < length r.rows → get_or (row_at j) i (Text 0) ≡ Int z → read_number (cell_at buffer j i) ≡ Some z
   value_read j i z h e =
       let q : i < 4 = omega (arith, int-below (row_at j) i z e, fits-length r.columns (row_at j) (fit_at j h)) in
       ap read_number (row-cell-at r ok xs j i h q ∙ int_shown (row_at j) i z e) ∙ aligned_read z
@@ -52,7 +52,7 @@ module _ (r : Relation) (xs : List ℕ) (ok : T (rows_ok r.rows)) (fit : T (rela
     sum_shown : cell_at buffer (length r.rows) i ≡ right_aligned (signed (total (column i r.rows)))
     sum_shown = sum-cell-at r ok xs i (omega (arith, column-below r.columns i e)) ∙ sum-there r i e
 
-    sum-read : read_number (cell_at buffer (length r.rows) i) ≡ some (total (column i r.rows))
+    sum-read : read_number (cell_at buffer (length r.rows) i) ≡ Some (total (column i r.rows))
     sum-read = ap read_number sum_shown ∙ aligned_read (total (column i r.rows))
 
     sum-apart : get_or (cell_at buffer (length r.rows) i) 0 0 ≡ 0x20

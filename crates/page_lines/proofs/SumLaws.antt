@@ -11,7 +11,7 @@ use lib.Signed.{mag}
 use borrow.Author.Tests.{eq-eqb, ne_eqb}
 use Rattle.values.specs.declared.Value.{Value}
 use Rattle.values.specs.declared.Value.TheVariants.{Int, Text, Loc}
-use Rattle.values.specs.Lists.{all}
+use Rattle.std.specs.List.{list_all}
 use Rattle.values.specs.Values.{in_range}
 use Rattle.values.proofs.Bools.{and_l, and_r}
 use Rattle.values.proofs.Ints.{in32_mag, mag_add, size}
@@ -30,24 +30,24 @@ int_small (Int i) h = in32_mag i h
 int_small (Text t) h = omega arith
 int_small (Loc l) h = omega arith
 
-int-at-small : (r : Row) (i : ℕ) → T (all in_range r) → mag (int_at i r) ≤ 2147483647
+int-at-small : (r : Row) (i : ℕ) → T (list_all in_range r) → mag (int_at i r) ≤ 2147483647
 int-at-small [] i h = omega arith
-int-at-small (v ∷ r) zero h = int_small v (and_l (in_range v) (all in_range r) h)
-int-at-small (v ∷ r) (suc i) h = int-at-small r i (and_r (in_range v) (all in_range r) h)
+int-at-small (v ∷ r) zero h = int_small v (and_l (in_range v) (list_all in_range r) h)
+int-at-small (v ∷ r) (suc i) h = int-at-small r i (and_r (in_range v) (list_all in_range r) h)
 
 -- ── the sum of n of them is within n times as much ──
 
-sum-small : (i : ℕ) (rs : List Row) (z : ℤ) → T (all (λ r. all in_range r) rs) → mag (foldl ◌+ℤ◌ z (column i rs)) ≤ mag z + length rs * 2147483648
+sum-small : (i : ℕ) (rs : List Row) (z : ℤ) → T (list_all (λ r. list_all in_range r) rs) → mag (foldl ◌+ℤ◌ z (column i rs)) ≤ mag z + length rs * 2147483648
 sum-small i [] z h = omega arith
 sum-small i (r ∷ rs) z h =
-    let a = int-at-small r i (and_l (all in_range r) (all (λ r. all in_range r) rs) h) in
-    let b = sum-small i rs (z +ℤ int_at i r) (and_r (all in_range r) (all (λ r. all in_range r) rs) h) in
+    let a = int-at-small r i (and_l (list_all in_range r) (list_all (λ r. list_all in_range r) rs) h) in
+    let b = sum-small i rs (z +ℤ int_at i r) (and_r (list_all in_range r) (list_all (λ r. list_all in_range r) rs) h) in
     omega (arith, mag_add z (int_at i r))
 
 pub few_in_sum : (i : ℕ) (rs : List Row) → T (rows_ok rs) → length (signed (total (column i rs))) ≤ 12
 few_in_sum i rs h =
-    let l = leb→le (length rs) 16 (and_l (leb (length rs) 16) (all (λ r. all in_range r) rs) h) in
-    let s = sum-small i rs (pos 0) (and_r (leb (length rs) 16) (all (λ r. all in_range r) rs) h) in
+    let l = leb→le (length rs) 16 (and_l (leb (length rs) 16) (list_all (λ r. list_all in_range r) rs) h) in
+    let s = sum-small i rs (pos 0) (and_r (leb (length rs) 16) (list_all (λ r. list_all in_range r) rs) h) in
     few-places 10 (total (column i rs)) (omega (arith, size (total (column i rs))))
 
 pub sum-cell-length : (r : Relation) → T (rows_ok r.rows) → (i : ℕ) → length (sum_cell r i) ≡ 13

@@ -1,6 +1,6 @@
 // The cells of a page, 13 bytes each.
 ghost use Rattle.std.specs.Prelude.{◌≡◌, [], ◌∷◌, ◌<◌, ◌≤◌, T, length};
-ghost use Rattle.values.specs.Lists.{all};
+ghost use Rattle.std.specs.List.{list_all};
 ghost use Rattle.values.specs.Values.{locality_ok, bytes_of, in_range};
 ghost use Rattle.value_decimal.specs.Decimals.{digit};
 ghost use Rattle.rows.specs.View.{values_of, relation_of, Shaped};
@@ -15,23 +15,12 @@ use values::{Locality, Value};
 // The bytes of a cell.
 pub const CELL: usize = 13;
 
-// The four bytes of a text.
-fn put_four(out: &mut [u8], t: u32)
-    requires { length out.old ≡ 4 }
-    ensures { out.new ≡ bytes_of t }
-{
-    out[0] = (t / 16777216 % 256) as u8;
-    out[1] = (t / 65536 % 256) as u8;
-    out[2] = (t / 256 % 256) as u8;
-    out[3] = (t % 256) as u8;
-}
-
 fn put_text(out: &mut [u8], t: u32)
     requires { length out.old ≡ 13 }
     ensures { out.new ≡ left_aligned (bytes_of t) }
 {
     put_blanks(out);
-    put_four(&mut out[0..4], t);
+    out[0..4].copy_from_slice(&t.to_be_bytes());
 }
 
 // A Loc: @ and its digit.
@@ -63,13 +52,11 @@ fn put_value(out: &mut [u8], v: Value)
 
 // The cell of a row in a column; past the row's last column it is blank.
 pub fn put_row_cell(out: &mut [u8], row: Row, columns: usize, i: usize)
-    requires { (length out.old ≡ 13) × (columns ≤ 4) × T (all in_range (values_of columns row)) }
+    requires { (length out.old ≡ 13) × (columns ≤ 4) × T (list_all in_range (values_of columns row)) }
     ensures { out.new ≡ row_cell (values_of columns row) i }
 {
     if i < columns {
-        let c = row.cells[i];
-        let v = c.value;
-        put_value(out, v);
+        put_value(out, row.cells[i]);
     } else {
         put_blanks(out);
     }
@@ -80,8 +67,7 @@ pub fn put_sum_cell(out: &mut [u8], r: Relation, i: usize)
     requires { (length out.old ≡ 13) × (i < 4) × Shaped r × T (rows_ok (relation_of r).rows) }
     ensures { out.new ≡ sum_cell (relation_of r) i }
 {
-    let kinds = r.kinds;
-    if kind_at(r.columns, kinds, i) == 1 {
+    if kind_at(r.columns, r.kinds, i) == 1 {
         put_signed(out, total_of(r, i));
     } else {
         put_blanks(out);

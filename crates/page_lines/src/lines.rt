@@ -1,6 +1,6 @@
 // The lines of a page, 53 bytes each: four cells and a line feed.
 ghost use Rattle.std.specs.Prelude.{◌≡◌, map, ◌*◌, ◌+◌, ◌≤◌, T, length};
-ghost use Rattle.values.specs.Lists.{all};
+ghost use Rattle.std.specs.List.{list_all};
 ghost use Rattle.values.specs.Values.{in_range};
 ghost use Rattle.value_bytes.specs.Bytes.{end_to_end};
 ghost use Rattle.rows.specs.View.{values_of, relation_of, Shaped};
@@ -17,13 +17,11 @@ const FEED: usize = 52;
 
 // The line of a row.
 fn put_row(out: &mut [u8], row: Row, columns: usize)
-    requires { (length out.old ≡ 53) × (columns ≤ 4) × T (all in_range (values_of columns row)) }
+    requires { (length out.old ≡ 53) × (columns ≤ 4) × T (list_all in_range (values_of columns row)) }
     ensures { out.new ≡ line_of (row_cell (values_of columns row)) }
 {
-    let mut i = 0;
-    while i < 4 {
+    for i in 0..4 {
         put_row_cell(&mut out[i * CELL..i * CELL + CELL], row, columns, i);
-        i += 1;
     }
     out[FEED] = b'\n';
 }
@@ -33,10 +31,8 @@ fn put_sums(out: &mut [u8], r: Relation)
     requires { (length out.old ≡ 53) × Shaped r × T (rows_ok (relation_of r).rows) }
     ensures { out.new ≡ line_of (sum_cell (relation_of r)) }
 {
-    let mut i = 0;
-    while i < 4 {
+    for i in 0..4 {
         put_sum_cell(&mut out[i * CELL..i * CELL + CELL], r, i);
-        i += 1;
     }
     out[FEED] = b'\n';
 }
@@ -46,11 +42,8 @@ fn put_rows(out: &mut [u8], r: Relation)
     requires { (length out.old ≡ r.count * 53) × Shaped r × T (rows_ok (relation_of r).rows) }
     ensures { out.new ≡ end_to_end (map (λ row. line_of (row_cell row)) (relation_of r).rows) }
 {
-    let n = r.count;
-    let mut i = 0;
-    while i < n {
+    for i in 0..r.count {
         put_row(&mut out[i * LINE..i * LINE + LINE], r.rows[i], r.columns);
-        i += 1;
     }
 }
 

@@ -1,6 +1,5 @@
 -- Worked pages, by computation.
-use Rattle.std.specs.Prelude.{ℕ, ◌≡◌, refl, List, [], ◌∷◌, ◌++◌, pos, negsuc, replicate}
-use Rattle.std.proofs.Math.Option.{none, some}
+use Rattle.std.specs.Prelude.{ℕ, ◌≡◌, refl, List, [], ◌∷◌, ◌++◌, pos, negsuc, replicate, None, Some}
 use Rattle.values.specs.declared.Site.{Site}
 use Rattle.values.specs.declared.Value.TheVariants.{Int, Text, Loc}
 use Rattle.value_decimal.specs.Decimals.{decimal, signed, blanks}
@@ -43,39 +42,39 @@ pub least_sum_lem : signed (negsuc 34359738367) ≡ least_sum
 unfolding opened
 least_sum_lem = refl
 
-pub least_sum-read : read_number (0x20 ∷ least_sum) ≡ some (negsuc 34359738367)
+pub least_sum-read : read_number (0x20 ∷ least_sum) ≡ Some (negsuc 34359738367)
 least_sum-read = refl
 
-pub zero-read : read_number (0x30 ∷ []) ≡ some (pos 0)
+pub zero-read : read_number (0x30 ∷ []) ≡ Some (pos 0)
 zero-read = refl
 
-pub blanks_skipped : read_number (blanks 11 ++ (0x33 ∷ 0x36 ∷ [])) ≡ some (pos 36)
+pub blanks_skipped : read_number (blanks 11 ++ (0x33 ∷ 0x36 ∷ [])) ≡ Some (pos 36)
 blanks_skipped = refl
 
 -- no digit, a blank behind, a minus alone, a minus before blanks, a plus, a line feed before: no number
-pub blanks-read : read_number (blanks 13) ≡ none
+pub blanks-read : read_number (blanks 13) ≡ None
 blanks-read = refl
 
-pub blank_behind : read_number (0x33 ∷ 0x20 ∷ []) ≡ none
+pub blank_behind : read_number (0x33 ∷ 0x20 ∷ []) ≡ None
 blank_behind = refl
 
-pub minus_alone : read_number (0x20 ∷ 0x2d ∷ []) ≡ none
+pub minus_alone : read_number (0x20 ∷ 0x2d ∷ []) ≡ None
 minus_alone = refl
 
-pub minus_apart : read_number (0x2d ∷ 0x20 ∷ 0x33 ∷ []) ≡ none
+pub minus_apart : read_number (0x2d ∷ 0x20 ∷ 0x33 ∷ []) ≡ None
 minus_apart = refl
 
-pub plus_read : read_number (0x2b ∷ 0x33 ∷ []) ≡ none
+pub plus_read : read_number (0x2b ∷ 0x33 ∷ []) ≡ None
 plus_read = refl
 
-pub feed_read : read_number (0x0a ∷ 0x33 ∷ []) ≡ none
+pub feed_read : read_number (0x0a ∷ 0x33 ∷ []) ≡ None
 feed_read = refl
 
 -- the bytes before and after the digits are none
-pub slash_read : read_number (0x2f ∷ []) ≡ none
+pub slash_read : read_number (0x2f ∷ []) ≡ None
 slash_read = refl
 
-pub colon_read : read_number (0x3a ∷ []) ≡ none
+pub colon_read : read_number (0x3a ∷ []) ≡ None
 colon_read = refl
 
 -- ── a page ──
@@ -135,10 +134,10 @@ unfolding opened
 four-cells = refl
 
 -- read off the page: -40 in the second line, -4 in the last
-pub value_on_page : read_number (cell_at card_page 1 1) ≡ some (negsuc 39)
+pub value_on_page : read_number (cell_at card_page 1 1) ≡ Some (negsuc 39)
 value_on_page = refl
 
-pub sum_on_page : read_number (cell_at card_page 2 1) ≡ some (negsuc 3)
+pub sum_on_page : read_number (cell_at card_page 2 1) ≡ Some (negsuc 3)
 sum_on_page = refl
 
 -- without rows the last line stands alone, with 0 in Int columns

@@ -1,6 +1,5 @@
 -- A table laid out for people: a line for each row, then a line with the sum of each Int column.
-use Rattle.std.specs.Prelude.{ℕ, zero, suc, ◌-◌, cond, List, [], ◌∷◌, ◌++◌, map, eqb, leb, get_or, length, drop}
-use Rattle.std.proofs.Math.Option.{Option, none, some}
+use Rattle.std.specs.Prelude.{ℕ, zero, suc, ◌-◌, cond, List, [], ◌∷◌, ◌++◌, map, eqb, leb, get_or, length, drop, Option, None, Some}
 use Rattle.values.specs.declared.Site.{Site}
 use Rattle.values.specs.declared.Value.{Value}
 use Rattle.values.specs.declared.Value.TheVariants.{Int, Text, Loc}
@@ -66,8 +65,8 @@ abbrev pub if_long_enough : List ℕ → List ℕ → PageOutcome
 if_long_enough bs buffer = cond (leb (length bs) (length buffer)) (a_page bs) (no_page 22 (length bs ∷ []))
 
 abbrev pub page_for : Option Table → List ℕ → PageOutcome
-page_for none buffer = no_page 14 []
-page_for (some t) buffer = if_long_enough (page_of t.content) buffer
+page_for None buffer = no_page 14 []
+page_for (Some t) buffer = if_long_enough (page_of t.content) buffer
 
 -- 10 for an unsound net, then 14, then 22
 unfoldable pub page : Net → Site → ℕ → List ℕ → PageOutcome

@@ -1,31 +1,17 @@
--- Laws of parts of a file: a signed number's bits, four parts of 8 bytes, and the elements before the first none. Assumes nothing.
-use Prim.Native.Nat.{ℕ, suc, ◌-◌, ◌≤◌}
-use mathlib.Core.Path.{◌≡◌, refl, ap, ◌∙◌}
+-- Laws of parts of a file: four parts of 8 bytes, and the elements before the first none. Assumes nothing.
+use Prim.Native.Nat.{ℕ, suc, ◌≤◌}
+use mathlib.Core.Path.{◌≡◌, refl, ap}
 use mathlib.Core.Bool.{Bool, true, false, cond, ◌&&◌}
 use mathlib.Core.List.{List, [], ◌∷◌, map}
 use native.Mathlib.Omega.{arith}
-use lib.Dec.{ltb}
-use lib.IntN.{ℤ, pos, negsuc}
-use lib.ListN.{length, get_or}
+use lib.ListN.{length}
 use lib.Seq.{drop-drop}
-use mir.Val.{to_z, sel}
-use mir.Syntax.{w32}
-use Rattle.values.specs.Lists.{all, firsts}
+use Rattle.values.specs.Lists.{firsts}
+use Rattle.std.specs.List.{list_all}
 use Rattle.nets.specs.Sound.{is_absent}
-use Rattle.record_bytes.specs.Bytes.{part, parts, leading, then_only, signed, operand_in, operands_in}
+use Rattle.record_bytes.specs.Bytes.{part, parts, leading, then_only, operand_in, operands_in}
 
 -- ── numbers ──
-
-sel_cond : (b : Bool) (x y : ℤ) → sel b x y ≡ cond b x y
-sel_cond true x y = refl
-sel_cond false x y = refl
-
-top_bits : (n : ℕ) → 4294967296 - suc n ≡ 4294967295 - n
-top_bits n = omega arith
-
--- the bits of a signed number of 32 bits, as the machine reads them
-pub signed_is : (n : ℕ) → to_z w32 n ≡ signed n
-signed_is n = sel_cond (ltb n 2147483648) _ _ ∙ ap (λ k. cond (ltb n 2147483648) (pos n) (negsuc k)) (top_bits n)
 
 -- a number from `n` on is `n` or above it
 pub not_this : (n k : ℕ) → n ≤ k → (k ≡ n → ⊥) → suc n ≤ k
@@ -39,21 +25,13 @@ four bs = part 0 8 bs ∷ part 8 16 bs ∷ part 16 24 bs ∷ part 24 32 bs ∷ [
 pub four-parts : (bs : List ℕ) → parts 8 4 bs ≡ four bs
 four-parts bs = rw (drop-drop 8 8 bs, drop-drop 8 16 bs)
 
-pub four_bytes : (bs : List ℕ) → length bs ≡ 4 → get_or bs 0 0 ∷ get_or bs 1 0 ∷ get_or bs 2 0 ∷ get_or bs 3 0 ∷ [] ≡ bs
-four_bytes [] e = absurd (omega arith)
-four_bytes (a ∷ []) e = absurd (omega arith)
-four_bytes (a ∷ b ∷ []) e = absurd (omega arith)
-four_bytes (a ∷ b ∷ c ∷ []) e = absurd (omega arith)
-four_bytes (a ∷ b ∷ c ∷ d ∷ []) e = refl
-four_bytes (a ∷ b ∷ c ∷ d ∷ x ∷ l) e = absurd (omega arith)
-
 -- ── some, then only nones ──
 
 abbrev pub same : Bool → Bool
 same x = x
 
 module _ {A : Type 0} (p : A → Bool) where
-  all-flags : (l : List A) → all same (map p l) ≡ all p l
+  all-flags : (l : List A) → list_all same (map p l) ≡ list_all p l
   all-flags [] = refl
   all-flags (a ∷ l) = ap (λ t. p a && t) (all-flags l)
 
@@ -69,7 +47,7 @@ module _ {A : Type 0} (p : A → Bool) where
   only_flags [] = refl
   only_flags (a ∷ l) = rw (all-flags l, only_flags l)
 
-  pub all-four : (a b c d : A) → all p (a ∷ b ∷ c ∷ d ∷ []) ≡ (p a && p b && p c && p d)
+  pub all-four : (a b c d : A) → list_all p (a ∷ b ∷ c ∷ d ∷ []) ≡ (p a && p b && p c && p d)
   all-four a b c d = go (p a) (p b) (p c) (p d)
     where
       go : (a b c d : Bool) → (a && (b && (c && (d && true)))) ≡ (a && b && c && d)

@@ -3,7 +3,7 @@
 use Rattle.std.specs.Prelude.{ℕ, zero, suc, ◌+◌, ◌-◌, ◌*◌, ◌^◌, Bool, true, false, cond, ◌&&◌, List, [], ◌∷◌, map, eqb, leb, ltb, ℤ, pos, negsuc, get_or, take, drop}
 use Rattle.values.specs.declared.Operand.{Operand}
 use Rattle.values.specs.declared.Operand.TheVariants.{Absent, ConstInt, ConstText, ConstLoc, Var, Plus, Formal}
-use Rattle.values.specs.Lists.{all}
+use Rattle.std.specs.List.{list_all}
 use Rattle.rows.specs.declared.Test.{Test}
 use Rattle.rows.specs.declared.Test.TheVariants.{Always, Equal, Unequal, Less, AtMost}
 use Rattle.rows.specs.declared.Function.{Function}
@@ -29,7 +29,7 @@ abbrev pub is_zero : ℕ → Bool
 is_zero b = eqb b 0
 
 abbrev pub zeros : List ℕ → Bool
-zeros bs = all is_zero bs
+zeros bs = list_all is_zero bs
 
 -- some, then only nones: the elements before the first none, and that only nones follow it
 module _ {A : Type 0} where
@@ -39,7 +39,7 @@ module _ {A : Type 0} where
 
   abbrev pub then_only : (A → Bool) → List A → Bool
   then_only is_none [] = true
-  then_only is_none (a ∷ l) = cond (is_none a) (all is_none l) (then_only is_none l)
+  then_only is_none (a ∷ l) = cond (is_none a) (list_all is_none l) (then_only is_none l)
 
 -- ── numbers in four bytes ──
 
@@ -93,7 +93,7 @@ operand_in bs =
 
 -- a T or a t: up to four operands, then only tag 0
 unfoldable pub operands_form : List ℕ → Bool
-operands_form bs = all operand_form (parts 8 4 bs) && then_only is_absent (map operand_in (parts 8 4 bs))
+operands_form bs = list_all operand_form (parts 8 4 bs) && then_only is_absent (map operand_in (parts 8 4 bs))
 
 unfoldable pub operands_in : List ℕ → List Operand
 operands_in bs = leading is_absent (map operand_in (parts 8 4 bs))

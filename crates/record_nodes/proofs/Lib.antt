@@ -1,2 +1,3 @@
--- Laws of operands' tags.
+-- Laws that belong to no one function.
+pub mod ReadLaws
 pub mod TagLaws

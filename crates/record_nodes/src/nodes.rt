@@ -1,5 +1,5 @@
 // Node records: the node that a record says, and check 4. In bytes 8 to 11 a create has the kinds of its columns, and other nodes have their table variables, function and column. An aggregate has T' where other nodes have the first operand of t.
-ghost use Rattle.std.specs.Prelude.{◌≡◌, cond, ◌&&◌, [], length};
+ghost use Rattle.std.specs.Prelude.{◌≡◌, is_some, IfSome, cond, ◌&&◌, [], length};
 ghost use Rattle.values.specs.declared.Operand.TheVariants.{Absent};
 ghost use Rattle.rows.specs.declared.Function.TheVariants.{Unused};
 ghost use Rattle.rows.specs.View.{columns_of, operands_of, selector_of};
@@ -22,20 +22,13 @@ use values::Operand;
 // Where the second operand of t begins.
 const TUPLE_SECOND: usize = 64;
 
-// What a node record says, and whether it passes check 4.
-#[derive(Clone, Copy)]
-pub struct NodeRead {
-    pub right: bool,
-    pub node: Node,
-}
-
 // ---- the node
 
+// Any byte gives a test or a function, whatever check 4 finds, so these are no `TryFrom`.
 pub fn test_at(b: u8) -> Test
     ensures { result ≡ test_at b }
 {
     match b {
-        0 => Test::Always,
         1 => Test::Equal,
         2 => Test::Unequal,
         3 => Test::Less,
@@ -48,7 +41,6 @@ pub fn function_at(b: u8) -> Function
     ensures { result ≡ function_at b }
 {
     match b {
-        0 => Function::Unused,
         1 => Function::Count,
         2 => Function::Sum,
         3 => Function::Least,
@@ -61,29 +53,24 @@ pub fn function_at(b: u8) -> Function
 fn byte_in(create: bool, b: u8) -> u8
     ensures { result ≡ cond create 0 b }
 {
-    if create {
-        return 0;
-    }
-    b
+    if create { 0 } else { b }
 }
 
 fn function_in(create: bool, b: u8) -> Function
     ensures { result ≡ cond create Unused (function_at b) }
 {
     if create {
-        return Function::Unused;
+        Function::Unused
+    } else {
+        function_at(b)
     }
-    function_at(b)
 }
 
 fn column_count(create: bool, p: &[u8]) -> usize
     requires { length p.now ≡ 4 }
     ensures { columns_of result p.now ≡ cond create (columns_in p.now) [] }
 {
-    if create {
-        return columns_in(p);
-    }
-    0
+    if create { columns_in(p) } else { 0 }
 }
 
 fn selector_in(r: &[u8]) -> Selector
@@ -102,12 +89,12 @@ fn tuple_in(aggregate: bool, p: &[u8]) -> Operands
     requires { length p.now ≡ 32 }
     ensures { operands_of result ≡ cond aggregate [] (operands_in p.now) }
 {
-    let mut t = operands_in(p);
+    let t = operands_in(p);
     if aggregate {
-        t.count = 0;
-        return t;
+        Operands { count: 0, ..t }
+    } else {
+        t
     }
-    t
 }
 
 fn result_in(aggregate: bool, p: &[u8]) -> Operand
@@ -115,12 +102,14 @@ fn result_in(aggregate: bool, p: &[u8]) -> Operand
     ensures { result ≡ cond aggregate (operand_in p.now) Absent }
 {
     if aggregate {
-        return operand_in(p);
+        operand_in(p)
+    } else {
+        Operand::Absent
     }
-    Operand::Absent
 }
 
-fn node_in(r: &[u8]) -> Node
+// The node that a record says, whatever check 4 finds.
+pub fn node_in(r: &[u8]) -> Node
     requires { length r.now ≡ 104 }
     ensures { node_of result ≡ node_in r.now }
 {
@@ -128,7 +117,6 @@ fn node_in(r: &[u8]) -> Node
     let create = is_create(kind);
     let aggregate = is_aggregate(kind);
     let columns = &r[KINDS..KINDS_END];
-    let result = result_in(aggregate, &r[TUPLE..TUPLE_SECOND]);
     Node {
         kind,
         next: r[1],
@@ -143,7 +131,7 @@ fn node_in(r: &[u8]) -> Node
         locality: operand_in(&r[LOCALITY..TEMPLATE]),
         selector: selector_in(r),
         tuple: tuple_in(aggregate, &r[TUPLE..LEFT]),
-        result,
+        result: result_in(aggregate, &r[TUPLE..TUPLE_SECOND]),
     }
 }
 
@@ -154,10 +142,7 @@ fn middle_form(create: bool, b: u8, p: &[u8]) -> bool
     requires { length p.now ≡ 4 }
     ensures { result ≡ cond create (columns_form p.now) (is_function b) }
 {
-    if create {
-        return columns_form(p);
-    }
-    b <= 4
+    if create { columns_form(p) } else { b <= 4 }
 }
 
 fn tuple_form(aggregate: bool, r: &[u8]) -> bool
@@ -165,9 +150,10 @@ fn tuple_form(aggregate: bool, r: &[u8]) -> bool
     ensures { result ≡ cond aggregate (operand_form (part 56 64 r.now) && zeros (part 64 88 r.now)) (operands_form (part 56 88 r.now)) }
 {
     if aggregate {
-        return operand_form(&r[TUPLE..TUPLE_SECOND]) & zeros(&r[TUPLE_SECOND..LEFT]);
+        operand_form(&r[TUPLE..TUPLE_SECOND]) & zeros(&r[TUPLE_SECOND..LEFT])
+    } else {
+        operands_form(&r[TUPLE..LEFT])
     }
-    operands_form(&r[TUPLE..LEFT])
 }
 
 fn node_bytes(r: &[u8]) -> bool
@@ -188,13 +174,10 @@ fn node_bytes(r: &[u8]) -> bool
 }
 
 // The node is read once: check 4 judges its fields as those of any node of a net, and loading keeps it.
-pub fn node_read(r: &[u8]) -> NodeRead
+pub fn node_read(r: &[u8]) -> Option<Node>
     requires { length r.now ≡ 104 }
-    ensures { (result.right ≡ node_form r.now) × (node_of result.node ≡ node_in r.now) }
+    ensures { (is_some result ≡ node_form r.now) × IfSome result (λ node. node_of node ≡ node_in r.now) }
 {
     let node = node_in(r);
-    NodeRead {
-        right: node_bytes(r) & fields_ok(node),
-        node,
-    }
+    (node_bytes(r) & fields_ok(node)).then_some(node)
 }

@@ -5,7 +5,7 @@ ghost use Rattle.nets.specs.Sound.{is_absent};
 ghost use Rattle.record_bytes.specs.Bytes.{operand_form, operand_in, operands_form, operands_in};
 
 use record_bytes::{before_none, int_in, nones_last, text_in, zeros};
-use rows::{Field, Operands};
+use rows::Operands;
 use values::{Locality, Operand};
 
 // By tag: the bytes that it leaves unused are zero.
@@ -77,20 +77,7 @@ pub fn operands_in(p: &[u8]) -> Operands
     let c = &p[16..24];
     let d = &p[24..32];
     Operands {
-        fields: [
-            Field {
-                operand: operand_in(a),
-            },
-            Field {
-                operand: operand_in(b),
-            },
-            Field {
-                operand: operand_in(c),
-            },
-            Field {
-                operand: operand_in(d),
-            },
-        ],
+        fields: [operand_in(a), operand_in(b), operand_in(c), operand_in(d)],
         count: before_none(absent_in(a), absent_in(b), absent_in(c), absent_in(d)),
     }
 }

@@ -12,11 +12,11 @@ use mir.Syntax.{w32, w64}
 use mir.Val.{SFits, of_z, to_z}
 use borrow.Author.Tests.{ltb-true, ltb-false}
 use Rattle.values.specs.declared.Value.TheVariants.{Int}
-use Rattle.values.specs.declared.Got.TheVariants.{One}
+use Rattle.std.specs.Prelude.{Some}
 use Rattle.values.specs.Lists.{firsts}
 use Rattle.values.proofs.Firsts.{length-firsts, map-firsts, firsts_cons, firsts_at, firsts_end}
 use Rattle.values.proofs.Ints.{back, wide, wide_is, mag_add}
-use Rattle.rows.specs.declared.Cell.{Cell}
+use Rattle.values.specs.declared.Value.{Value}
 use Rattle.rows.specs.declared.Row.{Row}
 use Rattle.rows.specs.View.{no_cell, no_row, values_of, columns_of, rows_of}
 use Rattle.row_change.specs.Aggregates.{int_of, int_at, column, smaller, larger, best}
@@ -24,8 +24,8 @@ use Rattle.row_change.specs.Aggregates.{int_of, int_at, column, smaller, larger,
 -- ── places ──
 
 -- the Int in a column, read off the row's cells
-pub int_at_lem : (row : Row) (n k : ℕ) → k < n → int_of (get_or row.cells k no_cell).value ≡ int_at k (values_of n row)
-int_at_lem row n k h = ap int_of (sym (firsts_at (λ (c : Cell). c.value) no_cell n row.cells k (Int (pos 0)) h))
+pub int_at_lem : (row : Row) (n k : ℕ) → k < n → int_of (get_or row.cells k no_cell) ≡ int_at k (values_of n row)
+int_at_lem row n k h = ap int_of (sym (firsts_at (λ (v : Value). v) no_cell n row.cells k (Int (pos 0)) h))
 
 module _ (k w n : ℕ) (rows : List Row) (i : ℕ) where
   column-is : firsts (λ (r : Row). int_at k (values_of w r)) no_row n rows ≡ column k (rows_of w n rows)
@@ -84,5 +84,5 @@ pub better_next : (l : Bool) (x z r : ℤ) → SFits w32 z → SFits w32 r → r
     → to_z w32 (of_z w32 r) ≡ cond l larger smaller x z
 better_next l x z r p q e = back w32 r q ∙ e ∙ ap (λ (y : ℤ). cond l (larger x y) (smaller x y)) (back w32 z p) ∙ either l x z
 
-pub best-is : (f : ℤ → ℤ → ℤ) (a : ℤ) {x : ℤ} {l l' : List ℤ} → l ≡ x ∷ l' → a ≡ foldl f x l' → One (Int a) ≡ best f l
-best-is f a e h = ap (λ (z : ℤ). One (Int z)) h ∙ sym (ap (best f) e)
+pub best-is : (f : ℤ → ℤ → ℤ) (a : ℤ) {x : ℤ} {l l' : List ℤ} → l ≡ x ∷ l' → a ≡ foldl f x l' → Some (Int a) ≡ best f l
+best-is f a e h = ap (λ (z : ℤ). Some (Int z)) h ∙ sym (ap (best f) e)

@@ -9,9 +9,9 @@ use lib.ListN.{get_or, length}
 use lib.Signed.{lt_z}
 use Rattle.values.specs.declared.Value.{Value}
 use Rattle.values.specs.declared.Value.TheVariants.{Int, Text, Loc}
-use Rattle.values.specs.declared.Got.{Got}
-use Rattle.values.specs.declared.Got.TheVariants.{One}
-use Rattle.values.specs.Lists.{all}
+use Rattle.values.specs.Operands.{Got}
+use Rattle.std.specs.Prelude.{Some}
+use Rattle.std.specs.List.{list_all}
 use Rattle.values.proofs.Bools.{and_l, and_r}
 use Rattle.values.proofs.ListLaws.{all-map_of, all_get_d}
 use Rattle.values.proofs.RangeLaws.{Ranged, fitting-ok, cond-ok}
@@ -22,29 +22,29 @@ use Rattle.row_change.specs.Aggregates.{int_of, int_at, column, total, smaller, 
 use Rattle.row_change.proofs.RangeLaws.{row_ok}
 
 -- a fold by what keeps a test: of two that pass, the chosen one passes
-foldl_ok : {A : Type 0} (q : A → Bool) (f : A → A → A) → ((j k : A) → T (q j) → T (q k) → T (q (f j k))) → (k : A) (l : List A) → T (q k) → T (all q l) → T (q (foldl f k l))
+foldl_ok : {A : Type 0} (q : A → Bool) (f : A → A → A) → ((j k : A) → T (q j) → T (q k) → T (q (f j k))) → (k : A) (l : List A) → T (q k) → T (list_all q l) → T (q (foldl f k l))
 foldl_ok q f keeps k [] h g = h
-foldl_ok q f keeps k (j ∷ l) h g = foldl_ok q f keeps (f k j) l (keeps k j h (and_l (q j) (all q l) g)) (and_r (q j) (all q l) g)
+foldl_ok q f keeps k (j ∷ l) h g = foldl_ok q f keeps (f k j) l (keeps k j h (and_l (q j) (list_all q l) g)) (and_r (q j) (list_all q l) g)
 
 module _ (p : Got → Bool) (ranged : Ranged p) where
   abbrev int_ok : ℤ → Bool
-  int_ok z = p (One (Int z))
+  int_ok z = p (Some (Int z))
 
-  int_ok_lem : (v : Value) → T (p (One v)) → T (int_ok (int_of v))
+  int_ok_lem : (v : Value) → T (p (Some v)) → T (int_ok (int_of v))
   int_ok_lem (Int i) h = h
   int_ok_lem (Text t) h = ranged.ints (pos 0) tt
   int_ok_lem (Loc l) h = ranged.ints (pos 0) tt
 
-  column-ok : (i : ℕ) (rs : List Row) → T (all (row_ok p) rs) → T (all int_ok (column i rs))
+  column-ok : (i : ℕ) (rs : List Row) → T (list_all (row_ok p) rs) → T (list_all int_ok (column i rs))
   column-ok i rs h =
       all-map_of (row_ok p) int_ok (int_at i) rs
-      (λ r k. int_ok_lem (get_or r i (Int (pos 0))) (all_get_d (λ v. p (One v)) r i (Int (pos 0)) k (ranged.ints (pos 0) tt))) h
+      (λ r k. int_ok_lem (get_or r i (Int (pos 0))) (all_get_d (λ v. p (Some v)) r i (Int (pos 0)) k (ranged.ints (pos 0) tt))) h
 
-  best-ok : (f : ℤ → ℤ → ℤ) → ((j k : ℤ) → T (int_ok j) → T (int_ok k) → T (int_ok (f j k))) → (l : List ℤ) → T (all int_ok l) → T (p (best f l))
+  best-ok : (f : ℤ → ℤ → ℤ) → ((j k : ℤ) → T (int_ok j) → T (int_ok k) → T (int_ok (f j k))) → (l : List ℤ) → T (list_all int_ok l) → T (p (best f l))
   best-ok f keeps [] h = ranged.nothing
-  best-ok f keeps (k ∷ l) h = foldl_ok int_ok f keeps k l (and_l (int_ok k) (all int_ok l) h) (and_r (int_ok k) (all int_ok l) h)
+  best-ok f keeps (k ∷ l) h = foldl_ok int_ok f keeps k l (and_l (int_ok k) (list_all int_ok l) h) (and_r (int_ok k) (list_all int_ok l) h)
 
-  pub aggregated-ok : (f : Function) (i : ℕ) (rs : List Row) → length rs ≤ 16 → T (all (row_ok p) rs) → T (p (aggregated f i rs))
+  pub aggregated-ok : (f : Function) (i : ℕ) (rs : List Row) → length rs ≤ 16 → T (list_all (row_ok p) rs) → T (p (aggregated f i rs))
   unfolding aggregated
   aggregated-ok Unused i rs few h = ranged.nothing
   aggregated-ok Count i rs few h = ranged.ints (pos (length rs)) (le→leb (length rs) 2147483647 (omega arith))

@@ -9,21 +9,19 @@ use lib.Dec.{T}
 use lib.ListN.{length, get_or, length-map, get_or-map}
 use mir.Val.{Val}
 use denote.Laws.{Is}
-use Rattle.values.specs.declared.Got.{Got}
-use Rattle.values.specs.declared.Got.TheVariants.{Nothing, One}
+use Rattle.values.specs.Operands.{Got}
+use Rattle.std.specs.Prelude.{None, Some}
 use Rattle.values.specs.declared.Operand.{Operand}
-use Rattle.values.specs.declared.Slot.{Slot}
-use Rattle.values.specs.Lists.{all, count, filter, firsts}
-use Rattle.values.specs.Operands.{Vars, is_got, values_in, vars_of, bind, kind_in}
+use Rattle.values.specs.Lists.{count, filter, firsts}
+use Rattle.std.specs.List.{list_all}
+use Rattle.values.specs.Operands.{Vars, is_got, values_in, bind, kind_in}
 use Rattle.values.proofs.Bools.{and_r, T_of}
 use Rattle.values.proofs.Firsts.{length-firsts, firsts_at, firsts_same, map-firsts}
-use Rattle.rows.specs.declared.Cell.{Cell}
+use Rattle.values.specs.declared.Value.{Value}
 use Rattle.rows.specs.declared.Row.{Row}
 use Rattle.rows.specs.declared.Relation.{Relation}
-use Rattle.rows.specs.declared.Field.{Field}
 use Rattle.rows.specs.declared.Operands.{Operands}
 use Rattle.rows.specs.declared.Selector.{Selector}
-use Rattle.rows.specs.declared.Component.{Component}
 use Rattle.rows.specs.declared.Term.{Term}
 use Rattle.rows.specs.declared.Terms.{Terms}
 use Rattle.rows.specs.declared.Plan.{Plan}
@@ -50,18 +48,18 @@ fits-long [] (g ∷ d) h = absurd h
 fits-long (k ∷ cs) [] h = absurd h
 fits-long (k ∷ cs) (g ∷ d) h = ap suc (fits-long cs d (and_r (of_kind k g) (fits cs d) h))
 
-pub fits-got : (cs : List ℕ) (d : List Got) → T (fits cs d) → T (all is_got d)
+pub fits-got : (cs : List ℕ) (d : List Got) → T (fits cs d) → T (list_all is_got d)
 fits-got [] [] h = tt
 fits-got [] (g ∷ d) h = absurd h
 fits-got (k ∷ cs) [] h = tt
-fits-got (k ∷ cs) (Nothing ∷ d) h = absurd h
-fits-got (k ∷ cs) (One v ∷ d) h = fits-got cs d (and_r (of_kind k (One v)) (fits cs d) h)
+fits-got (k ∷ cs) (None ∷ d) h = absurd h
+fits-got (k ∷ cs) (Some v ∷ d) h = fits-got cs d (and_r (of_kind k (Some v)) (fits cs d) h)
 
 -- the row of a draft that gives all its values, `n` of them
-pub row-given : (d : Draft) {g : List Got} {n : ℕ} (o : Row) → draft_of d ≡ g → d.count ≡ n → T (all is_got g) →
-    (T (all is_got (draft_of d)) → values_of d.count o ≡ values_in (draft_of d)) → values_of n o ≡ values_in g
+pub row-given : (d : Draft) {g : List Got} {n : ℕ} (o : Row) → draft_of d ≡ g → d.count ≡ n → T (list_all is_got g) →
+    (T (list_all is_got (draft_of d)) → values_of d.count o ≡ values_in (draft_of d)) → values_of n o ≡ values_in g
 row-given d o given long got made =
-    ap (λ (m : ℕ). values_of m o) (sym long) ∙ made (subst (λ (g : List Got). T (all is_got g)) (sym given) got) ∙ ap values_in given
+    ap (λ (m : ℕ). values_of m o) (sym long) ∙ made (subst (λ (g : List Got). T (list_all is_got g)) (sym given) got) ∙ ap values_in given
 
 -- ── the rows of a relation ──
 
@@ -81,9 +79,9 @@ pub planned : {r : Relation} {s : Selector} {vs : List Val} → Ready r s → Is
     ((row : Row) → length row.cells ≡ 4 → plan_hits plan row ≡ hits e (selector_of s) (values_of s.template.count row)) → Planned r s e plan
 planned {r} {vs = vs} ready good e plan tests = record { ready = ready; cells = cells-long r vs good; tests = tests }
 
-pub termed : {r : Relation} {s : Selector} → Ready r s → (vars : List Slot) → length vars ≡ 16 → (t : Operands) (terms : Terms) →
-    terms_in terms ≡ map (term_of (vars_of vars) (operands_of s.template)) (operands_of t) → Termed r s (vars_of vars) (operands_of t) terms
-termed ready vars long t terms made = record { ready = ready; vars = length-map vars (λ (x : Slot). x.held) ∙ long; made = made }
+pub termed : {r : Relation} {s : Selector} → Ready r s → (vars : List Got) → length vars ≡ 16 → (t : Operands) (terms : Terms) →
+    terms_in terms ≡ map (term_of vars (operands_of s.template)) (operands_of t) → Termed r s vars (operands_of t) terms
+termed ready vars long t terms made = record { ready = ready; vars = long; made = made }
 
 -- kinds taken from as many columns as T has places
 pub columns-same : {r : Relation} {s : Selector} → Ready r s → (e : Vars) (u : List Operand) {cs : M.Columns} →
@@ -99,7 +97,7 @@ module _ {r : Relation} {s : Selector} {e : Vars} {plan : Plan} (p : Planned r s
 
 module _ {r : Relation} {s : Selector} {e : Vars} {u : List Operand} {terms : Terms} (t : Termed r s e u terms) where
   template-long : length (operands_of s.template) ≡ r.columns
-  template-long = length-firsts (λ (f : Field). f.operand) no_field s.template.count s.template.fields ∙ t.ready.long
+  template-long = length-firsts (λ (o : Operand). o) no_field s.template.count s.template.fields ∙ t.ready.long
 
   pub given-same : (row : Row) → given_by terms row ≡ draft_for e (operands_of s.template) u (values_of r.columns row)
   unfolding draft
@@ -108,10 +106,10 @@ module _ {r : Relation} {s : Selector} {e : Vars} {u : List Operand} {terms : Te
       ∙ map-map (λ (x : Term). term_got x row.cells) (term_of e (operands_of s.template)) u
       ∙ (λ j. map (λ (o : Operand). term_got_lem e (operands_of s.template) r.columns t.vars t.ready.columns template-long row o j) u)
 
-  pub given-all : Complete e (operands_of s.template) u → (row : Row) → T (all is_got (given_by terms row))
+  pub given-all : Complete e (operands_of s.template) u → (row : Row) → T (list_all is_got (given_by terms row))
   given-all complete row =
-      subst (λ (d : List Got). T (all is_got d)) (sym (given-same row))
-      (complete.given (values_of r.columns row) (length-firsts (λ (c : Cell). c.value) no_cell r.columns row.cells ∙ sym template-long))
+      subst (λ (d : List Got). T (list_all is_got d)) (sym (given-same row))
+      (complete.given (values_of r.columns row) (length-firsts (λ (v : Value). v) no_cell r.columns row.cells ∙ sym template-long))
 
   pub tuple-same : (row : Row) → values_in (given_by terms row) ≡ tuple_for e (operands_of s.template) u (values_of r.columns row)
   unfolding tuple_for
@@ -204,7 +202,7 @@ module _ {r : Relation} {s : Selector} {e : Vars} {plan : Plan} (p : Planned r s
           at i low true h =
               let f = fits-there i low h in
               let long : terms.count ≡ r.columns =
-              sym (length-map (terms_in terms) (λ (x : Term). term_got x (row_at i).cells) ∙ length-firsts (λ (q : Component). q.term) no_component terms.count terms.components)
+              sym (length-map (terms_in terms) (λ (x : Term). term_got x (row_at i).cells) ∙ length-firsts (λ (t : Term). t) no_component terms.count terms.components)
               ∙ sym (fits-long (columns_of r.columns r.kinds) (given_by terms (row_at i)) f) ∙ length-firsts (λ (k : ℕ). k) 0 r.columns r.kinds in
               ap (λ (m : ℕ). values_of m (get_or o.rows i no_row)) (sym long)
               ∙ is.made i (subst T (sym (flag_is changed changes-marked i low ∙ h)) tt) (T_of d drafts) (fits-got (columns_of r.columns r.kinds) (given_by terms (row_at i)) f)
@@ -221,7 +219,7 @@ pub origin_kind_lem : (e : Vars) (t : List Operand) (n : ℕ) → length e ≡ 1
     origin_kind (origin_of e t i) ks ≡ get_or (bind t (columns_of n ks) (kinds_of e)) i 0
 origin_kind_lem e t n long short count ks i =
     origin_read (λ s. origin_kind s ks) e t (columns_of n ks) (kinds_of e) 0 (subst (λ (m : ℕ). m ≤ 4) (sym count) short) (count ∙ sym is_n_lem)
-    (λ j h. firsts_at (λ (k : ℕ). k) 0 n ks j 0 (subst (λ (m : ℕ). j < m) is_n_lem h)) (length-map e kind_in ∙ long) (λ j. sym (get_or-map kind_in e j Nothing)) refl i
+    (λ j h. firsts_at (λ (k : ℕ). k) 0 n ks j 0 (subst (λ (m : ℕ). j < m) is_n_lem h)) (length-map e kind_in ∙ long) (λ j. sym (get_or-map kind_in e j None)) refl i
   where
     is_n_lem : length (columns_of n ks) ≡ n
     is_n_lem = length-firsts (λ (k : ℕ). k) 0 n ks

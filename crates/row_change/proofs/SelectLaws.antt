@@ -6,11 +6,12 @@ use mathlib.Core.List.{List, [], ◌∷◌, map, map-map}
 use lib.Dec.{T, eqb, leb, eqb→eq, eqb_refl}
 use lib.ListN.{get_or, length, length-map, get_or-map}
 use Rattle.values.specs.declared.Value.TheVariants.{Int, Text, Loc}
-use Rattle.values.specs.declared.Got.{Got}
-use Rattle.values.specs.declared.Got.TheVariants.{Nothing, One}
+use Rattle.values.specs.Operands.{Got}
+use Rattle.std.specs.Prelude.{None, Some}
 use Rattle.values.specs.declared.Operand.{Operand}
 use Rattle.values.specs.declared.Operand.TheVariants.{Absent, ConstInt, ConstText, ConstLoc, Var, Plus, Formal}
-use Rattle.values.specs.Lists.{all, among}
+use Rattle.values.specs.Lists.{among}
+use Rattle.std.specs.List.{list_all}
 use Rattle.values.specs.Values.{kind_of}
 use Rattle.values.specs.Operands.{Vars, is_got, kind_in, eval, formals, bind}
 use Rattle.values.proofs.Bools.{and_l, and_r, and_in}
@@ -37,20 +38,20 @@ fits-kinds (c ∷ cs) (v ∷ r) h =
 
 -- the kinds of the variables with a row bound: the kinds with its columns bound
 kinds-bind : (e : Vars) (t : List Operand) (cs : Columns) (r : Row) → T (fits_row cs r) → bind t cs (kinds_of e) ≡ kinds_of (row_vars e t r)
-kinds-bind e t cs r h = rw (fits-kinds cs r h, map-bind kind_in t (map One r) e, map-map kind_in One r)
+kinds-bind e t cs r h = rw (fits-kinds cs r h, map-bind kind_in t (map Some r) e, map-map kind_in Some r)
 
 -- a variable has a kind where it is bound
-kind-known : (e : Vars) (i : ℕ) → is_kind (get_or (kinds_of e) i 0) ≡ is_got (get_or e i Nothing)
-kind-known e i = rw (get_or-map kind_in e i Nothing) (go (get_or e i Nothing))
+kind-known : (e : Vars) (i : ℕ) → is_kind (get_or (kinds_of e) i 0) ≡ is_got (get_or e i None)
+kind-known e i = rw (get_or-map kind_in e i None) (go (get_or e i None))
   where
     go : (g : Got) → is_kind (kind_in g) ≡ is_got g
-    go Nothing = refl
-    go (One (Int i)) = refl
-    go (One (Text t)) = refl
-    go (One (Loc l)) = refl
+    go None = refl
+    go (Some (Int i)) = refl
+    go (Some (Text t)) = refl
+    go (Some (Loc l)) = refl
 
 -- and so once the columns are bound, also a formal
-pub variable-kind : (e : Vars) (t : List Operand) (cs : Columns) (i : ℕ) → i < length e → length t ≡ length cs → T (all is_kind cs) → T (is_got (get_or e i Nothing) || among i (formals t)) → T (is_kind (get_or (bind t cs (kinds_of e)) i 0))
+pub variable-kind : (e : Vars) (t : List Operand) (cs : Columns) (i : ℕ) → i < length e → length t ≡ length cs → T (list_all is_kind cs) → T (is_got (get_or e i None) || among i (formals t)) → T (is_kind (get_or (bind t cs (kinds_of e)) i 0))
 variable-kind e t cs i l q k h =
     known-passes is_kind 0 i t cs (kinds_of e) (rw length-map l) q k
     (subst (λ (b : Bool). T (b || among i (formals t))) (sym (kind-known e i)) h)
@@ -76,23 +77,23 @@ operand_fits e Absent h = absurd h
 operand_fits e (ConstInt i) h = tt
 operand_fits e (ConstText t) h = tt
 operand_fits e (ConstLoc l) h = tt
-operand_fits e (Var i) h = rw (get_or-map kind_in e i Nothing) (go (get_or e i Nothing) (rw (get_or-map kind_in e i Nothing) at h))
+operand_fits e (Var i) h = rw (get_or-map kind_in e i None) (go (get_or e i None) (rw (get_or-map kind_in e i None) at h))
   where
     go : (g : Got) → T (is_kind (kind_in g)) → T (of_kind (kind_in g) g)
-    go Nothing h = absurd h
-    go (One v) h = eqb_refl (kind_of v)
+    go None h = absurd h
+    go (Some v) h = eqb_refl (kind_of v)
 operand_fits e (Plus i k) h = absurd h
 operand_fits e (Formal i) h = absurd h
 
-draft-fits : (e : Vars) (u : List Operand) → T (all (has_kind (kinds_of e)) u) → T (fits (map (column_for (kinds_of e)) u) (map (eval e) u))
+draft-fits : (e : Vars) (u : List Operand) → T (list_all (has_kind (kinds_of e)) u) → T (fits (map (column_for (kinds_of e)) u) (map (eval e) u))
 draft-fits e [] h = tt
 draft-fits e (o ∷ u) h =
     and_in (of_kind (column_for (kinds_of e) o) (eval e o)) (fits (map (column_for (kinds_of e)) u) (map (eval e) u))
-    (operand_fits e o (and_l (has_kind (kinds_of e) o) (all (has_kind (kinds_of e)) u) h))
-    (draft-fits e u (and_r (has_kind (kinds_of e) o) (all (has_kind (kinds_of e)) u) h))
+    (operand_fits e o (and_l (has_kind (kinds_of e) o) (list_all (has_kind (kinds_of e)) u) h))
+    (draft-fits e u (and_r (has_kind (kinds_of e) o) (list_all (has_kind (kinds_of e)) u) h))
 
-module _ (e : Vars) (s : Selector) (u : List Operand) (r : Relation) (kinds : T (all (has_kind (bind s.template r.columns (kinds_of e))) u)) where
-  pub selected-kinds : T (all is_kind (selection e s u r).columns)
+module _ (e : Vars) (s : Selector) (u : List Operand) (r : Relation) (kinds : T (list_all (has_kind (bind s.template r.columns (kinds_of e))) u)) where
+  pub selected-kinds : T (list_all is_kind (selection e s u r).columns)
   unfolding selected_columns
   selected-kinds =
       let ks : List ℕ = bind s.template r.columns (kinds_of e) in

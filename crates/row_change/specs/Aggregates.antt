@@ -1,11 +1,10 @@
 -- Aggregates over a list of rows: count, and sum, least and largest of an Int column.
-use Rattle.std.specs.Prelude.{ℕ, Bool, true, false, cond, eqb, ℤ, pos, ◌+ℤ◌, get_or, length}
+use Rattle.std.specs.Prelude.{ℕ, Bool, true, false, cond, eqb, ℤ, pos, ◌+ℤ◌, get_or, length, None, Some}
 use mathlib.Core.List.{List, [], ◌∷◌, map, foldl}
 use Rattle.std.specs.Int.Signed.{lt_z}
 use Rattle.values.specs.declared.Value.{Value}
 use Rattle.values.specs.declared.Value.TheVariants.{Int, Text, Loc}
-use Rattle.values.specs.declared.Got.{Got}
-use Rattle.values.specs.declared.Got.TheVariants.{Nothing, One}
+use Rattle.values.specs.Operands.{Got}
 use Rattle.values.specs.Values.{in32}
 use Rattle.values.specs.Operands.{fitting}
 use Rattle.rows.specs.declared.Function.{Function}
@@ -36,13 +35,13 @@ larger j k = cond (lt_z j k) k j
 
 -- of no rows there is none
 abbrev pub best : (ℤ → ℤ → ℤ) → List ℤ → Got
-best f [] = Nothing
-best f (k ∷ l) = One (Int (foldl f k l))
+best f [] = None
+best f (k ∷ l) = Some (Int (foldl f k l))
 
 -- the result, if there is one within 32 bits. A sum is judged whole: partial sums may leave them
 unfoldable pub aggregated : Function → ℕ → List Row → Got
-aggregated Unused i rs = Nothing
-aggregated Count i rs = One (Int (pos (length rs)))
+aggregated Unused i rs = None
+aggregated Count i rs = Some (Int (pos (length rs)))
 aggregated Sum i rs = fitting (in32 (total (column i rs))) (total (column i rs))
 aggregated Least i rs = best smaller (column i rs)
 aggregated Largest i rs = best larger (column i rs)

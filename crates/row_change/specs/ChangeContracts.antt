@@ -1,9 +1,10 @@
 -- What the functions on relations give back, part by part.
-use Rattle.std.specs.Prelude.{ℕ, ◌≡◌, Bool, false, not, ◌&&◌, ◌||◌, List, [], ◌∷◌, map, T, ltb, length, get_or}
+use Rattle.std.specs.Prelude.{ℕ, ◌≡◌, Bool, false, not, ◌&&◌, ◌||◌, List, [], ◌∷◌, map, T, ltb, length, get_or, Option, Some, is_some}
 use Rattle.std.specs.Bool.{beq}
 use Rattle.values.specs.declared.Operand.{Operand}
-use Rattle.values.specs.Lists.{all, keep, firsts}
-use Rattle.values.specs.declared.Got.{Got}
+use Rattle.values.specs.Lists.{keep, firsts}
+use Rattle.std.specs.List.{list_all}
+use Rattle.values.specs.Operands.{Got}
 use Rattle.values.specs.Operands.{Vars, is_got, values_in, value_in}
 use Rattle.rows.specs.declared.Row.{Row}
 use Rattle.rows.specs.declared.Relation.{Relation}
@@ -16,7 +17,6 @@ use Rattle.rows.specs.View.{no_row, values_of, columns_of, relation_of, Shaped}
 use Rattle.rows.specs.Plans.{term_got, terms_in, plan_hits}
 use Rattle.row_change.specs.declared.Made.{Made}
 use Rattle.row_change.specs.declared.Renewed.{Renewed}
-use Rattle.row_change.specs.declared.Marked.{Marked}
 use Rattle.row_change.specs.declared.Swept.{Swept}
 use Rattle.row_change.specs.Changes.{draft_for}
 
@@ -33,12 +33,12 @@ given_by t r = map (λ (x : Term). term_got x r.cells) (terms_in t)
 -- a cell made of what is given for a column of kind `k`
 pub record MadeIs (k : ℕ) (g : Got) (m : Made) : Type 0 where
   pub fits : m.fits ≡ of_kind k g
-  pub value : m.cell.value ≡ value_in g
+  pub value : m.cell ≡ value_in g
 
 -- the new row of a row, and whether it fits
 pub record RenewedIs (t : Terms) (n : ℕ) (ks : List ℕ) (r : Row) (o : Renewed) : Type 0 where
   pub fits : o.fits ≡ fits (columns_of n ks) (given_by t r)
-  pub row : T (all is_got (given_by t r)) → values_of t.count o.row ≡ values_in (given_by t r)
+  pub row : T (list_all is_got (given_by t r)) → values_of t.count o.row ≡ values_in (given_by t r)
 
 -- ── one pass over the rows ──
 
@@ -47,14 +47,14 @@ abbrev pub sweeps : Plan → Bool → Bool → Terms → ℕ → List ℕ → Ro
 sweeps p d any t n ks r = plan_hits p r && (not d || (any || fits (columns_of n ks) (given_by t r)))
 
 -- one row: whether it is marked, and with drafts what stands at its place if it is
-pub record JudgedRow (p : Plan) (d any : Bool) (t : Terms) (n : ℕ) (ks : List ℕ) (r : Row) (o : Marked) : Type 0 where
-  pub marked : o.marked ≡ sweeps p d any t n ks r
-  pub row : T d → T (all is_got (given_by t r)) → T o.marked → values_of t.count o.row ≡ values_in (given_by t r)
+pub record JudgedRow (p : Plan) (d any : Bool) (t : Terms) (n : ℕ) (ks : List ℕ) (r : Row) (o : Option Row) : Type 0 where
+  pub marked : is_some o ≡ sweeps p d any t n ks r
+  pub row : (new : Row) → o ≡ Some new → T d → T (list_all is_got (given_by t r)) → values_of t.count new ≡ values_in (given_by t r)
 
 -- of the first `m` rows those that `sweeps` says are marked; with drafts a marked row gives way to the new one at its place; rows that are not marked stay
 pub record SweptIs (p : Plan) (d any : Bool) (t : Terms) (n : ℕ) (ks : List ℕ) (m : ℕ) (rs : List Row) (o : Swept) : Type 0 where
   pub flags : (k : ℕ) → get_or o.flags k false ≡ (ltb k m && sweeps p d any t n ks (get_or rs k no_row))
-  pub made : (k : ℕ) → T (get_or o.flags k false) → T d → T (all is_got (given_by t (get_or rs k no_row))) →
+  pub made : (k : ℕ) → T (get_or o.flags k false) → T d → T (list_all is_got (given_by t (get_or rs k no_row))) →
       values_of t.count (get_or o.rows k no_row) ≡ values_in (given_by t (get_or rs k no_row))
   pub rest : (k : ℕ) → get_or o.flags k false ≡ false → get_or o.rows k no_row ≡ get_or rs k no_row
 
@@ -70,4 +70,4 @@ sift w (b ∷ bs) (a ∷ l) = keep (beq b w) a (sift w bs l)
 
 -- t gives a value for each of its components, whatever the row of T's length
 pub record Complete (e : Vars) (t u : List Operand) : Type 0 where
-  pub given : (r : M.Row) → length r ≡ length t → T (all is_got (draft_for e t u r))
+  pub given : (r : M.Row) → length r ≡ length t → T (list_all is_got (draft_for e t u r))

@@ -22,13 +22,10 @@ pub fn append(r: Relation, s: Relation) -> Relation
     requires { Shaped r × Shaped s × (s.columns ≡ r.columns) × (r.count + s.count ≤ 16) }
     ensures { Holds result (relation_of r).columns ((relation_of r).rows ++ (relation_of s).rows) }
 {
-    let more = s.count;
     let mut o = r;
-    let mut i: usize = 0;
-    while i < more {
-        let row = s.rows[i];
-        o = push(o, row);
-        i += 1;
+    for i in 0..s.count {
+        let next = push(o, s.rows[i]);
+        o = next;
     }
     o
 }

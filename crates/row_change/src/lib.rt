@@ -1,29 +1,23 @@
 // What steps append to one relation, and the rows of it that they keep. All by value.
 #![tactic(auto)]
 
-use rows::{Cell, Row};
+use rows::Row;
+use values::Value;
 
 pub mod appending;
 pub mod sifting;
 
-// A cell made for a column, and whether there is a value of its kind.
+// A cell made for a column, and whether there is a value of its kind. Both, since a select takes the cell even where it does not fit.
 #[derive(Clone, Copy)]
 pub struct Made {
     pub fits: bool,
-    pub cell: Cell,
+    pub cell: Value,
 }
 
-// What t gives for a row, and whether that fits.
+// What t gives for a row, and whether that fits. Both, for the same reason.
 #[derive(Clone, Copy)]
 pub struct Renewed {
     pub fits: bool,
-    pub row: Row,
-}
-
-// Whether a row is marked in a pass, and what stands at its place if it is.
-#[derive(Clone, Copy)]
-pub struct Marked {
-    pub marked: bool,
     pub row: Row,
 }
 

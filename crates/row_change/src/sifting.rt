@@ -11,23 +11,18 @@ pub fn sifted(r: Relation, flags: [bool; 16], want: bool) -> Relation
     requires { Shaped r }
     ensures { Holds result (relation_of r).columns (sift want (marks r.count flags) (relation_of r).rows) }
 {
-    let count = r.count;
     let mut rows = r.rows;
     let mut found: usize = 0;
-    let mut i: usize = 0;
-    while i < count {
-        let row = rows[i];
+    for i in 0..r.count {
         let flag = flags[i];
-        i += 1;
         if flag == want {
-            rows[found] = row;
+            rows[found] = rows[i];
             found += 1;
         }
     }
-    let columns = r.columns;
     let kinds = r.kinds;
     Relation {
-        columns,
+        columns: r.columns,
         kinds,
         rows,
         count: found,
@@ -37,14 +32,5 @@ pub fn sifted(r: Relation, flags: [bool; 16], want: bool) -> Relation
 pub fn count_marks(flags: [bool; 16]) -> usize
     ensures { result ≡ count (λ (b : Bool). b) flags }
 {
-    let mut n: usize = 0;
-    let mut i: usize = 0;
-    while i < 16 {
-        let flag = flags[i];
-        i += 1;
-        if flag {
-            n += 1;
-        }
-    }
-    n
+    flags.iter().filter(|flag| **flag).count()
 }

@@ -2,7 +2,7 @@
 #![tactic(auto)]
 
 ghost use Rattle.std.specs.Prelude.{◌≡◌, ◌<◌, get_or};
-ghost use Rattle.values.specs.Operands.{vars_of, bind};
+ghost use Rattle.values.specs.Operands.{bind};
 ghost use Rattle.rows.specs.View.{no_field, columns_of, operands_of, Short};
 ghost use Rattle.rows.specs.Plans.{origin_kind};
 ghost use Rattle.row_change.specs.Changes.{kinds_of, column_for, selected_columns};
@@ -10,27 +10,21 @@ ghost use Rattle.row_change.specs.Changes.{kinds_of, column_for, selected_column
 use row_terms::variable_origin;
 use rows::{Operands, Origin};
 use values::kinds::{INT, LOC, TEXT, kind_in};
-use values::{Operand, Slot};
+use values::{Operand, Vars};
 
 fn origin_kind(s: Origin, kinds: [u8; 4]) -> u8
     ensures { result ≡ origin_kind s kinds }
 {
     match s {
         Origin::Fixed(g) => kind_in(g),
-        Origin::Column(i) => {
-            let at = i as usize;
-            if 4 <= at {
-                return 0;
-            }
-            kinds[at]
-        }
+        Origin::Column(i) => kinds.get(i as usize).copied().unwrap_or(0),
     }
 }
 
 // The kind of a component of t; 0, which is no kind, of one that gives nothing.
-fn column_kind(op: Operand, template: Operands, kinds: [u8; 4], vars: [Slot; 16]) -> u8
+fn column_kind(op: Operand, template: Operands, kinds: [u8; 4], vars: Vars) -> u8
     requires { Short template }
-    ensures { result ≡ column_for (bind (operands_of template) (columns_of template.count kinds) (kinds_of (vars_of vars))) op }
+    ensures { result ≡ column_for (bind (operands_of template) (columns_of template.count kinds) (kinds_of vars)) op }
 {
     match op {
         Operand::ConstInt(_) => INT,
@@ -42,19 +36,17 @@ fn column_kind(op: Operand, template: Operands, kinds: [u8; 4], vars: [Slot; 16]
     }
 }
 
-fn kind_for(t: Operands, i: usize, template: Operands, kinds: [u8; 4], vars: [Slot; 16]) -> u8
+fn kind_for(t: Operands, i: usize, template: Operands, kinds: [u8; 4], vars: Vars) -> u8
     requires { Short template × (i < 4) }
-    ensures { result ≡ column_for (bind (operands_of template) (columns_of template.count kinds) (kinds_of (vars_of vars))) (get_or t.fields i no_field).operand }
+    ensures { result ≡ column_for (bind (operands_of template) (columns_of template.count kinds) (kinds_of vars)) (get_or t.fields i no_field) }
 {
-    let f = t.fields[i];
-    let op = f.operand;
-    column_kind(op, template, kinds, vars)
+    column_kind(t.fields[i], template, kinds, vars)
 }
 
-// One column for every component of t.
-pub fn selected_kinds(t: Operands, template: Operands, kinds: [u8; 4], vars: [Slot; 16]) -> [u8; 4]
+// One column for every component of t. Place by place, as in `terms_of` of row_terms.
+pub fn selected_kinds(t: Operands, template: Operands, kinds: [u8; 4], vars: Vars) -> [u8; 4]
     requires { Short t × Short template }
-    ensures { columns_of t.count result ≡ selected_columns (vars_of vars) (operands_of template) (operands_of t) (columns_of template.count kinds) }
+    ensures { columns_of t.count result ≡ selected_columns vars (operands_of template) (operands_of t) (columns_of template.count kinds) }
 {
     let a = kind_for(t, 0, template, kinds, vars);
     let b = kind_for(t, 1, template, kinds, vars);

@@ -1,5 +1,5 @@
 -- Wants looked at field by field: as many as the rule says, for T and rows of any lengths. Assumes nothing.
-use Prim.Native.Nat.{ℕ, ◌≤◌, ◌<◌}
+use Prim.Native.Nat.{ℕ, ◌≤◌, ◌<◌, min}
 use mathlib.Core.Path.{◌≡◌, refl, sym, ap, ap₂, ◌∙◌}
 use mathlib.Core.Bool.{Bool, true, false, cond, ◌&&◌}
 use mathlib.Core.List.{List}
@@ -15,12 +15,10 @@ use Rattle.values.specs.Operands.{Vars}
 use Rattle.values.proofs.Bools.{and_comm}
 use Rattle.values.proofs.Firsts.{length-firsts, firsts_at}
 use Rattle.values.proofs.LookLaws.{looked-alike, agree-alike, looked-both}
-use Rattle.rows.specs.declared.Cell.{Cell}
 use Rattle.rows.specs.declared.Row.{Row}
-use Rattle.rows.specs.declared.Field.{Field}
 use Rattle.rows.specs.declared.Operands.{Operands}
 use Rattle.rows.specs.declared.Want.TheVariants.{Anything}
-use Rattle.rows.specs.declared.Wanted.{Wanted}
+use Rattle.rows.specs.declared.Want.{Want}
 use Rattle.rows.specs.Matching.{field_matches, matches, looked}
 use Rattle.rows.specs.Looking.{no_value, MatchedIs}
 use Rattle.rows.specs.View.{no_cell, no_field, values_of, operands_of}
@@ -28,32 +26,28 @@ use Rattle.rows.specs.Plans.{want_of, meets, wants_met, no_wanted, wants_in, Wan
 use Rattle.rows.proofs.Agreeing.{firsts-unlike}
 use Rattle.rows.proofs.PlanLaws.{want_meets}
 
-abbrev operands_in : ℕ → List Field → List Operand
-operands_in n fs = firsts (λ (f : Field). f.operand) no_field n fs
+abbrev operands_in : ℕ → List Operand → List Operand
+operands_in n fs = firsts (λ (o : Operand). o) no_field n fs
 
-long_wants : (n : ℕ) (ws : List Wanted) → length (wants_in n ws) ≡ n
-long_wants n ws = length-firsts (λ (w : Wanted). w.want) no_wanted n ws
+long_wants : (n : ℕ) (ws : List Want) → length (wants_in n ws) ≡ n
+long_wants n ws = length-firsts (λ (w : Want). w) no_wanted n ws
 
 long-values : (n : ℕ) (r : Row) → length (values_of n r) ≡ n
-long-values n r = length-firsts (λ (c : Cell). c.value) no_cell n r.cells
+long-values n r = length-firsts (λ (v : Value). v) no_cell n r.cells
 
-long_operands : (n : ℕ) (fs : List Field) → length (operands_in n fs) ≡ n
-long_operands n fs = length-firsts (λ (f : Field). f.operand) no_field n fs
-
-pub smaller-first : (m n s : ℕ) → s ≡ cond (ltb m n) m n → s ≤ m
-smaller-first m n s = go (ltb m n) refl
-  where
-    go : (b : Bool) → ltb m n ≡ b → s ≡ cond b m n → s ≤ m
-    go true q h = omega (arith, h)
-    go false q h = omega (arith, h, ltb-false m n q)
+long_operands : (n : ℕ) (fs : List Operand) → length (operands_in n fs) ≡ n
+long_operands n fs = length-firsts (λ (o : Operand). o) no_field n fs
 
 -- all four places are the arrays themselves
-pub four-met : (ws : List Wanted) (row : Row) → length ws ≡ 4 → length row.cells ≡ 4 → agree meets (wants_in 4 ws) (values_of 4 row) ≡ wants_met ws row.cells
+pub four-met : (ws : List Want) (row : Row) → length ws ≡ 4 → length row.cells ≡ 4 → agree meets (wants_in 4 ws) (values_of 4 row) ≡ wants_met ws row.cells
 four-met ws row w c =
     agree-alike meets _ (wants_in 4 ws) (values_of 4 row) ws row.cells Anything no_value no_wanted no_cell (long_wants 4 ws ∙ sym w) (long-values 4 row ∙ sym c)
-    (λ i h k. ap₂ meets (firsts_at (λ (w : Wanted). w.want) no_wanted 4 ws i Anything (omega (arith, long_wants 4 ws))) (firsts_at (λ (c : Cell). c.value) no_cell 4 row.cells i no_value (omega (arith, long-values 4 row))))
+    (λ i h k. ap₂ meets (firsts_at (λ (w : Want). w) no_wanted 4 ws i Anything (omega (arith, long_wants 4 ws))) (firsts_at (λ (v : Value). v) no_cell 4 row.cells i no_value (omega (arith, long-values 4 row))))
 
-module _ (e : Vars) (t : Operands) (ws : List Wanted) (row : Row) (short : t.count ≤ 4) (are : WantsAre e t ws) where
+min-cond : (m n : ℕ) → min m n ≡ cond (ltb m n) m n
+min-cond m n = grind arith
+
+module _ (e : Vars) (t : Operands) (ws : List Want) (row : Row) (short : t.count ≤ 4) (are : WantsAre e t ws) where
   abbrev test : Operand → Value → Bool
   test = field_matches e
 
@@ -62,10 +56,10 @@ module _ (e : Vars) (t : Operands) (ws : List Wanted) (row : Row) (short : t.cou
       meets (get_or (wants_in n ws) i Anything) (get_or (values_of n row) i no_value) ≡ test (get_or (operands_in n t.fields) i Absent) (get_or (values_of n row) i no_value)
   met_at n few i h =
       let v = get_or (values_of n row) i no_value in
-      let o = (get_or t.fields i no_field).operand in
-      ap (λ w. meets w v) (firsts_at (λ (w : Wanted). w.want) no_wanted n ws i Anything h ∙ are.places i (omega arith) ∙ ap (λ b. cond b (want_of e o) Anything) (lt-ltb i t.count (omega arith)))
+      let o = (get_or t.fields i no_field) in
+      ap (λ w. meets w v) (firsts_at (λ (w : Want). w) no_wanted n ws i Anything h ∙ are.places i (omega arith) ∙ ap (λ b. cond b (want_of e o) Anything) (lt-ltb i t.count (omega arith)))
       ∙ want_meets e o v
-      ∙ ap (λ x. test x v) (sym (firsts_at (λ (f : Field). f.operand) no_field n t.fields i Absent h))
+      ∙ ap (λ x. test x v) (sym (firsts_at (λ (o : Operand). o) no_field n t.fields i Absent h))
 
   looks : (n : ℕ) → n ≤ t.count → looked_at meets (wants_in n ws) (values_of n row) ≡ looked_at test (operands_in n t.fields) (values_of n row)
   looks n few =
@@ -78,21 +72,17 @@ module _ (e : Vars) (t : Operands) (ws : List Wanted) (row : Row) (short : t.cou
       (λ i h k. met_at n few i (omega (arith, h, long_wants n ws)))
 
   -- what the loop gives for the shorter of T and row
-  module _ (columns n : ℕ) (shorter : n ≡ cond (ltb t.count columns) t.count columns) {b : Bool} {k : ℕ}
+  module _ (columns n : ℕ) (shorter : n ≡ min t.count columns) {b : Bool} {k : ℕ}
       (eb : b ≡ agree meets (wants_in n ws) (values_of n row)) (ek : k ≡ looked_at meets (wants_in n ws) (values_of n row)) where
     within : n ≤ t.count
-    within = smaller-first t.count columns n shorter
+    within = omega arith
 
     as_long : t.count ≡ columns → n ≡ t.count
-    as_long same = go (ltb t.count columns) shorter
-      where
-        go : (c : Bool) → n ≡ cond c t.count columns → n ≡ t.count
-        go true h = h
-        go false h = h ∙ sym same
+    as_long same = omega arith
 
     looked-is : k ≡ looked e (operands_of t) (values_of columns row)
     unfolding looked
-    looked-is = ek ∙ looks n within ∙ looked-both test (λ (f : Field). f.operand) no_field (λ (c : Cell). c.value) no_cell t.count columns n t.fields row.cells shorter
+    looked-is = ek ∙ looks n within ∙ looked-both test (λ (o : Operand). o) no_field (λ (v : Value). v) no_cell t.count columns n t.fields row.cells (shorter ∙ min-cond t.count columns)
 
     matches-is : (c : Bool) → eqb t.count columns ≡ c → (b && c) ≡ matches e (operands_of t) (values_of columns row)
     unfolding matches
@@ -103,7 +93,7 @@ module _ (e : Vars) (t : Operands) (ws : List Wanted) (row : Row) (short : t.cou
         ∙ ap (λ (i : ℕ). agree test (operands_in i t.fields) (values_of i row)) (as_long (eqb-true t.count columns q))
         ∙ ap (λ (i : ℕ). agree test (operands_of t) (values_of i row)) (eqb-true t.count columns q)
     matches-is false q =
-        and_comm b false ∙ firsts-unlike test (λ (f : Field). f.operand) no_field (λ (c : Cell). c.value) no_cell t.count columns t.fields row.cells (eqb-false t.count columns q)
+        and_comm b false ∙ firsts-unlike test (λ (o : Operand). o) no_field (λ (v : Value). v) no_cell t.count columns t.fields row.cells (eqb-false t.count columns q)
 
     pub matched_is : MatchedIs e (operands_of t) (values_of columns row) (record { matches = b && eqb t.count columns; looked = k })
     matched_is = record { matches = matches-is (eqb t.count columns) refl; looked = looked-is }

@@ -3,20 +3,19 @@
 
 ghost use Rattle.std.specs.Prelude.{◌≡◌, ◌≤◌, ◌<◌};
 ghost use Rattle.values.specs.Lists.{agree, looked_at};
-ghost use Rattle.values.specs.Operands.{vars_of};
 ghost use Rattle.rows.specs.Matching.{is_same};
 ghost use Rattle.rows.specs.Looking.{MatchedIs};
 ghost use Rattle.rows.specs.View.{operands_of, values_of, Short};
 ghost use Rattle.rows.specs.Plans.{want_of, want_at, meets, wants_in, wants_met, WantsAre};
 
-use rows::{Matched, Operands, Row, Want, Wanted};
+use rows::{Matched, Operands, Row, Want};
+use std::cmp::Ordering;
 use value_eval::eval_in;
 use value_order::compare::got_order;
-use values::counts::smaller;
-use values::{Got, Operand, Order, Slot, Value};
+use values::{Operand, Value, Vars};
 
-pub fn want_of(op: Operand, vars: [Slot; 16]) -> Want
-    ensures { result ≡ want_of (vars_of vars) op }
+pub fn want_of(op: Operand, vars: Vars) -> Want
+    ensures { result ≡ want_of vars op }
 {
     match op {
         Operand::Formal(_) => Want::Anything,
@@ -24,15 +23,10 @@ pub fn want_of(op: Operand, vars: [Slot; 16]) -> Want
     }
 }
 
-pub fn is_same(o: Order) -> bool
+pub fn is_same(o: Option<Ordering>) -> bool
     ensures { result ≡ is_same o }
 {
-    match o {
-        Order::Unlike => false,
-        Order::Before => false,
-        Order::Same => true,
-        Order::After => false,
-    }
+    o == Some(Ordering::Equal)
 }
 
 pub fn met(w: Want, v: Value) -> bool
@@ -40,28 +34,24 @@ pub fn met(w: Want, v: Value) -> bool
 {
     match w {
         Want::Anything => true,
-        Want::Like(g) => is_same(got_order(g, Got::One(v))),
+        Want::Like(g) => is_same(got_order(g, Some(v))),
     }
 }
 
 // The want at a place of T; past its end anything will do.
-fn wanted_at(template: Operands, i: usize, vars: [Slot; 16]) -> Wanted
+fn wanted_at(template: Operands, i: usize, vars: Vars) -> Want
     requires { i < 4 }
-    ensures { result.want ≡ want_at (vars_of vars) template i }
+    ensures { result ≡ want_at vars template i }
 {
     if template.count <= i {
-        let want = Want::Anything;
-        return Wanted { want };
+        return Want::Anything;
     }
-    let f = template.fields[i];
-    let op = f.operand;
-    let want = want_of(op, vars);
-    Wanted { want }
+    want_of(template.fields[i], vars)
 }
 
-pub fn wants_of(template: Operands, vars: [Slot; 16]) -> [Wanted; 4]
+pub fn wants_of(template: Operands, vars: Vars) -> [Want; 4]
     requires { Short template }
-    ensures { WantsAre (vars_of vars) template result }
+    ensures { WantsAre vars template result }
 {
     let a = wanted_at(template, 0, vars);
     let b = wanted_at(template, 1, vars);
@@ -71,19 +61,12 @@ pub fn wants_of(template: Operands, vars: [Slot; 16]) -> [Wanted; 4]
 }
 
 // The one loop of matching: the first n fields, from the first on. The row is left at the first field that does not match.
-pub fn look_at_fields(wants: [Wanted; 4], n: usize, row: Row) -> Matched
+pub fn look_at_fields(wants: [Want; 4], n: usize, row: Row) -> Matched
     requires { n ≤ 4 }
     ensures { (result.matches ≡ agree meets (wants_in n wants) (values_of n row)) × (result.looked ≡ looked_at meets (wants_in n wants) (values_of n row)) }
 {
-    let mut i: usize = 0;
-    while i < n {
-        let w = wants[i];
-        let c = row.cells[i];
-        let want = w.want;
-        let v = c.value;
-        if met(want, v) {
-            i += 1;
-        } else {
+    for i in 0..n {
+        if !met(wants[i], row.cells[i]) {
             return Matched {
                 matches: false,
                 looked: i + 1, // the failing field was looked at, too
@@ -97,7 +80,7 @@ pub fn look_at_fields(wants: [Wanted; 4], n: usize, row: Row) -> Matched
 }
 
 // For steps, which want the answer alone: four places, whatever T's length, so that the loop has a fixed bound. Past T's end anything will do, so the count is not T's.
-pub fn row_matches(wants: [Wanted; 4], row: Row) -> bool
+pub fn row_matches(wants: [Want; 4], row: Row) -> bool
     ensures { result ≡ wants_met wants row.cells }
 {
     let m = look_at_fields(wants, 4, row);
@@ -105,13 +88,13 @@ pub fn row_matches(wants: [Wanted; 4], row: Row) -> bool
 }
 
 // Matching as the rule has it, also for a row of another length than T's: the fields that both have are looked at, and such a row does not match.
-pub fn match_row(template: Operands, vars: [Slot; 16], columns: usize, row: Row) -> Matched
+pub fn match_row(template: Operands, vars: Vars, columns: usize, row: Row) -> Matched
     requires { Short template × (columns ≤ 4) }
-    ensures { MatchedIs (vars_of vars) (operands_of template) (values_of columns row) result }
+    ensures { MatchedIs vars (operands_of template) (values_of columns row) result }
 {
     let count = template.count;
     let wants = wants_of(template, vars);
-    let m = look_at_fields(wants, smaller(count, columns), row);
+    let m = look_at_fields(wants, count.min(columns), row);
     Matched {
         matches: m.matches & (count == columns),
         looked: m.looked,

@@ -2,41 +2,34 @@
 #![tactic(auto)]
 
 ghost use Rattle.std.specs.Prelude.{◌≡◌, ◌||◌, length};
-ghost use Rattle.values.specs.Operands.{vars_of};
 ghost use Rattle.rows.specs.Matching.{agrees, hits};
 ghost use Rattle.rows.specs.View.{selector_of, values_of, Short};
 ghost use Rattle.rows.specs.Plans.{is_anything, wants_met, plan_hits};
 
 use row_match::{is_same, row_matches, wants_of};
 use row_terms::{term_got, term_of};
-use rows::{Plan, Row, Selector, Test, Want, Wanted};
+use rows::{Plan, Row, Selector, Test, Want};
+use std::cmp::Ordering;
 use value_order::compare::got_order;
-use values::{Order, Slot};
+use values::Vars;
 
 // ---- any row will do
 
-fn takes_any(w: Wanted) -> bool
-    ensures { result ≡ is_anything w.want }
+fn takes_any(w: Want) -> bool
+    ensures { result ≡ is_anything w }
 {
-    let want = w.want;
-    match want {
-        Want::Anything => true,
-        Want::Like(_) => false,
-    }
+    w == Want::Anything
 }
 
 // Every row matches.
-fn free_wants(wants: [Wanted; 4]) -> bool
+fn free_wants(wants: [Want; 4]) -> bool
     ensures { (row : Row) → length row.cells ≡ 4 → (result || wants_met wants row.cells) ≡ wants_met wants row.cells }
 {
-    let a = wants[0];
-    let b = wants[1];
-    let c = wants[2];
-    let d = wants[3];
+    let [a, b, c, d] = wants;
     takes_any(a) & takes_any(b) & takes_any(c) & takes_any(d)
 }
 
-fn row_meets(free: bool, wants: [Wanted; 4], row: Row) -> bool
+fn row_meets(free: bool, wants: [Want; 4], row: Row) -> bool
     ensures { result ≡ (free || wants_met wants row.cells) }
 {
     if free {
@@ -47,60 +40,48 @@ fn row_meets(free: bool, wants: [Wanted; 4], row: Row) -> bool
 
 // ---- the predicate, and the rows selected
 
-fn test_holds(t: Test, o: Order) -> bool
+fn test_holds(t: Test, o: Option<Ordering>) -> bool
     ensures { result ≡ agrees t o }
 {
     match t {
         Test::Always => true,
         Test::Equal => is_same(o),
         Test::Unequal => match o {
-            Order::Unlike => false, // unlike kinds are neither equal nor unequal
-            Order::Before => true,
-            Order::Same => false,
-            Order::After => true,
+            None => false, // unlike kinds are neither equal nor unequal
+            Some(by) => by.is_ne(),
         },
         Test::Less => match o {
-            Order::Unlike => false,
-            Order::Before => true,
-            Order::Same => false,
-            Order::After => false,
+            None => false,
+            Some(by) => by.is_lt(),
         },
         Test::AtMost => match o {
-            Order::Unlike => false,
-            Order::Before => true,
-            Order::Same => true,
-            Order::After => false,
+            None => false,
+            Some(by) => by.is_le(),
         },
     }
 }
 
-pub fn plan_of(s: Selector, vars: [Slot; 16]) -> Plan
+pub fn plan_of(s: Selector, vars: Vars) -> Plan
     requires { Short s.template }
-    ensures { (row : Row) → length row.cells ≡ 4 → plan_hits result row ≡ hits (vars_of vars) (selector_of s) (values_of s.template.count row) }
+    ensures { (row : Row) → length row.cells ≡ 4 → plan_hits result row ≡ hits vars (selector_of s) (values_of s.template.count row) }
 {
     let template = s.template;
     let wants = wants_of(template, vars);
-    let test = s.test;
-    let left = s.left;
-    let right = s.right;
     Plan {
         wants,
         free: free_wants(wants),
-        test,
-        left: term_of(left, template, vars),
-        right: term_of(right, template, vars),
+        test: s.test,
+        left: term_of(s.left, template, vars),
+        right: term_of(s.right, template, vars),
     }
 }
 
 pub fn row_hits(p: Plan, row: Row) -> bool
     ensures { result ≡ plan_hits p row }
 {
-    let wants = p.wants;
-    if row_meets(p.free, wants, row) {
-        let test = p.test;
-        let left = p.left;
-        let right = p.right;
-        return test_holds(test, got_order(term_got(left, row), term_got(right, row)));
-    }
-    false
+    row_meets(p.free, p.wants, row)
+        && test_holds(
+            p.test,
+            got_order(term_got(p.left, row), term_got(p.right, row)),
+        )
 }

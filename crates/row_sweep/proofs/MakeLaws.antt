@@ -5,12 +5,11 @@ use mathlib.Core.Bool.{◌&&◌, ◌||◌}
 use mathlib.Core.List.{List, [], ◌∷◌, map-map}
 use lib.Dec.{eqb, leb}
 use lib.ListN.{get_or}
-use Rattle.values.specs.declared.Got.{Got}
+use Rattle.values.specs.Operands.{Got}
 use Rattle.values.specs.Operands.{value_in}
 use Rattle.values.proofs.Firsts.{map-firsts}
-use Rattle.rows.specs.declared.Cell.{Cell}
+use Rattle.values.specs.declared.Value.{Value}
 use Rattle.rows.specs.declared.Row.{Row}
-use Rattle.rows.specs.declared.Component.{Component}
 use Rattle.rows.specs.declared.Term.{Term}
 use Rattle.rows.specs.declared.Terms.{Terms}
 use Rattle.rows.specs.Fit.{of_kind, fits}
@@ -24,7 +23,7 @@ use Rattle.row_change.proofs.SweepLaws.{four-agree}
 
 module _ (t : Terms) (n : ℕ) (ks : List ℕ) (r : Row) (short : t.count ≤ 4) (low : n ≤ 4) (a b c d : Made) where
   abbrev given : ℕ → Got
-  given i = term_got (get_or t.components i no_component).term r.cells
+  given i = term_got (get_or t.components i no_component) r.cells
 
   pub renewed-is : MadeIs (get_or ks 0 0) (given 0) a → MadeIs (get_or ks 1 0) (given 1) b → MadeIs (get_or ks 2 0) (given 2) c → MadeIs (get_or ks 3 0) (given 3) d →
       RenewedIs t n ks r (record {
@@ -34,11 +33,11 @@ module _ (t : Terms) (n : ℕ) (ks : List ℕ) (r : Row) (short : t.count ≤ 4)
   renewed-is pa pb pc pd =
       record {
         fits =
-            four-agree of_kind (λ (k : ℕ). k) 0 (λ (p : Component). term_got p.term r.cells) no_component n ks t.components t.count low pa.fits pb.fits pc.fits pd.fits
-            ∙ ap (fits (columns_of n ks)) (sym (map-firsts (λ (x : Term). term_got x r.cells) (λ (p : Component). p.term) no_component t.count t.components));
+            four-agree of_kind (λ (k : ℕ). k) 0 (λ (p : Term). term_got p r.cells) no_component n ks t.components t.count low pa.fits pb.fits pc.fits pd.fits
+            ∙ ap (fits (columns_of n ks)) (sym (map-firsts (λ (x : Term). term_got x r.cells) (λ (t : Term). t) no_component t.count t.components));
         row =
             λ got.
-            fours (λ (x : Cell). x.value) no_cell (λ (x : Term). value_in (term_got x r.cells)) (λ (p : Component). p.term) no_component t.count t.components short
+            fours (λ (v : Value). v) no_cell (λ (x : Term). value_in (term_got x r.cells)) (λ (t : Term). t) no_component t.count t.components short
             pa.value pb.value pc.value pd.value
             ∙ sym (map-map value_in (λ (x : Term). term_got x r.cells) (terms_in t)) ∙ all_there (given_by t r) got;
       }

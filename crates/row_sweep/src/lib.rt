@@ -5,32 +5,27 @@ ghost use Rattle.std.specs.Prelude.{◌≤◌};
 ghost use Rattle.rows.specs.Plans.{got_at, term_got};
 ghost use Rattle.row_change.specs.ChangeContracts.{MadeIs, RenewedIs, JudgedRow, SweptIs};
 
-use row_change::{Made, Marked, Renewed, Swept};
+use row_change::{Made, Renewed, Swept};
 use row_plan::row_hits;
 use row_terms::origin_got;
-use rows::{Cell, Origin, Plan, Relation, Row, Term, Terms, fits_column};
+use rows::{Origin, Plan, Relation, Row, Term, Terms, fits_column};
 use value_eval::plus;
-use values::{Got, Value};
+use values::Value;
 
 // ---- new rows
 
-fn made_of(g: Got, kind: u8) -> Made
+fn made_of(g: Option<Value>, kind: u8) -> Made
     ensures { MadeIs kind g result }
 {
     match g {
-        Got::Nothing => {
-            let cell = Cell {
-                value: Value::Int(0),
-            };
-            Made { fits: false, cell }
-        }
-        Got::One(v) => {
-            let cell = Cell { value: v };
-            Made {
-                fits: fits_column(kind, v),
-                cell,
-            }
-        }
+        None => Made {
+            fits: false,
+            cell: Value::Int(0),
+        },
+        Some(v) => Made {
+            fits: fits_column(kind, v),
+            cell: v,
+        },
     }
 }
 
@@ -40,13 +35,12 @@ fn made_from(row: Row, at: u8, kind: u8) -> Made
 {
     let i = at as usize;
     if 4 <= i {
-        return made_of(Got::Nothing, kind);
+        return made_of(None, kind);
     }
-    let cell = row.cells[i];
-    let v = cell.value;
+    let v = row.cells[i];
     Made {
         fits: fits_column(kind, v),
-        cell,
+        cell: v,
     }
 }
 
@@ -67,14 +61,7 @@ fn renewed(terms: Terms, columns: usize, kinds: [u8; 4], row: Row) -> Renewed
     requires { (columns ≤ 4) × (terms.count ≤ 4) }
     ensures { RenewedIs terms columns kinds row result }
 {
-    let component0 = terms.components[0];
-    let component1 = terms.components[1];
-    let component2 = terms.components[2];
-    let component3 = terms.components[3];
-    let term0 = component0.term;
-    let term1 = component1.term;
-    let term2 = component2.term;
-    let term3 = component3.term;
+    let [term0, term1, term2, term3] = terms.components;
     let made0 = made(term0, row, kinds[0]);
     let made1 = made(term1, row, kinds[1]);
     let made2 = made(term2, row, kinds[2]);
@@ -84,21 +71,17 @@ fn renewed(terms: Terms, columns: usize, kinds: [u8; 4], row: Row) -> Renewed
         & ((columns <= 1) | made1.fits)
         & ((columns <= 2) | made2.fits)
         & ((columns <= 3) | made3.fits);
-    let cell0 = made0.cell;
-    let cell1 = made1.cell;
-    let cell2 = made2.cell;
-    let cell3 = made3.cell;
     Renewed {
         fits,
         row: Row {
-            cells: [cell0, cell1, cell2, cell3],
+            cells: [made0.cell, made1.cell, made2.cell, made3.cell],
         },
     }
 }
 
 // ---- the pass
 
-// A row that the plan selects is marked. For update and select (`drafts`) it gives way to what t gives for it; an update marks it only if that fits, a select (`any`) always.
+// A row that the plan selects is marked: what then stands at its place. For update and select (`drafts`) it gives way to what t gives for it; an update marks it only if that fits, a select (`any`) always.
 fn judge(
     plan: Plan,
     drafts: bool,
@@ -107,22 +90,19 @@ fn judge(
     columns: usize,
     kinds: [u8; 4],
     row: Row,
-) -> Marked
+) -> Option<Row>
     requires { (columns ≤ 4) × (terms.count ≤ 4) }
     ensures { JudgedRow plan drafts any terms columns kinds row result }
 {
     if !row_hits(plan, row) {
-        return Marked { marked: false, row };
+        return None;
     }
     if !drafts {
-        return Marked { marked: true, row };
+        return Some(row);
     }
-    let d = renewed(terms, columns, kinds, row);
-    let new = d.row;
-    Marked {
-        marked: any | d.fits, // selected, but what t gives may not fit
-        row: new,
-    }
+    let new = renewed(terms, columns, kinds, row);
+    // selected, but what t gives may not fit
+    if any | new.fits { Some(new.row) } else { None }
 }
 
 // The first n rows. One that is marked is replaced at the place it is read from, and every place is read once: a new row is never judged again.
@@ -141,16 +121,10 @@ pub fn swept(
 {
     let mut rows = r.rows;
     let mut flags = [false; 16];
-    let mut i: usize = 0;
-    while i < n {
-        let row = rows[i];
-        let d = judge(plan, drafts, any, terms, columns, kinds, row);
-        let at = i;
-        flags[i] = d.marked;
-        i += 1;
-        if d.marked {
-            let new = d.row;
-            rows[at] = new;
+    for i in 0..n {
+        if let Some(new) = judge(plan, drafts, any, terms, columns, kinds, rows[i]) {
+            rows[i] = new;
+            flags[i] = true;
         }
     }
     Swept { rows, flags }

@@ -3,29 +3,25 @@ use Prim.Native.Nat.{ℕ, zero, suc, ◌+◌, ◌≤◌, ◌<◌}
 use mathlib.Core.Path.{◌≡◌, refl, ap, ap₂, sym, ◌∙◌, subst}
 use mathlib.Core.Bool.{Bool, true, false, cond, ◌&&◌, ◌||◌}
 use mathlib.Core.List.{List, [], ◌∷◌, map}
-use mathlib.Core.Option.{Option, none, some}
+use Rattle.std.specs.Prelude.{Option, None, Some}
 use native.Mathlib.Omega.{arith}
 use borrow.Author.Tests.{eqb-true, eqb-false, ltb-true, ltb-false, lt-ltb}
 use lib.Dec.{eqb, ltb, leb-suc-suc, leb-suc-zero}
 use lib.ListN.{length, drop, get_or, set, length-map, get_or-eq_default}
 use lib.Seq.{drop-cons, get_or-set_same, get_or-set_other}
 use Rattle.values.specs.declared.Value.{Value}
-use Rattle.values.specs.declared.Got.{Got}
-use Rattle.values.specs.declared.Got.TheVariants.{Nothing, One}
+use Rattle.values.specs.Operands.{Got}
 use Rattle.values.specs.declared.Operand.{Operand}
 use Rattle.values.specs.declared.Operand.TheVariants.{Absent, ConstInt, ConstText, ConstLoc, Var, Plus, Formal}
 use Rattle.values.specs.Lists.{firsts}
 use Rattle.values.specs.Operands.{Vars, eval, add, formal_of, bind, bind_to}
 use Rattle.values.proofs.BindLaws.{length_to, length-bind}
 use Rattle.values.proofs.Firsts.{length-firsts, firsts_at, map-firsts}
-use Rattle.rows.specs.declared.Cell.{Cell}
 use Rattle.rows.specs.declared.Row.{Row}
-use Rattle.rows.specs.declared.Field.{Field}
 use Rattle.rows.specs.declared.Origin.{Origin}
 use Rattle.rows.specs.declared.Origin.TheVariants.{Fixed, Column}
 use Rattle.rows.specs.declared.Want.{Want}
 use Rattle.rows.specs.declared.Want.TheVariants.{Anything, Like}
-use Rattle.rows.specs.declared.Wanted.{Wanted}
 use Rattle.rows.specs.Matching.{matches, matches1, row_vars}
 use Rattle.rows.specs.View.{no_cell, no_field, values_of}
 use Rattle.rows.specs.Plans.{is_formal_of, formal_place, origin_of, term_of, got_at, origin_got, term_got, want_of, meets, is_anything, wants_met, no_wanted}
@@ -38,8 +34,8 @@ module _ {A : Type 0} where
     -- after one place more, `at` the last place of a formal of it so far
     bound-one : (at n : ℕ) (e : List A) (o : Option ℕ) → n < 4 → i < length e → get_or e i d ≡ cond (ltb at 4) (h at) x →
         get_or (bind_to o (h n) e) i d ≡ cond (ltb (cond (is_formal_of i o) n at) 4) (h (cond (is_formal_of i o) n at)) x
-    bound-one at n e none low have so_far = so_far
-    bound-one at n e (some j) low have so_far = go (eqb i j) refl
+    bound-one at n e None low have so_far = so_far
+    bound-one at n e (Some j) low have so_far = go (eqb i j) refl
       where
         go : (b : Bool) → eqb i j ≡ b → get_or (set e j (h n)) i d ≡ cond (ltb (cond b n at) 4) (h (cond b n at)) x
         go true q = rw (sym (eqb-true i j q), lt-ltb n 4 low) (get_or-set_same e i (h n) d have)
@@ -59,8 +55,8 @@ module _ {A : Type 0} where
 
 -- where a variable's value comes from (`f` of its source) is what the variable holds after T's formals are bound: `g` at their places, over `k`
 module _ {A : Type 0} (f : Origin → A) (e : Vars) (t : List Operand) (g k : List A) (d : A) (short : length t ≤ 4) (same : length t ≡ length g)
-    (places : (j : ℕ) → j < length g → get_or g j d ≡ f (Column j)) (long : length k ≡ 16) (free : (j : ℕ) → f (Fixed (get_or e j Nothing)) ≡ get_or k j d)
-    (none-there : f (Fixed Nothing) ≡ d) where
+    (places : (j : ℕ) → j < length g → get_or g j d ≡ f (Column j)) (long : length k ≡ 16) (free : (j : ℕ) → f (Fixed (get_or e j None)) ≡ get_or k j d)
+    (none-there : f (Fixed None) ≡ d) where
   pub origin_read : (i : ℕ) → f (origin_of e t i) ≡ get_or (bind t g k) i d
   unfolding origin_of
   origin_read i = go (ltb i 16) refl (ltb (formal_place i 4 0 t) 4) refl
@@ -69,7 +65,7 @@ module _ {A : Type 0} (f : Origin → A) (e : Vars) (t : List Operand) (g k : Li
       bind_is low = bind-at (λ j. f (Column j)) d (get_or k i d) i t g k 4 0 (omega arith) (subst (λ (m : ℕ). m ≤ 4) same short) places (subst (λ (m : ℕ). i < m) (sym long) low) refl
 
       go : (b : Bool) → ltb i 16 ≡ b → (c : Bool) → ltb (formal_place i 4 0 t) 4 ≡ c →
-          f (cond b (cond c (Column (formal_place i 4 0 t)) (Fixed (get_or e i Nothing))) (Fixed Nothing)) ≡ get_or (bind t g k) i d
+          f (cond b (cond c (Column (formal_place i 4 0 t)) (Fixed (get_or e i None))) (Fixed None)) ≡ get_or (bind t g k) i d
       go true p true q = sym (rw q at (bind_is (ltb-true i 16 p)))
       go true p false q = free i ∙ sym (rw q at (bind_is (ltb-true i 16 p)))
       go false p c q =
@@ -82,19 +78,19 @@ module _ (e : Vars) (t : List Operand) (n : ℕ) (long : length e ≡ 16) (short
   short-t : length t ≤ 4
   short-t = subst (λ (m : ℕ). m ≤ 4) (sym count) short
 
-  pub origin_got_lem : (row : Row) (i : ℕ) → origin_got (origin_of e t i) row.cells ≡ get_or (row_vars e t (values_of n row)) i Nothing
+  pub origin_got_lem : (row : Row) (i : ℕ) → origin_got (origin_of e t i) row.cells ≡ get_or (row_vars e t (values_of n row)) i None
   origin_got_lem row i =
-      origin_read (λ s. origin_got s row.cells) e t (map One (values_of n row)) e Nothing short-t (count ∙ sym is_n_lem) places long (λ j. refl) refl i
+      origin_read (λ s. origin_got s row.cells) e t (map Some (values_of n row)) e None short-t (count ∙ sym is_n_lem) places long (λ j. refl) refl i
     where
-      is_n_lem : length (map One (values_of n row)) ≡ n
-      is_n_lem = length-map (values_of n row) One ∙ length-firsts (λ (c : Cell). c.value) no_cell n row.cells
+      is_n_lem : length (map Some (values_of n row)) ≡ n
+      is_n_lem = length-map (values_of n row) Some ∙ length-firsts (λ (v : Value). v) no_cell n row.cells
 
-      places : (j : ℕ) → j < length (map One (values_of n row)) → get_or (map One (values_of n row)) j Nothing ≡ got_at row.cells j
+      places : (j : ℕ) → j < length (map Some (values_of n row)) → get_or (map Some (values_of n row)) j None ≡ got_at row.cells j
       places j h =
           let low : j < n = subst (λ (m : ℕ). j < m) is_n_lem h in
-          ap (λ (l : List Got). get_or l j Nothing) (map-firsts One (λ (c : Cell). c.value) no_cell n row.cells)
-          ∙ firsts_at (λ (c : Cell). One c.value) no_cell n row.cells j Nothing low
-          ∙ sym (ap (λ (b : Bool). cond b (One (get_or row.cells j no_cell).value) Nothing) (lt-ltb j 4 (omega arith)))
+          ap (λ (l : List Got). get_or l j None) (map-firsts Some (λ (v : Value). v) no_cell n row.cells)
+          ∙ firsts_at (λ (c : Value). Some c) no_cell n row.cells j None low
+          ∙ sym (ap (λ (b : Bool). cond b (Some (get_or row.cells j no_cell)) None) (lt-ltb j 4 (omega arith)))
 
   -- an operand's term gives what the operand gives with T's formals bound to the row
   pub term_got_lem : (row : Row) (o : Operand) → term_got (term_of e t o) row.cells ≡ eval (row_vars e t (values_of n row)) o
@@ -108,7 +104,7 @@ module _ (e : Vars) (t : List Operand) (n : ℕ) (long : length e ≡ 16) (short
 
 -- ── wants ──
 
-pub want_meets : (e : Vars) (o : Operand) (v : Value) → meets (want_of e o) v ≡ matches1 e o (One v)
+pub want_meets : (e : Vars) (o : Operand) (v : Value) → meets (want_of e o) v ≡ matches1 e o (Some v)
 want_meets e Absent v = refl
 want_meets e (ConstInt i) v = refl
 want_meets e (ConstText u) v = refl
@@ -122,27 +118,27 @@ any-meets : (w : Want) (v : Value) → is_anything w ≡ true → meets w v ≡ 
 any-meets Anything v h = refl
 any-meets (Like g) v h = cc
 
-all_meet : (ws : List Wanted) (cs : List Cell) → length ws ≡ length cs → ((k : ℕ) → k < length ws → is_anything (get_or ws k no_wanted).want ≡ true) → wants_met ws cs ≡ true
+all_meet : (ws : List Want) (cs : List Value) → length ws ≡ length cs → ((k : ℕ) → k < length ws → is_anything (get_or ws k no_wanted) ≡ true) → wants_met ws cs ≡ true
 all_meet [] [] same any = refl
 all_meet [] (c ∷ cs) same any = absurd (omega arith)
 all_meet (w ∷ ws) [] same any = absurd (omega arith)
-all_meet (w ∷ ws) (c ∷ cs) same any = ap₂ ◌&&◌ (any-meets w.want c.value (any 0 (omega arith))) (all_meet ws cs (omega arith) (λ k h. any (suc k) (omega arith)))
+all_meet (w ∷ ws) (c ∷ cs) same any = ap₂ ◌&&◌ (any-meets w c (any 0 (omega arith))) (all_meet ws cs (omega arith) (λ k h. any (suc k) (omega arith)))
 
-pub free-met : (ws : List Wanted) (cs : List Cell) → length ws ≡ 4 → length cs ≡ 4 → {a b c d : Bool} → a ≡ is_anything (get_or ws 0 no_wanted).want →
-    b ≡ is_anything (get_or ws 1 no_wanted).want → c ≡ is_anything (get_or ws 2 no_wanted).want → d ≡ is_anything (get_or ws 3 no_wanted).want →
+pub free-met : (ws : List Want) (cs : List Value) → length ws ≡ 4 → length cs ≡ 4 → {a b c d : Bool} → a ≡ is_anything (get_or ws 0 no_wanted) →
+    b ≡ is_anything (get_or ws 1 no_wanted) → c ≡ is_anything (get_or ws 2 no_wanted) → d ≡ is_anything (get_or ws 3 no_wanted) →
     ((a && b && c && d) || wants_met ws cs) ≡ wants_met ws cs
 free-met ws cs hw hc {a} {b} {c} {d} p q r s = go a p b q c r d s
   where
-    at : true ≡ is_anything (get_or ws 0 no_wanted).want → true ≡ is_anything (get_or ws 1 no_wanted).want → true ≡ is_anything (get_or ws 2 no_wanted).want →
-        true ≡ is_anything (get_or ws 3 no_wanted).want → (k : ℕ) → k < length ws → is_anything (get_or ws k no_wanted).want ≡ true
+    at : true ≡ is_anything (get_or ws 0 no_wanted) → true ≡ is_anything (get_or ws 1 no_wanted) → true ≡ is_anything (get_or ws 2 no_wanted) →
+        true ≡ is_anything (get_or ws 3 no_wanted) → (k : ℕ) → k < length ws → is_anything (get_or ws k no_wanted) ≡ true
     at p q r s zero h = sym p
     at p q r s (suc zero) h = sym q
     at p q r s (suc (suc zero)) h = sym r
     at p q r s (suc (suc (suc zero))) h = sym s
     at p q r s (suc (suc (suc (suc k)))) h = absurd (omega arith)
 
-    go : (a : Bool) → a ≡ is_anything (get_or ws 0 no_wanted).want → (b : Bool) → b ≡ is_anything (get_or ws 1 no_wanted).want →
-        (c : Bool) → c ≡ is_anything (get_or ws 2 no_wanted).want → (d : Bool) → d ≡ is_anything (get_or ws 3 no_wanted).want →
+    go : (a : Bool) → a ≡ is_anything (get_or ws 0 no_wanted) → (b : Bool) → b ≡ is_anything (get_or ws 1 no_wanted) →
+        (c : Bool) → c ≡ is_anything (get_or ws 2 no_wanted) → (d : Bool) → d ≡ is_anything (get_or ws 3 no_wanted) →
         ((a && b && c && d) || wants_met ws cs) ≡ wants_met ws cs
     go true p true q true r true s = sym (all_meet ws cs (omega arith) (at p q r s))
     go true p true q true r false s = refl
@@ -152,19 +148,19 @@ free-met ws cs hw hc {a} {b} {c} {d} p q r s = go a p b q c r d s
 
 -- wants of T's places, and of anything past them, are met exactly by the rows that T matches
 module _ (e : Vars) where
-  pub wants_met_lem : (ws : List Wanted) (cs : List Cell) (fs : List Field) (n : ℕ) → length ws ≡ length cs → n ≤ length ws →
-      ((k : ℕ) → k < length ws → (get_or ws k no_wanted).want ≡ cond (ltb k n) (want_of e (get_or fs k no_field).operand) Anything) →
-      wants_met ws cs ≡ matches e (firsts (λ (f : Field). f.operand) no_field n fs) (firsts (λ (c : Cell). c.value) no_cell n cs)
+  pub wants_met_lem : (ws : List Want) (cs : List Value) (fs : List Operand) (n : ℕ) → length ws ≡ length cs → n ≤ length ws →
+      ((k : ℕ) → k < length ws → (get_or ws k no_wanted) ≡ cond (ltb k n) (want_of e (get_or fs k no_field)) Anything) →
+      wants_met ws cs ≡ matches e (firsts (λ (o : Operand). o) no_field n fs) (firsts (λ (v : Value). v) no_cell n cs)
   unfolding matches
   wants_met_lem [] [] fs zero same short wants = refl
   wants_met_lem [] [] fs (suc n) same short wants = absurd (omega arith)
   wants_met_lem [] (c ∷ cs) fs n same short wants = absurd (omega arith)
   wants_met_lem (w ∷ ws) [] fs n same short wants = absurd (omega arith)
   wants_met_lem (w ∷ ws) (c ∷ cs) fs zero same short wants =
-      ap₂ ◌&&◌ (ap (λ x. meets x c.value) (wants 0 (omega arith))) (wants_met_lem ws cs [] zero (omega arith) (omega arith) (λ k h. rw leb-suc-zero (rw leb-suc-zero at (wants (suc k) (omega arith)))))
+      ap₂ ◌&&◌ (ap (λ x. meets x c) (wants 0 (omega arith))) (wants_met_lem ws cs [] zero (omega arith) (omega arith) (λ k h. rw leb-suc-zero (rw leb-suc-zero at (wants (suc k) (omega arith)))))
   wants_met_lem (w ∷ ws) (c ∷ cs) [] (suc n) same short wants =
-      ap₂ ◌&&◌ (ap (λ x. meets x c.value) (rw (lt-ltb 0 (suc n) (omega arith)) at (wants 0 (omega arith))) ∙ want_meets e Absent c.value)
+      ap₂ ◌&&◌ (ap (λ x. meets x c) (rw (lt-ltb 0 (suc n) (omega arith)) at (wants 0 (omega arith))) ∙ want_meets e Absent c)
       (wants_met_lem ws cs [] n (omega arith) (omega arith) (λ k h. rw leb-suc-suc at (wants (suc k) (omega arith))))
   wants_met_lem (w ∷ ws) (c ∷ cs) (f ∷ fs) (suc n) same short wants =
-      ap₂ ◌&&◌ (ap (λ x. meets x c.value) (rw (lt-ltb 0 (suc n) (omega arith)) at (wants 0 (omega arith))) ∙ want_meets e f.operand c.value)
+      ap₂ ◌&&◌ (ap (λ x. meets x c) (rw (lt-ltb 0 (suc n) (omega arith)) at (wants 0 (omega arith))) ∙ want_meets e f c)
       (wants_met_lem ws cs fs n (omega arith) (omega arith) (λ k h. rw leb-suc-suc at (wants (suc k) (omega arith))))

@@ -1,9 +1,9 @@
 -- What a tuple t gives, and when it fits columns.
-use Rattle.std.specs.Prelude.{ℕ, Bool, false, List, map, eqb}
+use Rattle.std.specs.Prelude.{ℕ, Bool, false, List, map, eqb, None, Some}
 use Rattle.values.specs.declared.Operand.{Operand}
-use Rattle.values.specs.declared.Got.{Got}
-use Rattle.values.specs.declared.Got.TheVariants.{Nothing, One}
-use Rattle.values.specs.Lists.{all, agree}
+use Rattle.values.specs.Operands.{Got}
+use Rattle.values.specs.Lists.{agree}
+use Rattle.std.specs.List.{list_all}
 use Rattle.values.specs.Values.{kind_of}
 use Rattle.values.specs.Operands.{Vars, eval}
 use Rattle.rows.specs.Relations.{Row, Columns, Relation}
@@ -16,19 +16,19 @@ unfoldable pub draft : Vars → List Operand → Draft
 draft e t = map (eval e) t
 
 abbrev pub of_kind : ℕ → Got → Bool
-of_kind c Nothing = false
-of_kind c (One v) = eqb c (kind_of v)
+of_kind c None = false
+of_kind c (Some v) = eqb c (kind_of v)
 
 -- as many values as columns, of those kinds
 abbrev pub fits : Columns → Draft → Bool
 fits cs d = agree of_kind cs d
 
 abbrev pub fits_row : Columns → Row → Bool
-fits_row cs r = fits cs (map One r)
+fits_row cs r = fits cs (map Some r)
 
 -- each row fits
 abbrev pub relation_fits : Relation → Bool
-relation_fits r = all (fits_row r.columns) r.rows
+relation_fits r = list_all (fits_row r.columns) r.rows
 
 abbrev pub same_columns : Columns → Columns → Bool
 same_columns cs ds = agree eqb cs ds

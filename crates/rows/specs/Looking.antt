@@ -1,7 +1,6 @@
 -- What matching answers, and what ties the count to the answer: the row is left at the first field that does not match. `left-early` in row_match's LookingLaws proves it.
-use Rattle.std.specs.Prelude.{ℕ, suc, ◌<◌, ◌≤◌, ◌≡◌, Bool, true, false, List, length, get_or}
+use Rattle.std.specs.Prelude.{ℕ, suc, ◌<◌, ◌≤◌, ◌≡◌, Bool, true, false, List, length, get_or, None}
 use Rattle.values.specs.declared.Value.{Value}
-use Rattle.values.specs.declared.Got.TheVariants.{Nothing}
 use Rattle.values.specs.declared.Operand.{Operand}
 use Rattle.values.specs.declared.Operand.TheVariants.{Absent}
 use Rattle.values.specs.Operands.{Vars, value_in}
@@ -16,7 +15,7 @@ pub record MatchedIs (e : Vars) (t : List Operand) (r : Row) (m : Matched) : Typ
 
 -- what is read past a row's end: nothing looks there
 abbrev pub no_value : Value
-no_value = value_in Nothing
+no_value = value_in None
 
 -- T and row match at a place
 abbrev pub matches_at : Vars → List Operand → Row → ℕ → Bool

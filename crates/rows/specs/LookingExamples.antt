@@ -1,7 +1,6 @@
 -- Rows looked at field by field, by computation: whether T matches, and how many fields were looked at.
-use Rattle.std.specs.Prelude.{ℕ, ◌≡◌, refl, Bool, true, false, List, [], ◌∷◌, pos}
+use Rattle.std.specs.Prelude.{ℕ, ◌≡◌, refl, Bool, true, false, List, [], ◌∷◌, pos, None, Some}
 use Rattle.values.specs.declared.Value.TheVariants.{Int, Text, Loc}
-use Rattle.values.specs.declared.Got.TheVariants.{Nothing, One}
 use Rattle.values.specs.declared.Operand.{Operand}
 use Rattle.values.specs.declared.Operand.TheVariants.{ConstInt, ConstText, ConstLoc, Var, Plus, Formal}
 use Rattle.values.specs.Values.{text_order}
@@ -21,7 +20,7 @@ pub record Answers (e : Vars) (t : List Operand) (r : Row) (b : Bool) (n : ℕ) 
 
 -- variable 0 is unbound, variable 1 is 37, variable 2 is a text
 abbrev vars : Vars
-vars = Nothing ∷ One (Int (pos 37)) ∷ One (Text 0x52494731) ∷ []
+vars = None ∷ Some (Int (pos 37)) ∷ Some (Text 0x52494731) ∷ []
 
 -- the red shoes 001 of size 37, whatever their sales: "001 ", "red "
 abbrev red37 : List Operand

@@ -1,22 +1,21 @@
 -- Templates, predicates, and the rows that match T and satisfy the predicate.
-use Rattle.std.specs.Prelude.{ℕ, Bool, true, false, not, ◌&&◌, ◌||◌, List, map}
+use Rattle.std.specs.Prelude.{ℕ, Bool, true, false, not, ◌&&◌, ◌||◌, List, map, Some, None, is_some}
+use Rattle.std.specs.declared.cmp.Ordering.TheVariants as O
 use Rattle.values.specs.declared.Operand.{Operand}
 use Rattle.values.specs.declared.Value.{Value}
-use Rattle.values.specs.declared.Order.{Order}
-use Rattle.values.specs.declared.Order.TheVariants.{Unlike, Before, Same, After}
-use Rattle.values.specs.declared.Got.{Got}
-use Rattle.values.specs.declared.Got.TheVariants.{One}
-use Rattle.values.specs.Lists.{agree, looked_at, is_some, filter}
+use Rattle.values.specs.Values.{Order}
+use Rattle.values.specs.Operands.{Got}
+use Rattle.values.specs.Lists.{agree, looked_at, filter}
 use Rattle.values.specs.Operands.{Vars, eval, compared, formal_of, bind}
 use Rattle.rows.specs.declared.Test.{Test}
 use Rattle.rows.specs.declared.Test.TheVariants.{Always, Equal, Unequal, Less, AtMost}
 use Rattle.rows.specs.Relations.{Row, Selector}
 
 abbrev pub is_same : Order → Bool
-is_same Unlike = false
-is_same Before = false
-is_same Same = true
-is_same After = false
+is_same None = false
+is_same (Some O.Less) = false
+is_same (Some O.Equal) = true
+is_same (Some O.Greater) = false
 
 -- ── matching ──
 
@@ -26,7 +25,7 @@ matches1 e o g = is_some (formal_of o) || is_same (compared (eval e o) g)
 
 -- a field of T and the value that a row has there
 abbrev pub field_matches : Vars → Operand → Value → Bool
-field_matches e o v = matches1 e o (One v)
+field_matches e o v = matches1 e o (Some v)
 
 -- a template matches a row, as long as it, place by place. Its variables are the thread's own, also where one of its formals has the same number
 unfoldable pub matches : Vars → List Operand → Row → Bool
@@ -39,7 +38,7 @@ looked e t r = looked_at (field_matches e) t r
 
 -- the variables for one row: T's formals bound to its values
 abbrev pub row_vars : Vars → List Operand → Row → Vars
-row_vars e t r = bind t (map One r) e
+row_vars e t r = bind t (map Some r) e
 
 -- ── predicates ──
 
@@ -47,18 +46,18 @@ row_vars e t r = bind t (map One r) e
 abbrev pub agrees : Test → Order → Bool
 agrees Always o = true
 agrees Equal o = is_same o
-agrees Unequal Unlike = false
-agrees Unequal Before = true
-agrees Unequal Same = false
-agrees Unequal After = true
-agrees Less Unlike = false
-agrees Less Before = true
-agrees Less Same = false
-agrees Less After = false
-agrees AtMost Unlike = false
-agrees AtMost Before = true
-agrees AtMost Same = true
-agrees AtMost After = false
+agrees Unequal None = false
+agrees Unequal (Some O.Less) = true
+agrees Unequal (Some O.Equal) = false
+agrees Unequal (Some O.Greater) = true
+agrees Less None = false
+agrees Less (Some O.Less) = true
+agrees Less (Some O.Equal) = false
+agrees Less (Some O.Greater) = false
+agrees AtMost None = false
+agrees AtMost (Some O.Less) = true
+agrees AtMost (Some O.Equal) = true
+agrees AtMost (Some O.Greater) = false
 
 abbrev pub satisfies : Vars → Test → Operand → Operand → Bool
 satisfies e p l r = agrees p (compared (eval e l) (eval e r))

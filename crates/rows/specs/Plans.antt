@@ -1,25 +1,20 @@
 -- Selectors and tuples prepared for one relation. Only the code speaks of plans: the rules are `hits` and `draft_for`, and laws tie the two.
-use Rattle.std.specs.Prelude.{ℕ, suc, ◌<◌, ◌≡◌, Bool, true, false, cond, ◌&&◌, ◌||◌, List, [], ◌∷◌, eqb, ltb, length, get_or}
-use Rattle.std.proofs.Math.Option.{Option, none, some}
+use Rattle.std.specs.Prelude.{ℕ, suc, ◌<◌, ◌≡◌, Bool, true, false, cond, ◌&&◌, ◌||◌, List, [], ◌∷◌, eqb, ltb, length, get_or, Option, None, Some}
 use Rattle.values.specs.declared.Value.{Value}
 use Rattle.values.specs.declared.Value.TheVariants.{Int, Text, Loc}
-use Rattle.values.specs.declared.Got.{Got}
-use Rattle.values.specs.declared.Got.TheVariants.{Nothing, One}
+use Rattle.values.specs.Operands.{Got}
 use Rattle.values.specs.declared.Operand.{Operand}
 use Rattle.values.specs.declared.Operand.TheVariants.{Absent, ConstInt, ConstText, ConstLoc, Var, Plus, Formal}
 use Rattle.values.specs.Lists.{agree, firsts}
 use Rattle.values.specs.Operands.{Vars, eval, compared, add, formal_of, kind_in}
-use Rattle.rows.specs.declared.Cell.{Cell}
 use Rattle.rows.specs.declared.Row.{Row}
 use Rattle.rows.specs.declared.Origin.{Origin}
 use Rattle.rows.specs.declared.Origin.TheVariants.{Fixed, Column}
 use Rattle.rows.specs.declared.Term.{Term}
 use Rattle.rows.specs.declared.Term.TheVariants.{Plain, Shifted}
-use Rattle.rows.specs.declared.Component.{Component}
 use Rattle.rows.specs.declared.Terms.{Terms}
 use Rattle.rows.specs.declared.Want.{Want}
 use Rattle.rows.specs.declared.Want.TheVariants.{Anything, Like}
-use Rattle.rows.specs.declared.Wanted.{Wanted}
 use Rattle.rows.specs.declared.Plan.{Plan}
 use Rattle.rows.specs.declared.Operands.{Operands}
 use Rattle.rows.specs.Matching.{is_same, agrees, matches}
@@ -28,8 +23,8 @@ use Rattle.rows.specs.View.{no_cell, no_field, operands_of, values_of}
 -- ── where a variable's value comes from ──
 
 abbrev pub is_formal_of : ℕ → Option ℕ → Bool
-is_formal_of i none = false
-is_formal_of i (some j) = eqb i j
+is_formal_of i None = false
+is_formal_of i (Some j) = eqb i j
 
 -- the last place, counted from `n`, of a formal of variable `i`; `at` where there is none
 abbrev pub formal_place : ℕ → ℕ → ℕ → List Operand → ℕ
@@ -38,27 +33,27 @@ formal_place i at n (o ∷ t) = formal_place i (cond (is_formal_of i (formal_of 
 
 -- the variable is a formal of T, which has at most four places; or it is the thread's own. There are 16 variables
 unfoldable pub origin_of : Vars → List Operand → ℕ → Origin
-origin_of e t i = cond (ltb i 16) (cond (ltb (formal_place i 4 0 t) 4) (Column (formal_place i 4 0 t)) (Fixed (get_or e i Nothing))) (Fixed Nothing)
+origin_of e t i = cond (ltb i 16) (cond (ltb (formal_place i 4 0 t) 4) (Column (formal_place i 4 0 t)) (Fixed (get_or e i None))) (Fixed None)
 
 abbrev pub term_of : Vars → List Operand → Operand → Term
-term_of e t Absent = Plain (Fixed Nothing)
-term_of e t (ConstInt i) = Plain (Fixed (One (Int i)))
-term_of e t (ConstText u) = Plain (Fixed (One (Text u)))
-term_of e t (ConstLoc l) = Plain (Fixed (One (Loc l)))
+term_of e t Absent = Plain (Fixed None)
+term_of e t (ConstInt i) = Plain (Fixed (Some (Int i)))
+term_of e t (ConstText u) = Plain (Fixed (Some (Text u)))
+term_of e t (ConstLoc l) = Plain (Fixed (Some (Loc l)))
 term_of e t (Var i) = Plain (origin_of e t i)
 term_of e t (Plus i k) = Shifted (origin_of e t i) k
-term_of e t (Formal i) = Plain (Fixed Nothing)
+term_of e t (Formal i) = Plain (Fixed None)
 
 -- ── for a row ──
 
-abbrev pub got_at : List Cell → ℕ → Got
-got_at cs i = cond (ltb i 4) (One (get_or cs i no_cell).value) Nothing
+abbrev pub got_at : List Value → ℕ → Got
+got_at cs i = cond (ltb i 4) (Some (get_or cs i no_cell)) None
 
-abbrev pub origin_got : Origin → List Cell → Got
+abbrev pub origin_got : Origin → List Value → Got
 origin_got (Fixed g) cs = g
 origin_got (Column i) cs = got_at cs i
 
-abbrev pub term_got : Term → List Cell → Got
+abbrev pub term_got : Term → List Value → Got
 term_got (Plain s) cs = origin_got s cs
 term_got (Shifted s k) cs = add k (origin_got s cs)
 
@@ -70,40 +65,40 @@ origin_kind (Column i) ks = get_or ks i 0
 -- ── matching ──
 
 abbrev pub want_of : Vars → Operand → Want
-want_of e Absent = Like Nothing
-want_of e (ConstInt i) = Like (One (Int i))
-want_of e (ConstText u) = Like (One (Text u))
-want_of e (ConstLoc l) = Like (One (Loc l))
+want_of e Absent = Like None
+want_of e (ConstInt i) = Like (Some (Int i))
+want_of e (ConstText u) = Like (Some (Text u))
+want_of e (ConstLoc l) = Like (Some (Loc l))
 want_of e (Var i) = Like (eval e (Var i))
 want_of e (Plus i k) = Like (eval e (Plus i k))
 want_of e (Formal i) = Anything
 
 -- the want at a place of T; past its end anything will do
 abbrev pub want_at : Vars → Operands → ℕ → Want
-want_at e t i = cond (ltb i t.count) (want_of e (get_or t.fields i no_field).operand) Anything
+want_at e t i = cond (ltb i t.count) (want_of e (get_or t.fields i no_field)) Anything
 
 abbrev pub meets : Want → Value → Bool
 meets Anything v = true
-meets (Like g) v = is_same (compared g (One v))
+meets (Like g) v = is_same (compared g (Some v))
 
 abbrev pub is_anything : Want → Bool
 is_anything Anything = true
 is_anything (Like g) = false
 
-abbrev pub wants_met : List Wanted → List Cell → Bool
-wants_met ws cs = agree (λ (w : Wanted) (c : Cell). meets w.want c.value) ws cs
+abbrev pub wants_met : List Want → List Value → Bool
+wants_met ws cs = agree (λ (w : Want) (c : Value). meets w c) ws cs
 
 -- what the logic reads past an array's end
-abbrev pub no_wanted : Wanted
-no_wanted = record { want = Anything }
+abbrev pub no_wanted : Want
+no_wanted = Anything
 
 -- the first `n` wants
-abbrev pub wants_in : ℕ → List Wanted → List Want
-wants_in n ws = firsts (λ (w : Wanted). w.want) no_wanted n ws
+abbrev pub wants_in : ℕ → List Want → List Want
+wants_in n ws = firsts (λ (w : Want). w) no_wanted n ws
 
 -- the wants of T: place by place, and so they are met by exactly the rows that T matches
-pub record WantsAre (e : Vars) (t : Operands) (ws : List Wanted) : Type 0 where
-  pub places : (i : ℕ) → i < 4 → (get_or ws i no_wanted).want ≡ want_at e t i
+pub record WantsAre (e : Vars) (t : Operands) (ws : List Want) : Type 0 where
+  pub places : (i : ℕ) → i < 4 → (get_or ws i no_wanted) ≡ want_at e t i
   pub matching : (row : Row) → length row.cells ≡ 4 → wants_met ws row.cells ≡ matches e (operands_of t) (values_of t.count row)
 
 -- the row's cells are as the plan wants them
@@ -112,9 +107,9 @@ plan_hits p r = (p.free || wants_met p.wants r.cells) && agrees p.test (compared
 
 -- ── tuples ──
 
-abbrev pub no_component : Component
-no_component = record { term = Plain (Fixed Nothing) }
+abbrev pub no_component : Term
+no_component = (Plain (Fixed None))
 
 -- the terms in use
 abbrev pub terms_in : Terms → List Term
-terms_in t = firsts (λ (p : Component). p.term) no_component t.count t.components
+terms_in t = firsts (λ (t : Term). t) no_component t.count t.components

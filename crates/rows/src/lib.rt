@@ -1,27 +1,21 @@
 // Rows and relations, templates and tuples, and what is prepared of them. All by value.
 #![tactic(auto)]
 
-ghost use Rattle.std.specs.Prelude.{◌≡◌, ◌<◌, get_or};
-ghost use Rattle.values.specs.declared.Got.TheVariants.{One};
+ghost use Rattle.std.specs.Prelude.{◌≡◌, ◌<◌, ◌≤◌, get_or, Some};
 ghost use Rattle.rows.specs.Fit.{of_kind};
-ghost use Rattle.rows.specs.View.{columns_of};
+ghost use Rattle.rows.specs.View.{columns_of, draft_of};
 
 use values::kinds::kind_of;
-use values::{Got, Operand, Slot, Value};
-
-#[derive(Clone, Copy)]
-pub struct Cell {
-    pub value: Value,
-}
+use values::{Operand, Value};
 
 // The first `columns` cells of its relation count.
-#[derive(Clone, Copy)]
+#[derive(Clone, Copy, PartialEq, Eq)]
 pub struct Row {
-    pub cells: [Cell; 4],
+    pub cells: [Value; 4],
 }
 
 // The inside of a table and of a table variable: column kinds (1 Int, 2 Text, 3 Loc) and rows.
-#[derive(Clone, Copy)]
+#[derive(Clone, Copy, PartialEq, Eq)]
 pub struct Relation {
     pub columns: usize,
     pub kinds: [u8; 4],
@@ -29,20 +23,25 @@ pub struct Relation {
     pub count: usize,
 }
 
-#[derive(Clone, Copy)]
-pub struct Field {
-    pub operand: Operand,
+impl Relation {
+    // The kinds of the columns in use.
+    pub fn column_kinds(&self) -> &[u8]
+        requires { self.now.columns ≤ 4 }
+        ensures { result.now ≡ columns_of self.now.columns self.now.kinds }
+    {
+        &self.kinds[..self.columns]
+    }
 }
 
 // A template T or a tuple t: the first `count` fields.
-#[derive(Clone, Copy)]
+#[derive(Clone, Copy, PartialEq, Eq)]
 pub struct Operands {
-    pub fields: [Field; 4],
+    pub fields: [Operand; 4],
     pub count: usize,
 }
 
 // The predicates 0..4.
-#[derive(Clone, Copy)]
+#[derive(Clone, Copy, PartialEq, Eq)]
 pub enum Test {
     Always,
     Equal,
@@ -52,7 +51,7 @@ pub enum Test {
 }
 
 // Which rows a step speaks of: those that match T and satisfy the predicate.
-#[derive(Clone, Copy)]
+#[derive(Clone, Copy, PartialEq, Eq)]
 pub struct Selector {
     pub template: Operands,
     pub test: Test,
@@ -60,8 +59,8 @@ pub struct Selector {
     pub right: Operand,
 }
 
-// The aggregate functions 1..4, and none.
-#[derive(Clone, Copy)]
+// The aggregate functions 1..4, and none, as the byte of a record numbers them.
+#[derive(Clone, Copy, PartialEq, Eq)]
 pub enum Function {
     Unused,
     Count,
@@ -71,54 +70,44 @@ pub enum Function {
 }
 
 // Where a variable's value comes from once T is known: the same for every row, or a column of the row.
-#[derive(Clone, Copy)]
+#[derive(Clone, Copy, PartialEq, Eq)]
 pub enum Origin {
-    Fixed(Got),
+    Fixed(Option<Value>),
     Column(u8),
 }
 
 // An operand prepared for one relation: its source, plus an Int.
-#[derive(Clone, Copy)]
+#[derive(Clone, Copy, PartialEq, Eq)]
 pub enum Term {
     Plain(Origin),
     Shifted(Origin, i32),
 }
 
-#[derive(Clone, Copy)]
-pub struct Component {
-    pub term: Term,
-}
-
 // A tuple t prepared for one relation.
-#[derive(Clone, Copy)]
+#[derive(Clone, Copy, PartialEq, Eq)]
 pub struct Terms {
-    pub components: [Component; 4],
+    pub components: [Term; 4],
     pub count: usize,
 }
 
-// What a place of T takes.
-#[derive(Clone, Copy)]
+// What a place of T takes. No `Option` of an `Option`, which would not show which of the two is the formal's.
+#[derive(Clone, Copy, PartialEq, Eq)]
 pub enum Want {
     Anything,
-    Like(Got),
-}
-
-#[derive(Clone, Copy)]
-pub struct Wanted {
-    pub want: Want,
+    Like(Option<Value>),
 }
 
 // What matching answers: whether the row matches, and how many of its fields were looked at.
-#[derive(Clone, Copy)]
+#[derive(Clone, Copy, PartialEq, Eq)]
 pub struct Matched {
     pub matches: bool,
     pub looked: usize,
 }
 
 // A selector prepared for one relation: its operands read the thread's variables once, and not for each row. It is free where any row matches T.
-#[derive(Clone, Copy)]
+#[derive(Clone, Copy, PartialEq, Eq)]
 pub struct Plan {
-    pub wants: [Wanted; 4],
+    pub wants: [Want; 4],
     pub free: bool,
     pub test: Test,
     pub left: Term,
@@ -126,15 +115,25 @@ pub struct Plan {
 }
 
 // What a tuple gives: the first `count` slots.
-#[derive(Clone, Copy)]
+#[derive(Clone, Copy, PartialEq, Eq)]
 pub struct Draft {
-    pub slots: [Slot; 4],
+    pub slots: [Option<Value>; 4],
     pub count: usize,
+}
+
+impl Draft {
+    // The slots in use.
+    pub fn given(&self) -> &[Option<Value>]
+        requires { self.now.count ≤ 4 }
+        ensures { result.now ≡ draft_of self.now }
+    {
+        &self.slots[..self.count]
+    }
 }
 
 // A value fits a column of its own kind. All that judge fit ask this.
 pub fn fits_column(kind: u8, v: Value) -> bool
-    ensures { result ≡ of_kind kind (One v) }
+    ensures { result ≡ of_kind kind (Some v) }
 {
     kind == kind_of(v)
 }

@@ -6,7 +6,7 @@ ghost use Rattle.nets.specs.Answers.{added_said, taken_said, said_of};
 ghost use Rattle.run_state.specs.States.{Begun, Tallied};
 
 use net_sound::whole::sound_net;
-use nets::{Answer, Net, Stepped};
+use nets::{Answer, Done, Net, Stepped};
 use value_totals::{Total, add_count, zero};
 
 #[derive(Clone, Copy)]
@@ -29,22 +29,13 @@ pub fn begin(net: Net) -> Ran
     }
 }
 
-// A refused pick reports none.
-fn added_in(a: Answer) -> usize
-    ensures { result ≡ added_said (said_of a) }
+// What a pick reports; a refused one reports none.
+fn reported(answer: Answer) -> Done
+    ensures { (result.added ≡ added_said (said_of answer)) × (result.taken ≡ taken_said (said_of answer)) }
 {
-    match a {
-        Answer::Refused(_) => 0,
-        Answer::Done(n, _) => n,
-    }
-}
-
-fn taken_in(a: Answer) -> usize
-    ensures { result ≡ taken_said (said_of a) }
-{
-    match a {
-        Answer::Refused(_) => 0,
-        Answer::Done(_, n) => n,
+    match answer {
+        Err(_) => Done { added: 0, taken: 0 },
+        Ok(done) => done,
     }
 }
 
@@ -53,14 +44,12 @@ pub fn tally(s: Ran, stepped: Stepped) -> Ran
     requires { (s.added.high < 2 ^ 63) × (s.taken.high < 2 ^ 63) }
     ensures { Tallied s stepped result }
 {
-    let answer = stepped.answer;
+    let done = reported(stepped.answer);
     let net = stepped.net;
-    let added = s.added;
-    let taken = s.taken;
     Ran {
         net,
         sound: s.sound,
-        added: add_count(added, added_in(answer)),
-        taken: add_count(taken, taken_in(answer)),
+        added: add_count(s.added, done.added),
+        taken: add_count(s.taken, done.taken),
     }
 }

@@ -1,4 +1,5 @@
 -- Picks of a run, one after another, are a run. Assumes nothing.
+use Rattle.std.specs.Prelude.{Err, Ok}
 use Prim.Native.Nat.{ℕ, ◌+◌, ◌*◌, ◌<◌, ◌≤◌, ◌^◌}
 use mathlib.Core.Path.{◌≡◌, refl, ap, sym, ◌∙◌, subst}
 use mathlib.Core.Bool.{true, false, not}
@@ -10,8 +11,7 @@ use lib.ListN.{length, take, get_or, length-append}
 use lib.Seq.{take-suc, take_all, length-take-le}
 use Rattle.nets.specs.declared.Pick.{Pick}
 use Rattle.nets.specs.declared.Net.{Net}
-use Rattle.nets.specs.declared.Answer.{Answer}
-use Rattle.nets.specs.declared.Answer.TheVariants.{Done, Refused}
+use Rattle.nets.specs.Answers.{Answer}
 use Rattle.nets.specs.declared.Stepped.{Stepped}
 use Rattle.nets.specs.Nets as M
 use Rattle.nets.specs.Nets.{Outcome, refused, done}
@@ -148,10 +148,10 @@ further_unsound s p h e = record {
 
 -- an answer is a refusal where the outcome that it tells is not done
 refused-said : (a : Answer) (o : Outcome) → said_of a ≡ answer_of o → is_refused a ≡ not (is_done o)
-refused-said (Refused r) (refused n vs) e = refl
-refused-said (Refused r) (done a t net) e = cc
-refused-said (Done a t) (refused n vs) e = cc
-refused-said (Done a t) (done b u net) e = refl
+refused-said (Err r) (refused n vs) e = refl
+refused-said (Err r) (done a t net) e = cc
+refused-said (Ok d) (refused n vs) e = cc
+refused-said (Ok d) (done b u net) e = refl
 
 -- a sound one is stepped, and the counts of the answer are added
 pub further-sound :

@@ -1,11 +1,10 @@
 -- The contract of a run: what comes back after a list of picks, by the rules.
-use Rattle.std.specs.Prelude.{ℕ, ◌≡◌, List, T}
+use Rattle.std.specs.Prelude.{ℕ, ◌≡◌, List, T, Ok}
 use Rattle.nets.specs.declared.Pick.{Pick}
 use Rattle.nets.specs.declared.Net.{Net}
 use Rattle.nets.specs.Sound.{sound}
 use Rattle.nets.specs.Accounts.{after, reported_added, reported_taken}
 use Rattle.nets.specs.View.{view}
-use Rattle.files.specs.declared.Verdict.TheVariants.{Accepted}
 use Rattle.files.specs.declared.Loaded.{Loaded}
 use Rattle.files.specs.FileDemand3.{FileDemand3}
 use Rattle.files.specs.Engine.{LoadIs}
@@ -25,5 +24,5 @@ pub record RunIs (net : Net) (ps : List Pick) (r : Ran) : Type 0 where
   pub flag : r.sound ≡ sound (view r.net)
   -- demand 3 of what was given back, for every file that loading accepted as this net
   pub demand3 :
-      (file : List ℕ) (l : Loaded) → LoadIs file l → l.verdict ≡ Accepted → l.net ≡ net →
+      (file : List ℕ) (l : Loaded) → LoadIs file l → l.verdict ≡ Ok tt → l.net ≡ net →
       FileDemand3 file ps (view r.net) (total_of r.added) (total_of r.taken)

@@ -24,10 +24,8 @@ pub fn run(net: Net, picks: &[Pick]) -> Ran
     ensures { RunIs net picks.now result }
 {
     let mut s = begin(net);
-    let mut i = 0;
-    while i < picks.len() {
-        s = run_pick(s, picks[i]);
-        i += 1;
+    for pick in picks {
+        s = run_pick(s, *pick);
     }
     s
 }

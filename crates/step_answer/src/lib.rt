@@ -6,18 +6,18 @@ ghost use Rattle.nets.specs.Answers.{step_said, said_of};
 ghost use Rattle.nets.specs.View.{kind_at};
 ghost use Rattle.step_effect.specs.EffectContracts.{parts_of, StepReady, JudgedIs, is_step};
 
-use nets::{Answer, Node, Refusal};
+use nets::{Answer, Done, Node, Refusal};
 use row_change::sifting::count_marks;
 use rows::Relation;
 use step_effect::Judged;
 use step_effect::saying::{checked, column_fits, insert_answer, insert_table_answer, takes};
-use values::Slot;
+use values::Vars;
 
 pub fn says(
     node: Node,
     content: Relation,
     source: Relation,
-    vars: [Slot; 16],
+    vars: Vars,
     j: Judged,
     held: bool,
     tables: usize,
@@ -37,16 +37,19 @@ pub fn says(
         16 => insert_answer(node, content, vars),
         17 => insert_table_answer(node, content, source, vars),
         18 => {
-            let done = Answer::Done(0, count_marks(flags));
+            let done = Ok(Done {
+                added: 0,
+                taken: count_marks(flags),
+            });
             checked(long, Refusal::Misfit, checked(!held, Refusal::Held, done))
         }
         19 | 20 => {
-            let bound = Answer::Done(0, 0);
+            let bound = Ok(Done { added: 0, taken: 0 });
             checked(long, Refusal::Misfit, checked(!held, Refusal::Held, bound))
         }
         21 => {
             let n = count_marks(flags);
-            checked(long, Refusal::Misfit, Answer::Done(n, n))
+            checked(long, Refusal::Misfit, Ok(Done { added: n, taken: n }))
         }
         22 => {
             let fits = long & column_fits(function, node.column, source);
@@ -54,10 +57,13 @@ pub fn says(
             checked(
                 fits,
                 Refusal::Misfit,
-                checked(there, Refusal::NoResult, Answer::Done(0, 0)),
+                checked(there, Refusal::NoResult, Ok(Done { added: 0, taken: 0 })),
             )
         }
-        23 => checked(tables < 8, Refusal::Full, Answer::Done(0, 0)),
-        _ => Answer::Done(0, content.count),
+        23 => checked(tables < 8, Refusal::Full, Ok(Done { added: 0, taken: 0 })),
+        _ => Ok(Done {
+            added: 0,
+            taken: content.count,
+        }),
     }
 }

@@ -4,8 +4,8 @@ ghost use Rattle.value_bytes.specs.Bytes.{eight_bytes, put_at};
 ghost use Rattle.nets.specs.Answers.{said_of};
 ghost use Rattle.step_bytes.specs.AnswerBytes.{three_bytes, answer_bytes};
 
-use nets::Answer;
 use nets::refusals::number_of;
+use nets::{Answer, Done};
 
 // The bytes of an answer.
 pub const ANSWER: usize = 24;
@@ -17,15 +17,7 @@ fn put_number(out: &mut [u8], n: usize)
     requires { length out.old ≡ 8 }
     ensures { out.new ≡ eight_bytes n }
 {
-    let high = n / 4294967296;
-    out[0] = (n % 256) as u8;
-    out[1] = (n / 256 % 256) as u8;
-    out[2] = (n / 65536 % 256) as u8;
-    out[3] = (n / 16777216 % 256) as u8;
-    out[4] = (high % 256) as u8;
-    out[5] = (high / 256 % 256) as u8;
-    out[6] = (high / 65536 % 256) as u8;
-    out[7] = (high / 16777216 % 256) as u8;
+    out.copy_from_slice(&n.to_le_bytes());
 }
 
 fn put_three(out: &mut [u8], number: usize, added: usize, taken: usize)
@@ -42,10 +34,10 @@ fn put_answer(out: &mut [u8], answer: Answer)
     ensures { out.new ≡ answer_bytes (said_of answer) }
 {
     match answer {
-        Answer::Done(added, taken) => {
+        Ok(Done { added, taken }) => {
             put_three(out, 0, added, taken);
         }
-        Answer::Refused(why) => {
+        Err(why) => {
             put_three(out, number_of(why), 0, 0);
         }
     }

@@ -20,12 +20,9 @@ pub fn pick_bytes(picks: [Pick; 256]) -> [u8; 512]
     ensures { picks_in result ≡ picks }
 {
     let mut bytes = [0u8; 512];
-    let mut i: usize = 0;
-    while i < 256 {
-        let p = picks[i];
-        bytes[i * 2] = p.thread;
-        bytes[i * 2 + 1] = p.row;
-        i += 1;
+    for i in 0..256 {
+        bytes[i * 2] = picks[i].thread;
+        bytes[i * 2 + 1] = picks[i].row;
     }
     bytes
 }

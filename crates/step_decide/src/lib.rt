@@ -12,17 +12,17 @@ ghost use Rattle.step_meets.specs.Situations.{situation, Rest, whole, Handed};
 ghost use Rattle.step_meets.specs.MeetContracts.{Meets, Fine, Known, Flagged, SourceIs, Sourced, DecidedAt, DecidedIs};
 
 use nets::kinds::{has_locality, is_create, is_loop, is_parallel, needs_table};
-use nets::{Answer, Entry, Frame, Node, Refusal};
+use nets::{Done, Entry, Frame, Node, Refusal};
 use rows::Relation;
 use step_answer::says;
 use step_effect::Judged;
 use step_effect::effects::vars_after;
 use step_loop::round;
-use step_meets::parts::{is_located, onward, refuses};
+use step_meets::parts::{onward, refuses};
 use step_meets::{Decided, Setting};
 use step_reads::reads_ok;
-use step_thread::{RoundAnswer, is_run, node_of};
-use values::Slot;
+use step_thread::{is_run, node_of};
+use values::Vars;
 
 // A round of a parallel loop needs a place for its thread, and one of a sequential loop a place on the stack.
 fn room_for_round(parallel: bool, threads: usize, depth: usize) -> bool
@@ -36,7 +36,7 @@ fn room_for_round(parallel: bool, threads: usize, depth: usize) -> bool
 
 // A loop: a round, or over and on to next.
 fn decide_loop(
-    vars: [Slot; 16],
+    vars: Vars,
     depth: usize,
     frame: Frame,
     node: Node,
@@ -47,24 +47,24 @@ fn decide_loop(
     requires { T (is_loop (kind_at node.kind)) × Handed (λ w. Fine (situation (whole vars depth w) w.saved frame node content s) × Known (situation (whole vars depth w) w.saved frame node content s) × SourceIs (situation (whole vars depth w) w.saved frame node content s) source) }
     ensures { (w : Rest) → Fine (situation (whole vars depth w) w.saved frame node content s) → Known (situation (whole vars depth w) w.saved frame node content s) → SourceIs (situation (whole vars depth w) w.saved frame node content s) source → (c : Scene) → Meets (situation (whole vars depth w) w.saved frame node content s) c → DecidedAt (situation (whole vars depth w) w.saved frame node content s) source c result }
 {
-    let selector = node.selector;
-    let template = selector.template;
+    let template = node.selector.template;
     let parallel = is_parallel(node.kind);
     let room = room_for_round(parallel, s.threads, depth);
     let r = round(template, source, frame, vars, s.row, room);
-    let answer = r.answer;
-    match answer {
-        RoundAnswer::Stopped(why) => refuses(why, vars, depth, frame),
-        RoundAnswer::Over => onward(depth, frame, node.next, vars, 0, 0),
-        RoundAnswer::Opened => {
-            let visit = r.visit;
-            let inner = r.vars;
-            let entry = Entry::Loop(node_of(frame));
-            let waiting = Frame { entry, visit };
+    match r {
+        Err(why) => refuses(why, vars, depth, frame),
+        Ok(None) => onward(depth, frame, node.next, vars, 0, 0),
+        Ok(Some(opened)) => {
+            let inner = opened.vars;
+            let visit = opened.visit;
+            let waiting = Frame {
+                entry: Entry::Loop(node_of(frame)),
+                visit,
+            };
             let saves = is_run(frame);
             if parallel {
                 return Decided {
-                    answer: Answer::Done(0, 0),
+                    answer: Ok(Done { added: 0, taken: 0 }),
                     forks: true,
                     saves,
                     frame: waiting,
@@ -74,7 +74,7 @@ fn decide_loop(
                 };
             }
             Decided {
-                answer: Answer::Done(0, 0),
+                answer: Ok(Done { added: 0, taken: 0 }),
                 forks: false,
                 saves,
                 frame: waiting,
@@ -87,7 +87,7 @@ fn decide_loop(
 }
 
 fn decide_step(
-    vars: [Slot; 16],
+    vars: Vars,
     depth: usize,
     frame: Frame,
     node: Node,
@@ -101,17 +101,17 @@ fn decide_step(
 {
     let answer = says(node, content, source, vars, j, s.held, s.tables);
     match answer {
-        Answer::Refused(why) => refuses(why, vars, depth, frame),
-        Answer::Done(a, t) => {
+        Err(why) => refuses(why, vars, depth, frame),
+        Ok(done) => {
             let after = vars_after(node, content, source, vars, j);
-            onward(depth, frame, node.next, after, a, t)
+            onward(depth, frame, node.next, after, done.added, done.taken)
         }
     }
 }
 
 // What a pick comes to at a node, in a thread of these variables, with a stack of this height and `frame` on top, and with these table variables bound. The contract is for any thread that has these parts: handing on all of it would copy it.
 pub fn decide(
-    vars: [Slot; 16],
+    vars: Vars,
     depth: usize,
     bound: [bool; 2],
     frame: Frame,
@@ -125,12 +125,11 @@ pub fn decide(
     ensures { (w : Rest) → Fine (situation (whole vars depth w) w.saved frame node content s) → Flagged w bound → Sourced (situation (whole vars depth w) w.saved frame node content s) source → DecidedIs (situation (whole vars depth w) w.saved frame node content s) source result }
 {
     let kind = node.kind;
-    let located = s.located;
     let found = s.found;
     if !reads_ok(node, vars, bound) {
         return refuses(Refusal::Unbound, vars, depth, frame);
     }
-    if has_locality(kind) & !is_located(located) {
+    if has_locality(kind) & s.located.is_none() {
         return refuses(Refusal::NoSite, vars, depth, frame);
     }
     if needs_table(kind) & !found {

@@ -8,14 +8,14 @@ use native.Mathlib.Omega.{arith}
 use borrow.Author.Tests.{eqb-true}
 use lib.Dec.{T, eqb, ltb, leb, ltb→lt, leb→le}
 use lib.ListN.{length}
-use Rattle.values.specs.declared.Got.{Got}
-use Rattle.values.specs.declared.Slot.{Slot}
-use Rattle.values.specs.Lists.{all, count}
-use Rattle.values.specs.Operands.{vars_of, is_got, values_in, formal_of, bind, bind_to}
+use Rattle.values.specs.Operands.{Got}
+use Rattle.values.specs.Lists.{count}
+use Rattle.std.specs.List.{list_all}
+use Rattle.values.specs.Operands.{is_got, values_in, formal_of, bind, bind_to}
 use Rattle.values.proofs.Bools.{T_of, and_l, and_r, is_true}
 use Rattle.values.proofs.Firsts.{length-firsts}
 use Rattle.rows.specs.declared.Row as CodeRow
-use Rattle.rows.specs.declared.Field.{Field}
+use Rattle.values.specs.declared.Operand.{Operand}
 use Rattle.rows.specs.declared.Operands.{Operands}
 use Rattle.rows.specs.declared.Draft.{Draft}
 use Rattle.rows.specs.declared.Relation as Code
@@ -29,7 +29,7 @@ use Rattle.row_change.specs.Aggregates.{column_fits}
 use Rattle.row_change.specs.ChangeContracts.{Holds, Complete, marks, sift}
 use Rattle.row_change.proofs.Prepared.{fits-long, fits-got, row-given}
 use Rattle.row_change.proofs.SweepLaws.{sift-marked, sift-others}
-use Rattle.nets.specs.declared.Answer.{Answer}
+use Rattle.nets.specs.Answers.{Answer}
 use Rattle.nets.specs.declared.Node.{Node}
 use Rattle.nets.specs.Nets.{is_select, has_template}
 use Rattle.nets.specs.Steps.{rows_by, bound_by, vars_by}
@@ -53,7 +53,7 @@ abbrev long_for : Operands → Code.Relation → Bool
 long_for t r = eqb (length (operands_of t)) (length (columns_of r.columns r.kinds))
 
 long-counts : (t : Operands) (r : Code.Relation) → long_for t r ≡ eqb t.count r.columns
-long-counts t r = ap₂ eqb (length-firsts (λ (f : Field). f.operand) no_field t.count t.fields) (columns-count r)
+long-counts t r = ap₂ eqb (length-firsts (λ (o : Operand). o) no_field t.count t.fields) (columns-count r)
 
 is-long : (t : Operands) (r : Code.Relation) → long_for t r ≡ true → t.count ≡ r.columns
 is-long t r e = eqb-true t.count r.columns (sym (long-counts t r) ∙ e)
@@ -65,7 +65,7 @@ passing_then false n h = refl
 -- ── insert ──
 
 -- `g` is what t gives
-module _ (d : Node) (r q : Code.Relation) (vars : List Slot) (g : Draft) (given : draft_of g ≡ draft (vars_of vars) (operands_of d.tuple)) (k : d.kind ≡ 16) where
+module _ (d : Node) (r q : Code.Relation) (vars : List Got) (g : Draft) (given : draft_of g ≡ draft vars (operands_of d.tuple)) (k : d.kind ≡ 16) where
   pub insert-said : {t : Bool} → t ≡ fits (columns_of r.columns r.kinds) (draft_of g) → (a b : Answer) → said_of a ≡ passing (ltb r.count 16) 20 (doing 1 0) →
       said_of b ≡ passing t 16 (said_of a) → (held : Bool) (tables : ℕ) → said_of b ≡ step_said (parts_of d r q vars) held tables
   unfolding kind_at
@@ -73,27 +73,27 @@ module _ (d : Node) (r q : Code.Relation) (vars : List Slot) (g : Draft) (given 
       eb ∙ ap₂ (λ (x : Bool) (s : Said). passing x 16 s) (fit ∙ ap (fits (columns_of r.columns r.kinds)) given) (ea ∙ ap (λ (n : ℕ). passing (ltb n 16) 20 (doing 1 0)) (sym (rows-count r)))
       ∙ sym (insert-form (parts_of d r q vars) held tables (ap kind_at k))
 
-  pub insert-content : Doing d r q vars → (row : CodeRow.Row) → (T (all is_got (draft_of g)) → values_of g.count row ≡ values_in (draft_of g)) →
+  pub insert-content : Doing d r q vars → (row : CodeRow.Row) → (T (list_all is_got (draft_of g)) → values_of g.count row ≡ values_in (draft_of g)) →
       {o : Code.Relation} → Holds o (relation_of r).columns ((relation_of r).rows ++ (values_of r.columns row ∷ [])) →
       Holds o (relation_of r).columns (rows_by (kind_at d.kind) (parts_of d r q vars) (relation_of r).rows)
   unfolding kind_at rows_by
   insert-content does row made put = rw k (rw (← row-given g row given long (fits-got (relation_of r).columns _ fits') made) put)
     where
-      fits' : T (fits (relation_of r).columns (draft (vars_of vars) (operands_of d.tuple)))
+      fits' : T (fits (relation_of r).columns (draft vars (operands_of d.tuple)))
       fits' = rw k at (insert-fits (parts_of d r q vars) does.fits)
 
       long : g.count ≡ r.columns
       long =
-          sym (length-firsts (λ (s : Slot). s.held) no_slot g.count g.slots) ∙ ap length given
-          ∙ sym (fits-long (relation_of r).columns (draft (vars_of vars) (operands_of d.tuple)) fits') ∙ columns-count r
+          sym (length-firsts (λ (g : Got). g) no_slot g.count g.slots) ∙ ap length given
+          ∙ sym (fits-long (relation_of r).columns (draft vars (operands_of d.tuple)) fits') ∙ columns-count r
 
-pub insert-room : (d : Node) (r q : Code.Relation) (vars : List Slot) → d.kind ≡ 16 → Doing d r q vars → r.count < 16
+pub insert-room : (d : Node) (r q : Code.Relation) (vars : List Got) → d.kind ≡ 16 → Doing d r q vars → r.count < 16
 unfolding kind_at
 insert-room d r q vars k does = let room = rw k at does.room in omega (arith, ltb→lt, rows-count r)
 
 -- ── insert of a relation's rows ──
 
-module _ (d : Node) (r q : Code.Relation) (vars : List Slot) (k : d.kind ≡ 17) where
+module _ (d : Node) (r q : Code.Relation) (vars : List Got) (k : d.kind ≡ 17) where
   abbrev alike : Bool
   alike = same_columns (columns_of r.columns r.kinds) (columns_of q.columns q.kinds)
 
@@ -121,13 +121,13 @@ module _ (d : Node) (r q : Code.Relation) (vars : List Slot) (k : d.kind ≡ 17)
 
 -- ── drop ──
 
-pub drop-said : (d : Node) (r q : Code.Relation) (vars : List Slot) (held : Bool) (tables : ℕ) → d.kind ≡ 24 → doing 0 r.count ≡ step_said (parts_of d r q vars) held tables
+pub drop-said : (d : Node) (r q : Code.Relation) (vars : List Got) (held : Bool) (tables : ℕ) → d.kind ≡ 24 → doing 0 r.count ≡ step_said (parts_of d r q vars) held tables
 unfolding kind_at
 drop-said d r q vars held tables k = ap (doing 0) (sym (rows-count r)) ∙ sym (drop-form (parts_of d r q vars) held tables (ap kind_at k))
 
 -- ── rows judged ──
 
-module _ (d : Node) (q : Code.Relation) (vars : List Slot) {j : Judged} (is : JudgedIs d q vars j) where
+module _ (d : Node) (q : Code.Relation) (vars : List Got) {j : Judged} (is : JudgedIs d q vars j) where
   -- a check of T's length, and what is said where it passes
   long-said : {s s' : Said} → (Long d q → s ≡ s') → passing (eqb d.selector.template.count q.columns) 16 s ≡ passing (long_for d.selector.template q) 16 s'
   long-said {s} h =
@@ -147,7 +147,7 @@ module _ (d : Node) (q : Code.Relation) (vars : List Slot) {j : Judged} (is : Ju
       select-said (inr k) a b ea eb = eb ∙ long-said (λ l. ea) ∙ sym (select-relation-form (parts_of d r q vars) held tables (ap kind_at k))
 
       pub aggregate_said : d.kind ≡ 22 → {t u : Bool} → t ≡ column_fits d.function d.column (relation_of q).columns →
-          u ≡ (is_got j.result && matches1 (vars_of vars) d.result j.result) → (a b : Answer) → said_of a ≡ passing u 18 (doing 0 0) →
+          u ≡ (is_got j.result && matches1 vars d.result j.result) → (a b : Answer) → said_of a ≡ passing u 18 (doing 0 0) →
           said_of b ≡ passing (eqb d.selector.template.count q.columns && t) 16 (said_of a) → said_of b ≡ step_said (parts_of d r q vars) held tables
       unfolding kind_at
       aggregate_said k et eu a b ea eb =
@@ -158,7 +158,7 @@ module _ (d : Node) (q : Code.Relation) (vars : List Slot) {j : Judged} (is : Ju
           ea
           ∙ ap (λ (y : Bool). passing y 18 (doing 0 0))
           (eu
-          ∙ ap (λ (g : Got). is_got g && matches1 (vars_of vars) d.result g)
+          ∙ ap (λ (g : Got). is_got g && matches1 vars d.result g)
           (is.result k (is-long d.selector.template q (is_true _ (and_l (long_for d.selector.template q) _ h))) (and_r (long_for d.selector.template q) _ h))))
           ∙ sym (aggregate_form (parts_of d r q vars) held tables (ap kind_at k))
 
@@ -175,7 +175,7 @@ module _ (d : Node) (q : Code.Relation) (vars : List Slot) {j : Judged} (is : Ju
             said_of b ≡ passing (eqb d.selector.template.count q.columns) 16 (doing n n) → said_of b ≡ step_said (parts_of d r q vars) held tables
         unfolding kind_at
         update-said k en b eb =
-            eb ∙ long-said (λ l. ap (λ (m : ℕ). doing m m) (en ∙ (is.update k l).1 ∙ ap (λ (x : Relation). count (changes (vars_of vars) (selector_of d.selector) (operands_of d.tuple) x.columns) x.rows) own))
+            eb ∙ long-said (λ l. ap (λ (m : ℕ). doing m m) (en ∙ (is.update k l).1 ∙ ap (λ (x : Relation). count (changes vars (selector_of d.selector) (operands_of d.tuple) x.columns) x.rows) own))
             ∙ sym (update-form (parts_of d r q vars) held tables (ap kind_at k))
 
     -- ── what it does ──
@@ -193,17 +193,17 @@ module _ (d : Node) (q : Code.Relation) (vars : List Slot) {j : Judged} (is : Ju
             shaped = put.shaped;
           })
 
-      pub select-bound : (d.kind ≡ 19) ⊎ (d.kind ≡ 20) → is_select (kind_at d.kind) ≡ true → Complete (vars_of vars) (operands_of d.selector.template) (operands_of d.tuple) →
+      pub select-bound : (d.kind ≡ 19) ⊎ (d.kind ≡ 20) → is_select (kind_at d.kind) ≡ true → Complete vars (operands_of d.selector.template) (operands_of d.tuple) →
           {o : Code.Relation} → Holds o (columns_of j.columns j.kinds) (sift true (marks q.count j.flags) (relation_of (record { columns = j.columns; kinds = j.kinds; rows = j.rows; count = q.count })).rows) →
           Holds o (bound_by (kind_at d.kind) (parts_of d r q vars)).columns (bound_by (kind_at d.kind) (parts_of d r q vars)).rows
       unfolding kind_at bound_by
       select-bound (inl k) s full put = let l = does-long (rw k tt) does in rw k (record { columns = put.columns ∙ (is.select s l full).0; rows = put.rows ∙ (is.select s l full).1; shaped = put.shaped })
       select-bound (inr k) s full put = let l = does-long (rw k tt) does in rw k (record { columns = put.columns ∙ (is.select s l full).0; rows = put.rows ∙ (is.select s l full).1; shaped = put.shaped })
 
-      pub aggregate_vars : d.kind ≡ 22 → (vs : List Slot) → vars_of vs ≡ bind_to (formal_of d.result) j.result (vars_of vars) → vars_of vs ≡ vars_by (kind_at d.kind) (parts_of d r q vars)
+      pub aggregate_vars : d.kind ≡ 22 → (vs : List Got) → vs ≡ bind_to (formal_of d.result) j.result vars → vs ≡ vars_by (kind_at d.kind) (parts_of d r q vars)
       unfolding kind_at bind vars_by
       aggregate_vars k vs bound =
-          rw k (bound ∙ ap (λ (z : Got). bind_to (formal_of d.result) z (vars_of vars)) (is.result k (does-long (rw k tt) does) (column_fits_lem (parts_of d r q vars) does.fits (rw k tt))))
+          rw k (bound ∙ ap (λ (z : Got). bind_to (formal_of d.result) z vars) (is.result k (does-long (rw k tt) does) (column_fits_lem (parts_of d r q vars) does.fits (rw k tt))))
 
       -- the table's content is the source
       module _ (own : relation_of q ≡ relation_of r) where
@@ -213,7 +213,7 @@ module _ (d : Node) (q : Code.Relation) (vars : List Slot) {j : Judged} (is : Ju
         delete_content k {o} put =
             let l = does-long (rw k tt) does in
             rw k
-            (subst (λ (x : Relation). Holds o x.columns (unselected (vars_of vars) (selector_of d.selector) x.rows)) own
+            (subst (λ (x : Relation). Holds o x.columns (unselected vars (selector_of d.selector) x.rows)) own
             (record {
               columns = put.columns;
               rows = put.rows ∙ ap (λ (m : List Bool). sift false m (relation_of q).rows) (is.hit (inl k) l).0 ∙ sift-others (hit_in d vars) (relation_of q).rows;
@@ -226,5 +226,5 @@ module _ (d : Node) (q : Code.Relation) (vars : List Slot) {j : Judged} (is : Ju
         update-content k shaped =
             let l = does-long (rw k tt) does in
             rw k
-            (subst (λ (x : Relation). Holds (record { columns = q.columns; kinds = q.kinds; rows = j.rows; count = q.count }) x.columns (updated (vars_of vars) (selector_of d.selector) (operands_of d.tuple) x.columns x.rows)) own
+            (subst (λ (x : Relation). Holds (record { columns = q.columns; kinds = q.kinds; rows = j.rows; count = q.count }) x.columns (updated vars (selector_of d.selector) (operands_of d.tuple) x.columns x.rows)) own
             (record { columns = refl; rows = (is.update k l).0; shaped = record { columns = shaped.columns; count = shaped.count } }))

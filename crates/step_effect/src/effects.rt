@@ -1,6 +1,5 @@
 // What a step that is no loop leaves: the table's content, the relation that it binds, and the variables.
 ghost use Rattle.std.specs.Prelude.{◌≡◌, T};
-ghost use Rattle.values.specs.Operands.{vars_of};
 ghost use Rattle.rows.specs.View.{relation_of};
 ghost use Rattle.row_change.specs.ChangeContracts.{Holds};
 ghost use Rattle.nets.specs.Nets.{binds_relation};
@@ -16,13 +15,13 @@ use row_change::sifting::sifted;
 use row_fit::fit::{draft_of, row_of};
 use rows::Relation;
 use value_eval::bind_to;
-use values::Slot;
+use values::Vars;
 
 pub fn content_after(
     node: Node,
     content: Relation,
     source: Relation,
-    vars: [Slot; 16],
+    vars: Vars,
     j: Judged,
 ) -> Relation
     requires { StepReady node content source vars × T (is_step (kind_at node.kind)) × JudgedIs node source vars j × T (puts_rows (kind_at node.kind)) × Doing node content source vars }
@@ -54,7 +53,7 @@ pub fn bound_after(
     node: Node,
     content: Relation,
     source: Relation,
-    vars: [Slot; 16],
+    vars: Vars,
     j: Judged,
 ) -> Relation
     requires { StepReady node content source vars × T (is_step (kind_at node.kind)) × JudgedIs node source vars j × T (binds_relation (kind_at node.kind)) × Doing node content source vars }
@@ -76,15 +75,9 @@ pub fn bound_after(
     sifted(source, flags, true)
 }
 
-pub fn vars_after(
-    node: Node,
-    content: Relation,
-    source: Relation,
-    vars: [Slot; 16],
-    j: Judged,
-) -> [Slot; 16]
+pub fn vars_after(node: Node, content: Relation, source: Relation, vars: Vars, j: Judged) -> Vars
     requires { StepReady node content source vars × T (is_step (kind_at node.kind)) × JudgedIs node source vars j × Doing node content source vars }
-    ensures { vars_of result ≡ vars_by (kind_at node.kind) (parts_of node content source vars) }
+    ensures { result ≡ vars_by (kind_at node.kind) (parts_of node content source vars) }
 {
     let kind = node.kind;
     if is_aggregate(kind) {

@@ -2,7 +2,7 @@
 #![tactic(auto)]
 
 use rows::Row;
-use values::Got;
+use values::Value;
 
 pub mod effects;
 pub mod saying;
@@ -16,5 +16,5 @@ pub struct Judged {
     pub kinds: [u8; 4],
     pub rows: [Row; 16],
     pub flags: [bool; 16],
-    pub result: Got,
+    pub result: Option<Value>,
 }

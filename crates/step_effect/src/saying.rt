@@ -1,6 +1,6 @@
 // What inserts answer, and the checks of an aggregate.
 ghost use Rattle.std.specs.Prelude.{ℕ, ◌≡◌, Bool, ◌&&◌, eqb, get_or};
-ghost use Rattle.values.specs.Operands.{vars_of, is_got};
+ghost use Rattle.values.specs.Operands.{is_got};
 ghost use Rattle.rows.specs.declared.Relation as Code;
 ghost use Rattle.rows.specs.Matching.{matches1};
 ghost use Rattle.rows.specs.View.{relation_of, Shaped, Short};
@@ -9,12 +9,12 @@ ghost use Rattle.nets.specs.Steps.{verdict};
 ghost use Rattle.nets.specs.Answers.{refusing, step_said, number_of, values_of, said_of};
 ghost use Rattle.step_effect.specs.EffectContracts.{parts_of};
 
-use nets::{Answer, Node, Refusal};
+use nets::{Answer, Done, Node, Refusal};
 use row_fit::fit::{draft_of, fits_columns, same_columns};
 use row_match::{met, want_of};
 use rows::{Function, Relation};
 use values::kinds::INT;
-use values::{Got, Operand, Slot};
+use values::{Operand, Value, Vars};
 
 // A check that fails refuses.
 pub fn checked(ok: bool, why: Refusal, then: Answer) -> Answer
@@ -23,47 +23,43 @@ pub fn checked(ok: bool, why: Refusal, then: Answer) -> Answer
     if ok {
         return then;
     }
-    Answer::Refused(why)
+    Err(why)
 }
 
 // ---- inserts
 
-pub fn insert_answer(node: Node, content: Relation, vars: [Slot; 16]) -> Answer
+pub fn insert_answer(node: Node, content: Relation, vars: Vars) -> Answer
     requires { Shaped content × Short node.tuple × (node.kind ≡ 16) }
     ensures { (source : Code.Relation) (held : Bool) (tables : ℕ) → said_of result ≡ step_said (parts_of node content source vars) held tables }
 {
-    let columns = content.columns;
-    let kinds = content.kinds;
-    let tuple = node.tuple;
-    let fits = fits_columns(columns, kinds, draft_of(tuple, vars));
+    let draft = draft_of(node.tuple, vars);
+    let fits = fits_columns(content.column_kinds(), draft.given());
     let room = content.count < 16;
     checked(
         fits,
         Refusal::Misfit,
-        checked(room, Refusal::Full, Answer::Done(1, 0)),
+        checked(room, Refusal::Full, Ok(Done { added: 1, taken: 0 })),
     )
 }
 
-pub fn insert_table_answer(
-    node: Node,
-    content: Relation,
-    source: Relation,
-    vars: [Slot; 16],
-) -> Answer
+pub fn insert_table_answer(node: Node, content: Relation, source: Relation, vars: Vars) -> Answer
     requires { Shaped content × Shaped source × (node.kind ≡ 17) }
     ensures { (held : Bool) (tables : ℕ) → said_of result ≡ step_said (parts_of node content source vars) held tables }
 {
-    let columns = content.columns;
-    let kinds = content.kinds;
-    let from = source.columns;
-    let others = source.kinds;
     let more = source.count;
-    let same = same_columns(columns, kinds, from, others);
+    let same = same_columns(content.column_kinds(), source.column_kinds());
     let room = content.count + more <= 16;
     checked(
         same,
         Refusal::Misfit,
-        checked(room, Refusal::Full, Answer::Done(more, 0)),
+        checked(
+            room,
+            Refusal::Full,
+            Ok(Done {
+                added: more,
+                taken: 0,
+            }),
+        ),
     )
 }
 
@@ -96,11 +92,11 @@ pub fn column_fits(f: Function, at: u8, r: Relation) -> bool
 }
 
 // T' takes what is given, if anything is.
-pub fn takes(op: Operand, g: Got, vars: [Slot; 16]) -> bool
-    ensures { result ≡ (is_got g && matches1 (vars_of vars) op g) }
+pub fn takes(op: Operand, g: Option<Value>, vars: Vars) -> bool
+    ensures { result ≡ (is_got g && matches1 vars op g) }
 {
     match g {
-        Got::Nothing => false,
-        Got::One(v) => met(want_of(op, vars), v),
+        None => false,
+        Some(v) => met(want_of(op, vars), v),
     }
 }

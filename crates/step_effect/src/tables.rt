@@ -27,6 +27,7 @@ pub fn created(site: Site, node: Node, content: Relation) -> Table
 }
 
 // The step changes the rows of a table that stays.
+#[tactic(auto, using(nets::proofs::KindLaws::code_of_byte))]
 pub fn puts_rows(kind: u8) -> bool
     ensures { result ≡ puts_rows (kind_at kind) }
 {

@@ -1,4 +1,5 @@
 -- Picks one after the other: what one pick more leaves, from what the picks before it left. Assumes nothing.
+use Rattle.std.specs.Prelude.{Err, Ok}
 use Prim.Native.Nat.{ℕ, ◌+◌, ◌<◌, ◌≤◌, ◌^◌}
 use mathlib.Core.Path.{◌≡◌, refl, ap, sym, subst, ◌∙◌}
 use mathlib.Core.Bool.{Bool, true, false, not, cond}
@@ -13,8 +14,7 @@ use Rattle.values.proofs.Bools.{and_l, and_r, and_in}
 use Rattle.nets.specs.declared.Pick.{Pick}
 use Rattle.nets.specs.declared.Refusal.{Refusal}
 use Rattle.nets.specs.declared.Refusal.TheVariants.{Unsound}
-use Rattle.nets.specs.declared.Answer.{Answer}
-use Rattle.nets.specs.declared.Answer.TheVariants.{Done, Refused}
+use Rattle.nets.specs.Answers.{Answer}
 use Rattle.nets.specs.declared.Net.{Net}
 use Rattle.nets.specs.Nets as M
 use Rattle.nets.specs.Nets.{Outcome, refused, done}
@@ -63,12 +63,12 @@ module _ (p : Pick) where
 -- ── the counts in an answer ──
 
 abbrev pub added_as : Answer → ℕ
-added_as (Done a t) = a
-added_as (Refused r) = 0
+added_as (Ok d) = d.added
+added_as (Err r) = 0
 
 abbrev pub taken_as : Answer → ℕ
-taken_as (Done a t) = t
-taken_as (Refused r) = 0
+taken_as (Ok d) = d.taken
+taken_as (Err r) = 0
 
 added-said : (x : Answer) (o : Outcome) → said_of x ≡ answer_of o → added_in o ≡ added_as x
 added-said x o e = outcome o ∙ ap added_said (sym e) ∙ answer x
@@ -78,8 +78,8 @@ added-said x o e = outcome o ∙ ap added_said (sym e) ∙ answer x
     outcome (done a t net) = refl
 
     answer : (x : Answer) → added_said (said_of x) ≡ added_as x
-    answer (Done a t) = refl
-    answer (Refused r) = refl
+    answer (Ok d) = refl
+    answer (Err r) = refl
 
 taken-said : (x : Answer) (o : Outcome) → said_of x ≡ answer_of o → taken_in o ≡ taken_as x
 taken-said x o e = outcome o ∙ ap taken_said (sym e) ∙ answer x
@@ -89,8 +89,8 @@ taken-said x o e = outcome o ∙ ap taken_said (sym e) ∙ answer x
     outcome (done a t net) = refl
 
     answer : (x : Answer) → taken_said (said_of x) ≡ taken_as x
-    answer (Done a t) = refl
-    answer (Refused r) = refl
+    answer (Ok d) = refl
+    answer (Err r) = refl
 
 -- an outcome that is not done is answered by a refusal
 abbrev is_done_said : Said → Bool
@@ -105,8 +105,8 @@ refused-said x o e h = answer x (subst (λ (b : Bool). T (not b)) (outcome o ∙
     outcome (done a t net) = refl
 
     answer : (x : Answer) → T (not (is_done_said (said_of x))) → T (is_refused x)
-    answer (Done a t) k = absurd k
-    answer (Refused r) k = tt
+    answer (Ok d) k = absurd k
+    answer (Err r) k = tt
 
 -- ── one pick more ──
 
@@ -119,7 +119,7 @@ pub record OnePick (g : Reached) (p : Pick) (r : Reached) : Type 0 where
   pub taken_room : r.taken.high ≤ g.taken.high + 1
 
 -- no pick leaves all as it is
-pub carried_none : (net : Net) (z y : Total) → z ≡ record { high = 0; low = 0 } → y ≡ record { high = 0; low = 0 } → CarriedIs net [] (record { net = net; answer = Refused Unsound; added = z; taken = y })
+pub carried_none : (net : Net) (z y : Total) → z ≡ record { high = 0; low = 0 } → y ≡ record { high = 0; low = 0 } → CarriedIs net [] (record { net = net; answer = Err Unsound; added = z; taken = y })
 unfolding after answers last_said
 carried_none net z y e f =
     record {
@@ -175,7 +175,7 @@ said_here net ps i d g x l k e = e ∙ ap (λ (m : M.Net). answer_of (step m (ge
 
 -- a refused pick
 pub pick-refused :
-    (g : Reached) (p : Pick) (x : Answer) {why : Refusal} → x ≡ Refused why → answer_of (step (view g.net) p) ≡ refusing (number_of why) [] →
+    (g : Reached) (p : Pick) (x : Answer) {why : Refusal} → x ≡ Err why → answer_of (step (view g.net) p) ≡ refusing (number_of why) [] →
     OnePick g p (record { net = g.net; answer = x; added = g.added; taken = g.taken })
 pick-refused g p x says e =
     record {
@@ -188,7 +188,7 @@ pick-refused g p x says e =
 
 -- a done pick, with its counts
 pub pick-done :
-    (g : Reached) (p : Pick) (x : Answer) (n : Net) (u v : Total) {a t : ℕ} → x ≡ Done a t → StepIs g.net p (record { answer = x; net = n }) →
+    (g : Reached) (p : Pick) (x : Answer) (n : Net) (u v : Total) {a t : ℕ} → x ≡ Ok (record { added = a; taken = t }) → StepIs g.net p (record { answer = x; net = n }) →
     (total_of u ≡ total_of g.added + a) × (u.high ≤ g.added.high + 1) → (total_of v ≡ total_of g.taken + t) × (v.high ≤ g.taken.high + 1) →
     OnePick g p (record { net = n; answer = x; added = u; taken = v })
 pick-done g p x n u v says is h k =
@@ -214,9 +214,9 @@ unfolding after answers last_said next_net
 carried_step net p ps r e h = one (subst (λ (qs : List Pick). CarriedIs net qs r) e h)
   where
     none_done : (x : Answer) (o : Outcome) → said_of x ≡ answer_of o → T (is_refused x) → T (not (is_done o))
-    none_done (Done a t) o e k = absurd k
-    none_done (Refused y) (refused n vs) e k = tt
-    none_done (Refused y) (done a t net) e k = absurd (subst (λ (s : Said). T (not (is_done_said s))) e tt)
+    none_done (Ok d) o e k = absurd k
+    none_done (Err y) (refused n vs) e k = tt
+    none_done (Err y) (done a t net) e k = absurd (subst (λ (s : Said). T (not (is_done_said s))) e tt)
 
     one : CarriedIs net (p ∷ []) r → StepIs net p (record { answer = r.answer; net = r.net })
     one g =

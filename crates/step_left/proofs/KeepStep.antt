@@ -1,4 +1,5 @@
 -- What a step gives back: of a sound net a sound one; of a refusal the net that came in. Assumes nothing.
+use Rattle.std.specs.Prelude.{Err}
 use Prim.Native.Nat.{ℕ}
 use mathlib.Core.Path.{◌≡◌, refl, ap, sym, subst, ◌∙◌}
 use mathlib.Core.List.{List, []}
@@ -6,7 +7,6 @@ use lib.Dec.{T}
 use Rattle.nets.specs.declared.Pick.{Pick}
 use Rattle.nets.specs.declared.Net.{Net}
 use Rattle.nets.specs.declared.Refusal.{Refusal}
-use Rattle.nets.specs.declared.Answer.TheVariants.{Refused}
 use Rattle.nets.specs.declared.Stepped.{Stepped}
 use Rattle.nets.specs.Nets as M
 use Rattle.nets.specs.Nets.{Outcome, refused, done}
@@ -25,7 +25,7 @@ refused-left : (net : M.Net) (o : Outcome) (n : ℕ) (vs : List ℕ) → answer_
 refused-left net (refused m us) n vs e = refl
 refused-left net (done a t m) n vs e = cc
 
-module _ (net : Net) (p : Pick) (o : Stepped) {why : Refusal} (says : o.answer ≡ Refused why) (same : o.net ≡ net) where
+module _ (net : Net) (p : Pick) (o : Stepped) {why : Refusal} (says : o.answer ≡ Err why) (same : o.net ≡ net) where
   pub refused-is : answer_of (step (view net) p) ≡ refusing (number_of why) [] → StepIs net p o
   refused-is e =
       record {

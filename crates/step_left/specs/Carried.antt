@@ -1,9 +1,9 @@
 -- What picks come to, one after the other. A run's contract cites `all_refused`; only the code speaks of the rest.
 use Rattle.std.specs.Prelude.{◌≤◌, ◌≡◌, Bool, not, List, [], ◌∷◌, T, length}
-use Rattle.values.specs.Lists.{all}
+use Rattle.std.specs.List.{list_all}
 use Rattle.nets.specs.declared.Pick.{Pick}
 use Rattle.nets.specs.declared.Net.{Net}
-use Rattle.nets.specs.declared.Answer.{Answer}
+use Rattle.nets.specs.Answers.{Answer}
 use Rattle.nets.specs.Nets as M
 use Rattle.nets.specs.Nets.{Outcome}
 use Rattle.nets.specs.Sound.{sound}
@@ -18,7 +18,7 @@ use Rattle.step_left.specs.Leaving.{left_by}
 
 -- no pick of the list is carried out
 abbrev pub all_refused : M.Net → List Pick → Bool
-all_refused net ps = all (λ (o : Outcome). not (is_done o)) (answers net ps)
+all_refused net ps = list_all (λ (o : Outcome). not (is_done o)) (answers net ps)
 
 -- the answer to the last pick; of no picks the one that is given
 unfoldable pub last_said : Said → M.Net → List Pick → Said

@@ -7,7 +7,8 @@ use native.Mathlib.Omega.{arith}
 use borrow.Author.Tests.{eq-eqb, ne_eqb, lt-ltb}
 use lib.Dec.{T, eqb, ltb, leb-suc-zero, leb-suc-suc}
 use lib.ListN.{length, set}
-use Rattle.values.specs.Lists.{all, any, among, filter, places}
+use Rattle.values.specs.Lists.{among, filter, places}
+use Rattle.std.specs.List.{list_all, list_any}
 use Rattle.values.proofs.Bools.{and_l, and_r, is_true}
 use Rattle.nets.specs.View.{marked}
 use Rattle.step_reads.specs.ReadContracts.{flag_at}
@@ -47,11 +48,11 @@ marked-among (true ∷ l) j (suc i) r e = rw (ne_eqb r j (λ x. omega arith)) (m
 marked-among (false ∷ l) j (suc i) r e = marked-among l (suc j) i r (omega arith)
 
 -- a place whose flag is set passes what all marked ones pass
-pub marked-passes : (p : ℕ → Bool) (l : List Bool) (j i r : ℕ) → r ≡ j + i → T (all p (marked j l)) → flag_at l i ≡ true → T (p r)
+pub marked-passes : (p : ℕ → Bool) (l : List Bool) (j i r : ℕ) → r ≡ j + i → T (list_all p (marked j l)) → flag_at l i ≡ true → T (p r)
 marked-passes p [] j i r e h f = let z : ◌≡◌ {A = ℕ} 0 1 = cc in absurd (omega arith)
-marked-passes p (true ∷ l) j zero r e h f = let d : r ≡ j = omega arith in rw d (and_l (p j) (all p (marked (suc j) l)) h)
+marked-passes p (true ∷ l) j zero r e h f = let d : r ≡ j = omega arith in rw d (and_l (p j) (list_all p (marked (suc j) l)) h)
 marked-passes p (false ∷ l) j zero r e h f = let z : ◌≡◌ {A = ℕ} 0 1 = cc in absurd (omega arith)
-marked-passes p (true ∷ l) j (suc i) r e h f = marked-passes p l (suc j) i r (omega arith) (and_r (p j) (all p (marked (suc j) l)) h) f
+marked-passes p (true ∷ l) j (suc i) r e h f = marked-passes p l (suc j) i r (omega arith) (and_r (p j) (list_all p (marked (suc j) l)) h) f
 marked-passes p (false ∷ l) j (suc i) r e h f = marked-passes p l (suc j) i r (omega arith) h f
 
 -- ── a flag cleared ──
@@ -72,7 +73,7 @@ marked_clear (false ∷ l) j (suc i) r e = marked_clear l (suc j) i r (omega ari
 -- ── some flag set ──
 
 -- flags `m` that are set where those of `l` are and `p` holds
-pub marked-any : (p : ℕ → Bool) (l m : List Bool) (j : ℕ) → ((i r : ℕ) → r ≡ j + i → flag_at m i ≡ (flag_at l i && p r)) → any (λ (b : Bool). b) m ≡ any p (marked j l)
+pub marked-any : (p : ℕ → Bool) (l m : List Bool) (j : ℕ) → ((i r : ℕ) → r ≡ j + i → flag_at m i ≡ (flag_at l i && p r)) → list_any (λ (b : Bool). b) m ≡ list_any p (marked j l)
 marked-any p [] [] j h = refl
 marked-any p [] (c ∷ m) j h = rw (h 0 j (omega arith)) (marked-any p [] m (suc j) (λ i r e. h (suc i) r (omega arith)))
 marked-any p (true ∷ l) [] j h = rw (sym (h 0 j (omega arith))) (marked-any p l [] (suc j) (λ i r e. h (suc i) r (omega arith)))
@@ -81,7 +82,7 @@ marked-any p (true ∷ l) (c ∷ m) j h = rw (h 0 j (omega arith)) (ap (p j ||�
 marked-any p (false ∷ l) (c ∷ m) j h = rw (h 0 j (omega arith)) (marked-any p l m (suc j) (λ i r e. h (suc i) r (omega arith)))
 
 -- flags `m` set where those of `l` are, `q` holds and `p` holds; all places marked in `l` pass `q`
-module _ (q p : ℕ → Bool) (l m : List Bool) (flags : (i : ℕ) → flag_at m i ≡ (q i && flag_at l i && p i)) (h : T (all q (marked 0 l))) where
+module _ (q p : ℕ → Bool) (l m : List Bool) (flags : (i : ℕ) → flag_at m i ≡ (q i && flag_at l i && p i)) (h : T (list_all q (marked 0 l))) where
   passing : (i : ℕ) → flag_at m i ≡ (flag_at l i && p i)
   passing i = flags i ∙ ap (◌&& p i) (go (q i) refl (flag_at l i) refl)
     where
@@ -90,7 +91,7 @@ module _ (q p : ℕ → Bool) (l m : List Bool) (flags : (i : ℕ) → flag_at m
       go false e true e' = let f = is_true (q i) (marked-passes q l 0 i i (omega arith) h e') in rw f refl
       go false e false e' = rw (e, e') refl
 
-  pub passing-any : any (λ (b : Bool). b) m ≡ any p (marked 0 l)
+  pub passing-any : list_any (λ (b : Bool). b) m ≡ list_any p (marked 0 l)
   passing-any = marked-any p l m 0 (λ i r e. let d : r ≡ i = omega arith in rw d (passing i))
 
   pub passing-among : (r : ℕ) → flag_at m r ≡ (among r (marked 0 l) && p r)

@@ -2,8 +2,8 @@
 #![tactic(auto)]
 
 ghost use Rattle.std.specs.Prelude.{◌≡◌, Bool, ◌&&◌, ℕ, ◌≤◌, ◌<◌, T, ltb};
-ghost use Rattle.values.specs.Lists.{all, any, places};
-ghost use Rattle.values.specs.Operands.{vars_of};
+ghost use Rattle.values.specs.Lists.{places};
+ghost use Rattle.std.specs.List.{list_all, list_any};
 ghost use Rattle.rows.specs.View.{relation_of, operands_of, Shaped, Short};
 ghost use Rattle.nets.specs.View.{entry_of, marked};
 ghost use Rattle.step_reads.specs.ReadContracts.{flag_at};
@@ -15,8 +15,8 @@ use row_fit::binding::bind_row;
 use row_match::{row_matches, wants_of};
 use rows::{Operands, Relation};
 use step_reads::flag_in;
-use step_thread::{Round, RoundAnswer};
-use values::Slot;
+use step_thread::{Opened, RoundAnswer};
+use values::Vars;
 
 // The first n places.
 fn all_places(n: usize) -> [bool; 16]
@@ -24,10 +24,8 @@ fn all_places(n: usize) -> [bool; 16]
     ensures { marked 0 result ≡ places 0 n }
 {
     let mut visit = [false; 16];
-    let mut i: usize = 0;
-    while i < n {
+    for i in 0..n {
         visit[i] = true;
-        i += 1;
     }
     visit
 }
@@ -37,69 +35,43 @@ fn to_visit(frame: Frame, n: usize) -> [bool; 16]
     requires { n ≤ 16 }
     ensures { marked 0 result ≡ still_to_visit (entry_of no_bindings frame) n }
 {
-    let entry = frame.entry;
-    let visit = frame.visit;
-    match entry {
+    match frame.entry {
         Entry::Run(_) => all_places(n),
-        Entry::Loop(_) => visit,
+        Entry::Loop(_) => frame.visit,
     }
 }
 
 // The rows still to visit that match T.
-fn ready_places(
-    template: Operands,
-    source: Relation,
-    visit: [bool; 16],
-    vars: [Slot; 16],
-) -> [bool; 16]
+fn ready_places(template: Operands, source: Relation, visit: [bool; 16], vars: Vars) -> [bool; 16]
     requires { Shaped source × Short template × (template.count ≡ source.columns) }
-    ensures { (i : ℕ) → flag_at result i ≡ (ltb i source.count && flag_at visit i && ready_at (vars_of vars) (operands_of template) (relation_of source) i) }
+    ensures { (i : ℕ) → flag_at result i ≡ (ltb i source.count && flag_at visit i && ready_at vars (operands_of template) (relation_of source) i) }
 {
-    let count = source.count;
     let wants = wants_of(template, vars);
     let mut ready = [false; 16];
-    let mut i: usize = 0;
-    while i < count {
-        let row = source.rows[i];
-        ready[i] = visit[i] & row_matches(wants, row);
-        i += 1;
+    for i in 0..source.count {
+        ready[i] = visit[i] & row_matches(wants, source.rows[i]);
     }
     ready
 }
 
 fn any_place(flags: [bool; 16]) -> bool
-    ensures { result ≡ any (λ (b : Bool). b) flags }
+    ensures { result ≡ list_any (λ (b : Bool). b) flags }
 {
-    let mut i: usize = 0;
-    while i < 16 {
-        if flags[i] {
-            return true;
-        }
-        i += 1;
-    }
-    false
+    flags.iter().any(|flag| *flag)
 }
 
 // The row's place leaves the set, and T's formals bind to the row.
-fn opened(
-    template: Operands,
-    source: Relation,
-    visit: [bool; 16],
-    vars: [Slot; 16],
-    row: u8,
-) -> Round
+fn opened(template: Operands, source: Relation, visit: [bool; 16], vars: Vars, row: u8) -> Opened
     requires { Shaped source × Short template × (template.count ≡ source.columns) × (row < source.count) }
-    ensures { OpenedIs (vars_of vars) (operands_of template) (relation_of source) (marked 0 visit) row result }
+    ensures { OpenedIs vars (operands_of template) (relation_of source) (marked 0 visit) row result }
 {
     let at = row as usize;
     let picked = source.rows[at];
     let mut left = visit;
     left[at] = false;
-    let next = bind_row(template, picked, vars);
-    Round {
-        answer: RoundAnswer::Opened,
+    Opened {
         visit: left,
-        vars: next,
+        vars: bind_row(template, picked, vars),
     }
 }
 
@@ -108,43 +80,26 @@ pub fn round(
     template: Operands,
     source: Relation,
     frame: Frame,
-    vars: [Slot; 16],
+    vars: Vars,
     row: u8,
     room: bool,
-) -> Round
-    requires { Shaped source × Short template × T (all (λ (i : ℕ). ltb i source.count) (visit_of frame (relation_of source))) }
-    ensures { RoundIs (vars_of vars) (operands_of template) (relation_of source) frame row room result }
+) -> RoundAnswer
+    requires { Shaped source × Short template × T (list_all (λ (i : ℕ). ltb i source.count) (visit_of frame (relation_of source))) }
+    ensures { RoundIs vars (operands_of template) (relation_of source) frame row room result }
 {
-    let count = source.count;
-    let visit = to_visit(frame, count);
     if template.count != source.columns {
-        return Round {
-            answer: RoundAnswer::Stopped(Refusal::Misfit),
-            visit,
-            vars,
-        };
+        return Err(Refusal::Misfit);
     }
+    let visit = to_visit(frame, source.count);
     let ready = ready_places(template, source, visit, vars);
     if !any_place(ready) {
-        return Round {
-            answer: RoundAnswer::Over,
-            visit,
-            vars,
-        };
+        return Ok(None);
     }
     if !flag_in(ready, row) {
-        return Round {
-            answer: RoundAnswer::Stopped(Refusal::NotReady),
-            visit,
-            vars,
-        };
+        return Err(Refusal::NotReady);
     }
     if !room {
-        return Round {
-            answer: RoundAnswer::Stopped(Refusal::Full),
-            visit,
-            vars,
-        };
+        return Err(Refusal::Full);
     }
-    opened(template, source, visit, vars, row)
+    Ok(Some(opened(template, source, visit, vars, row)))
 }

@@ -6,10 +6,11 @@ use mathlib.Core.List.{List, [], ◌∷◌, map}
 use native.Mathlib.Omega.{arith}
 use lib.Dec.{T, ltb→lt, eqb→eq}
 use lib.ListN.{length, length-map}
-use Rattle.values.specs.declared.Got.TheVariants.{Nothing, One}
+use Rattle.std.specs.Prelude.{None, Some}
 use Rattle.values.specs.declared.Operand.{Operand}
 use Rattle.values.specs.declared.Operand.TheVariants.{Absent, ConstInt, ConstText, ConstLoc, Var, Plus, Formal}
-use Rattle.values.specs.Lists.{all, among}
+use Rattle.values.specs.Lists.{among}
+use Rattle.std.specs.List.{list_all}
 use Rattle.values.specs.Operands.{Vars, is_got, eval, reads, formals}
 use Rattle.values.proofs.Bools.{and_l, and_r}
 use Rattle.values.proofs.ListLaws.{all-map_of, all-and}
@@ -25,14 +26,14 @@ use Rattle.nets.specs.Sound.{tagged, operands_ok, bindings_ok, fields_ok_as, nod
 use Rattle.nets.specs.Steps.{is_bound, is_bound_table, known, reads_ok}
 
 -- a row's values are there
-ones : (r : Row) → T (all is_got (map One r))
+ones : (r : Row) → T (list_all is_got (map Some r))
 ones [] = tt
 ones (v ∷ r) = ones r
 
 module _ (e : Vars) (t : List Operand) (sixteen : length e ≡ 16) where
   -- an operand that reads bound variables and formals
   abbrev readable : Operand → Bool
-  readable o = all (λ i. is_bound e i || among i (formals t)) (reads o)
+  readable o = list_all (λ i. is_bound e i || among i (formals t)) (reads o)
 
   module _ (r : Row) (long : length r ≡ length t) where
     gives : (o : Operand) → T (tagged 4 o) → T (readable o) → T (is_got (eval (row_vars e t r) o))
@@ -41,12 +42,12 @@ module _ (e : Vars) (t : List Operand) (sixteen : length e ≡ 16) where
     gives (ConstText i) h k = tt
     gives (ConstLoc l) h k = tt
     gives (Var i) h k =
-        known-passes is_got Nothing i t (map One r) e (omega (arith, ltb→lt i 16 h)) (sym (length-map r One ∙ long)) (ones r)
+        known-passes is_got None i t (map Some r) e (omega (arith, ltb→lt i 16 h)) (sym (length-map r Some ∙ long)) (ones r)
         (and_l (is_bound e i || among i (formals t)) true k)
     gives (Plus i z) h k = absurd h
     gives (Formal i) h k = absurd h
 
-    draft-whole : (u : List Operand) → T (all (tagged 4) u) → T (all readable u) → T (all is_got (draft_for e t u r))
+    draft-whole : (u : List Operand) → T (list_all (tagged 4) u) → T (list_all readable u) → T (list_all is_got (draft_for e t u r))
     unfolding draft
     draft-whole u h k =
         all-map_of (λ o. tagged 4 o && readable o) is_got (eval (row_vars e t r)) u

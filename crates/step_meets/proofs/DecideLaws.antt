@@ -3,21 +3,18 @@ use Prim.Native.Nat.{ℕ}
 use mathlib.Core.Path.{◌≡◌, refl, ap, ap₂, sym, subst, ◌∙◌}
 use mathlib.Core.Bool.{Bool, true, false, not, cond, ◌&&◌, ◌||◌}
 use mathlib.Core.List.{List, [], ◌++◌, append-nil}
-use mathlib.Core.Option.{some}
+use Rattle.std.specs.Prelude.{Some, is_some, Err, Ok}
 use lib.Dec.{T, eqb, ltb}
 use lib.ListN.{set, length}
-use Rattle.values.specs.Lists.{is_some}
-use Rattle.values.specs.Operands.{vars_of}
 use Rattle.values.proofs.Bools.{and_r, T_of}
 use Rattle.rows.specs.declared.Relation as Code
 use Rattle.rows.specs.Relations.{Relation}
 use Rattle.rows.specs.View.{relation_of}
 use Rattle.row_change.specs.ChangeContracts.{Holds}
 use Rattle.nets.specs.declared.Refusal.{Refusal}
-use Rattle.nets.specs.declared.Answer.{Answer}
-use Rattle.nets.specs.declared.Answer.TheVariants.{Done, Refused}
+use Rattle.nets.specs.Answers.{Answer}
 use Rattle.nets.specs.declared.Node.{Node}
-use Rattle.values.specs.declared.Slot.{Slot}
+use Rattle.values.specs.Operands.{Got}
 use Rattle.step_meets.specs.declared.Decided.{Decided}
 use Rattle.step_meets.specs.Situations.{Situation, Change, moved, saved_after}
 use Rattle.nets.specs.Nets as M
@@ -29,7 +26,7 @@ use Rattle.nets.specs.Answers.{refusing, is_doing, step_said, answer_of, said_of
 use Rattle.nets.specs.View.{kind_at, bindings_of, thread_of}
 use Rattle.step_effect.specs.EffectContracts.{is_step, puts_rows, parts_of, Doing}
 use Rattle.step_thread.specs.ThreadContracts.{goes_on, forks_of}
-use Rattle.step_meets.specs.MeetContracts.{located_of, outcome_at, Meets, parts_in, becomes, Made, new_thread, changed, DecidedAt, DecidedIs, ChangeIs}
+use Rattle.step_meets.specs.MeetContracts.{outcome_at, Meets, parts_in, becomes, Made, new_thread, changed, DecidedAt, DecidedIs, ChangeIs}
 use Rattle.nets.proofs.AnswerLaws.{said-passed}
 use Rattle.nets.proofs.KindLaws.{at_one}
 use Rattle.step_meets.proofs.EffectTies.{puts_rows_lem, effect_answer, effect_threads}
@@ -37,7 +34,7 @@ use Rattle.step_meets.proofs.MeetTies.{met-kind, met-parts}
 
 -- ── refusals ──
 
-pub never_done : (r : Decided) (why : Refusal) → r.answer ≡ Refused why → T (is_doing (said_of r.answer)) → ⊥
+pub never_done : (r : Decided) (why : Refusal) → r.answer ≡ Err why → T (is_doing (said_of r.answer)) → ⊥
 never_done r why e h = subst (λ (x : Answer). T (is_doing (said_of x))) e h
 
 -- the change with another word for its answer, and for whether it forks
@@ -55,7 +52,7 @@ changed_to s q r x a b =
 
 module _ (c : Scene) where
   -- a refusal changes nothing
-  pub refused-at : (s : Situation) (q : Code.Relation) (r : Decided) (why : Refusal) → r.answer ≡ Refused why → said_of (Refused why) ≡ answer_of (outcome_at c) → DecidedAt s q c r
+  pub refused-at : (s : Situation) (q : Code.Relation) (r : Decided) (why : Refusal) → r.answer ≡ Err why → said_of (Err why) ≡ answer_of (outcome_at c) → DecidedAt s q c r
   refused-at s q r why e a = record { answer = ap said_of e ∙ a; change = λ h. absurd (never_done r why e h); framed = λ h. absurd (never_done r why e h) }
 
   pub change_as :
@@ -82,7 +79,7 @@ module _ (c : Scene) where
       refuses_15 fourteen e = rw (twelve, thirteen, fourteen, e)
 
 -- at every scene
-pub refused-is : (s : Situation) (q : Code.Relation) (r : Decided) (why : Refusal) → r.answer ≡ Refused why → ((c : Scene) → Meets s c → said_of (Refused why) ≡ answer_of (outcome_at c)) → DecidedIs s q r
+pub refused-is : (s : Situation) (q : Code.Relation) (r : Decided) (why : Refusal) → r.answer ≡ Err why → ((c : Scene) → Meets s c → said_of (Err why) ≡ answer_of (outcome_at c)) → DecidedIs s q r
 refused-is s q r why e a =
     record { at = λ c m. refused-at c s q r why e (a c m); known = λ h. absurd (never_done r why e h); does = λ h. absurd (never_done r why e h) }
 
@@ -98,10 +95,10 @@ deny-both true b = refl
 deny-both false b = refl
 
 module _ (s : Situation) (c : Scene) (m : Meets s c) where
-  pub tested_13 : {p l : Bool} → p ≡ has_locality (kind_at s.node.kind) → l ≡ is_some (located_of s.located) → check13 c ≡ not (p && not l)
+  pub tested_13 : {p : Bool} (l : Bool) → p ≡ has_locality (kind_at s.node.kind) → is_some s.located ≡ not l → check13 c ≡ not (p && l)
   unfolding check13
-  tested_13 {p} {l} e f =
-      ap₂ (λ (a b : Bool). not a || b) (ap has_locality (met-kind s c m) ∙ sym e) (ap is_some m.located ∙ sym f) ∙ deny p l
+  tested_13 {p} l e f =
+      ap₂ (λ (a b : Bool). not a || b) (ap has_locality (met-kind s c m) ∙ sym e) (ap is_some m.located ∙ f) ∙ deny-both p l
 
   pub tested_14 : {p : Bool} → p ≡ needs_table (kind_at s.node.kind) → check14 c ≡ not (p && not s.found)
   unfolding check14
@@ -123,7 +120,7 @@ loop-no-step k l h = go (is_loop k) l (and_r (not (eqb (code k) 0)) (not (is_loo
     go false x y = x
 
 -- a done step passed checks 16 and 20
-pub done-parts : (d : Node) (r q : Code.Relation) (vs : List Slot) (h : Bool) (n : ℕ) → T (is_doing (step_said (parts_of d r q vs) h n)) → Doing d r q vs
+pub done-parts : (d : Node) (r q : Code.Relation) (vs : List Got) (h : Bool) (n : ℕ) → T (is_doing (step_said (parts_of d r q vs) h n)) → Doing d r q vs
 unfolding step_said
 done-parts d r q vs h n x =
     let passed = said-passed (part_checks (parts_of d r q vs) h n) _ x in
@@ -166,14 +163,14 @@ module _ (s : Situation) (c : Scene) (m : Meets s c) (step : T (is_step (kind_at
             shaped = o.shaped;
           }
 
-      bindings_are : vars_of r.vars ≡ vars_by kind (parts_in s q) → bindings_by c.node.kind c ≡ bindings_of r.vars x.relations
+      bindings_are : r.vars ≡ vars_by kind (parts_in s q) → bindings_by c.node.kind c ≡ bindings_of r.vars x.relations
       unfolding bindings_by
       bindings_are v =
-          ap₂ (λ (p : Parts) (t : M.Thread). record { vars = vars_by p.node.kind p; relations = cond (binds_relation p.node.kind) (set t.bindings.relations p.node.bound (some (bound_by p.node.kind p))) t.bindings.relations }) (sym met) m.thread
+          ap₂ (λ (p : Parts) (t : M.Thread). record { vars = vars_by p.node.kind p; relations = cond (binds_relation p.node.kind) (set t.bindings.relations p.node.bound (Some (bound_by p.node.kind p))) t.bindings.relations }) (sym met) m.thread
           ∙ sym (λ i. record { vars = v i; relations = x.bound i })
 
       pub act_change :
-          {a t : ℕ} → r.answer ≡ Done a t → said_of r.answer ≡ step_said (parts_in s q) s.held s.tables → r.forks ≡ false → vars_of r.vars ≡ vars_by kind (parts_in s q) →
+          {a t : ℕ} → r.answer ≡ Ok (record { added = a; taken = t }) → said_of r.answer ≡ step_said (parts_in s q) s.held s.tables → r.forks ≡ false → r.vars ≡ vars_by kind (parts_in s q) →
           goes_on (becomes c.net.nodes (changed s q r x)) ≡ go_on c.net.nodes s.node.next (with_bindings (thread_of s.saved s.thread) (bindings_of r.vars x.relations)) (below (thread_of s.saved s.thread).stack) →
           ChangeIs c (changed s q r x)
       act_change e said f v goes_on_lem =

@@ -1,10 +1,9 @@
 -- A step in its scene: its answer from the checks after 15, the rows that it leaves in its table, and, where it is no loop, where its thread goes on. Assumes nothing.
 use mathlib.Core.Path.{◌≡◌, refl, ap, ◌∙◌}
 use mathlib.Core.Bool.{true, false, not, and-true}
-use mathlib.Core.Option.{some}
+use Rattle.std.specs.Prelude.{Some, is_some}
 use lib.Dec.{T, eqb}
 use lib.ListN.{length, drop}
-use Rattle.values.specs.Lists.{is_some}
 use Rattle.values.proofs.Bools.{and_r, is_true, T_of, not-T→false}
 use Rattle.rows.specs.Relations.{Relation}
 use Rattle.nets.specs.Nets.{Kind, code, needs_table, reads_relation, is_loop}
@@ -33,7 +32,7 @@ later-said c twelve thirteen fourteen fifteen = judge_said (later_checks c) (per
 -- ── the source of rows ──
 
 -- it is the table variable read
-pub read-source : (c : Scene) → T (reads_relation c.node.kind) → (r : Relation) → relation c ≡ some r → source c ≡ r
+pub read-source : (c : Scene) → T (reads_relation c.node.kind) → (r : Relation) → relation c ≡ Some r → source c ≡ r
 unfolding source
 read-source c s r e = rw (is_true (reads_relation c.node.kind) s, e)
 

@@ -3,23 +3,21 @@ use Prim.Native.Nat.{ℕ, ◌-◌, ◌≤◌}
 use mathlib.Core.Path.{◌≡◌, refl, ap, ap₂, sym, subst, ◌∙◌}
 use mathlib.Core.Bool.{Bool, true, false, not, cond, ◌&&◌}
 use mathlib.Core.List.{List, [], ◌∷◌, ◌++◌, map, append-nil}
-use mathlib.Core.Option.{some}
+use Rattle.std.specs.Prelude.{None, Some, Err, Ok}
 use lib.Dec.{T, T_not, eqb, ltb}
 use lib.ListN.{length, get_or}
 use borrow.Author.Tests.{ltb-true}
 use Rattle.values.specs.declared.Operand.{Operand}
-use Rattle.values.specs.Lists.{any, among, filter}
-use Rattle.values.specs.Operands.{Vars, vars_of}
+use Rattle.values.specs.Lists.{among, filter}
+use Rattle.std.specs.List.{list_any}
+use Rattle.values.specs.Operands.{Vars}
 use Rattle.rows.specs.declared.Relation as Code
 use Rattle.rows.specs.Relations.{Relation}
 use Rattle.rows.specs.Matching.{row_vars}
 use Rattle.rows.specs.View.{relation_of, operands_of}
 use Rattle.nets.specs.declared.Refusal.{Refusal}
-use Rattle.nets.specs.declared.Answer.TheVariants.{Done, Refused}
 use Rattle.nets.specs.declared.Frame.{Frame}
-use Rattle.step_thread.specs.declared.Round.{Round}
-use Rattle.step_thread.specs.declared.RoundAnswer.{RoundAnswer}
-use Rattle.step_thread.specs.declared.RoundAnswer.TheVariants.{Over, Opened, Stopped}
+use Rattle.step_thread.specs.declared.Opened.{Opened}
 use Rattle.step_meets.specs.declared.Decided.{Decided}
 use Rattle.step_meets.specs.Situations.{Situation, Change, saved_after}
 use Rattle.nets.specs.Nets as M
@@ -30,7 +28,7 @@ use Rattle.nets.specs.Steps.{room_for_round, check12, first_met, loop_entry, rou
 use Rattle.nets.specs.Answers.{answer_of, said_of}
 use Rattle.nets.specs.View.{kind_at, marked, node_in, entry_of, variable_of, bindings_of, thread_of}
 use Rattle.step_effect.specs.EffectContracts.{puts_rows}
-use Rattle.step_thread.specs.ThreadContracts.{round_said, round_by, opened, ready_at, visit_of, RoundIs, is_run, goes_on}
+use Rattle.step_thread.specs.ThreadContracts.{RoundAnswer, round_said, round_by, ready_at, visit_of, RoundIs, is_run, goes_on}
 use Rattle.step_meets.specs.MeetContracts.{outcome_at, Meets, own_bindings, relation_read, becomes, Made, new_thread, ChangeIs}
 use Rattle.nets.proofs.KindClasses.{class_in, in_class}
 use Rattle.nets.proofs.StackView.{entry-node_in}
@@ -58,7 +56,7 @@ pub same-bindings :
 same-bindings s q r x l v ds =
     λ i.
     go_on ds s.node.next
-    (record { site = s.thread.site; bindings = record { vars = vars_of (v i); relations = loop-relations s q r x l i }; stack = (thread_of s.saved s.thread).stack })
+    (record { site = s.thread.site; bindings = record { vars = v i; relations = loop-relations s q r x l i }; stack = (thread_of s.saved s.thread).stack })
     (below (thread_of s.saved s.thread).stack)
 
 -- a round in a thread: its variables, and the entries that its top gives way to
@@ -66,16 +64,16 @@ abbrev pub round_in : M.Thread → Vars → M.Entry → M.Entry → M.Thread
 round_in t vs x y = with_stack (with_bindings t (with_vars t.bindings vs)) (x ∷ y ∷ below t.stack)
 
 -- a round has room
-has_room_lem : (a b q r : Bool) → round_by a b q r ≡ opened → r ≡ true
+has_room_lem : (a b q r : Bool) → round_by a b q r ≡ Ok true → r ≡ true
 has_room_lem false b q r e = cc
 has_room_lem true false q r e = cc
 has_room_lem true true false r e = cc
 has_room_lem true true true false e = cc
 has_room_lem true true true true e = refl
 
-pub round_room_lem : {e : Vars} {t : List Operand} {r : Relation} {f : Frame} {row : ℕ} {room : Bool} {o : Round} → RoundIs e t r f row room o → o.answer ≡ Opened → room ≡ true
+pub round_room_lem : {e : Vars} {t : List Operand} {r : Relation} {f : Frame} {row : ℕ} {room : Bool} {o : RoundAnswer} {p : Opened} → RoundIs e t r f row room o → o ≡ Ok (Some p) → room ≡ true
 round_room_lem {e} {t} {r} {f} {row} {room} got h =
-    has_room_lem (eqb (length t) (length r.columns)) (any (ready_at e t r) (visit_of f r)) (among row (visit_of f r) && ready_at e t r row) room (sym got.answer ∙ ap round_said h)
+    has_room_lem (eqb (length t) (length r.columns)) (list_any (ready_at e t r) (visit_of f r)) (among row (visit_of f r) && ready_at e t r row) room (sym got.answer ∙ ap round_said h)
 
 -- ── room, by the code's tests ──
 
@@ -87,17 +85,17 @@ room-met s c m e f = f ∙ ap (λ (b : Bool). cond b (ltb s.threads 8) (ltb s.th
 -- ── the answer of a round ──
 
 -- a round of the code at a scene's loop, where check 12 passed; the table variable read is `source`
-pub record RoundAt (s : Situation) (c : Scene) (o : Round) : Type 0 where
+pub record RoundAt (s : Situation) (c : Scene) (o : RoundAnswer) : Type 0 where
   pub meets : Meets s c
   pub loop : T (is_loop (kind_at s.node.kind))
   pub twelve : check12 c ≡ true
   pub source : Code.Relation
-  pub held : relation_read s ≡ some (relation_of source)
+  pub held : relation_read s ≡ Some (relation_of source)
   pub room : Bool
   pub space : room ≡ room_for_round c
-  pub got : RoundIs (vars_of s.thread.vars) (operands_of s.node.selector.template) (relation_of source) s.frame s.row room o
+  pub got : RoundIs s.thread.vars (operands_of s.node.selector.template) (relation_of source) s.frame s.row room o
 
-module _ (s : Situation) (c : Scene) (o : Round) (r : RoundAt s c o) where
+module _ (s : Situation) (c : Scene) (o : RoundAnswer) (r : RoundAt s c o) where
   abbrev m : Meets s c
   m = r.meets
 
@@ -107,16 +105,16 @@ module _ (s : Situation) (c : Scene) (o : Round) (r : RoundAt s c o) where
   loops : T (is_loop c.node.kind)
   loops = subst (λ (k : Kind). T (is_loop k)) (sym (met-kind s c m)) r.loop
 
-  round_is : {t : RoundAnswer} → o.answer ≡ t → round_here c ≡ round_said t
+  round_is : {t : RoundAnswer} → o ≡ t → round_here c ≡ round_said t
   round_is e =
       met_round s c m r.loop q r.held
-      ∙ ap (round_with (vars_of s.thread.vars) (operands_of s.node.selector.template) q (visit_of s.frame q) s.row) (sym r.space)
+      ∙ ap (round_with s.thread.vars (operands_of s.node.selector.template) q (visit_of s.frame q) s.row) (sym r.space)
       ∙ sym r.got.answer ∙ ap round_said e
 
-  pub round_says : {t : RoundAnswer} → o.answer ≡ t → said_round (round_said t) ≡ answer_of (outcome_at c)
+  pub round_says : {t : RoundAnswer} → o ≡ t → said_round (round_said t) ≡ answer_of (outcome_at c)
   round_says e = sym (round_answer c loops r.twelve ∙ ap said_round (round_is e))
 
-  pub round_stops : (why : Refusal) → o.answer ≡ Stopped why → said_of (Refused why) ≡ answer_of (outcome_at c)
+  pub round_stops : (why : Refusal) → o ≡ Err why → said_of (Err why) ≡ answer_of (outcome_at c)
   round_stops why e = round_says e
 
   kind-is : is_parallel c.node.kind ≡ is_parallel (kind_at s.node.kind)
@@ -129,10 +127,10 @@ module _ (s : Situation) (c : Scene) (o : Round) (r : RoundAt s c o) where
 
   module _ (n : Code.Relation) (d : Decided) (x : Made s n d) where
     abbrev change : Bool → Change
-    change forks = changed_to s n d x (Done 0 0) forks
+    change forks = changed_to s n d x (Ok (record { added = 0; taken = 0 })) forks
 
     pub round_over :
-        o.answer ≡ Over →
+        o ≡ Ok None →
         goes_on (becomes c.net.nodes (change false)) ≡ go_on c.net.nodes s.node.next (thread_of s.saved s.thread) (below (thread_of s.saved s.thread).stack) →
         ChangeIs c (change false)
     round_over e goes_on_lem =
@@ -149,37 +147,37 @@ module _ (s : Situation) (c : Scene) (o : Round) (r : RoundAt s c o) where
 
     -- ── a round ──
 
-    -- what the loop's entry holds from now on
-    abbrev entry : M.Entry
-    entry = visiting (node_in s.frame.entry) (marked 0 o.visit) (saved_after s d (s.thread.depth - 1))
+    module _ (p : Opened) (e : o ≡ Ok (Some p)) (first : d.saves ≡ is_run s.frame.entry) where
+      -- what the loop's entry holds from now on
+      abbrev entry : M.Entry
+      entry = visiting (node_in s.frame.entry) (marked 0 p.visit) (saved_after s d (s.thread.depth - 1))
 
-    abbrev bound : M.Bindings
-    bound = with_vars (own_bindings s) (vars_of o.vars)
+      abbrev bound : M.Bindings
+      bound = with_vars (own_bindings s) p.vars
 
-    module _ (e : o.answer ≡ Opened) (first : d.saves ≡ is_run s.frame.entry) where
       entry-is : loop_entry c ≡ entry
       entry-is =
           ap₂ (λ (y : M.Entry) (v : List ℕ). visiting (entry_node y) v (first_met c.thread y)) m.entry
           (ap₂ (λ (i : ℕ) (v : List ℕ). filter (λ j. not (eqb j i)) v) (sym m.row)
           (loop-visit c loops q (met-relation s c m ∙ r.held) ∙ ap (λ (y : M.Entry). still_to_visit y (length q.rows)) m.entry ∙ visit-any (s.saved (s.thread.depth - 1)) s.frame (length q.rows))
-          ∙ sym (r.got.visit (ap round_said e)))
-          ∙ ap₂ (λ (i : ℕ) (b : M.Bindings). visiting i (marked 0 o.visit) b) (entry-node_in (s.saved (s.thread.depth - 1)) s.frame)
+          ∙ sym ((r.got.opened p e).visit))
+          ∙ ap₂ (λ (i : ℕ) (b : M.Bindings). visiting i (marked 0 p.visit) b) (entry-node_in (s.saved (s.thread.depth - 1)) s.frame)
           (ap (λ (t : M.Thread). first_met t (entry_of (s.saved (s.thread.depth - 1)) s.frame)) m.thread ∙ saved-top s d first)
 
       bindings_are : round_bindings c ≡ bound
       bindings_are =
           ap₂ with_vars (ap (λ (t : M.Thread). t.bindings) m.thread)
           (ap₂ (λ (v : Vars) (t : List Operand). row_vars v t (row_at c c.row)) (met-vars s c m) (met-template s c m)
-          ∙ ap (row_vars (vars_of s.thread.vars) (operands_of s.node.selector.template))
+          ∙ ap (row_vars s.thread.vars (operands_of s.node.selector.template))
           (loop-row c loops q (met-relation s c m ∙ r.held) c.row ∙ ap (λ (i : ℕ). get_or q.rows i []) (sym m.row))
-          ∙ sym (r.got.vars (ap round_said e)))
+          ∙ sym ((r.got.opened p e).vars))
 
       -- in the thread: the formals are bound and the body goes on the stack
       pub round_runs :
           is_parallel (kind_at s.node.kind) ≡ false →
-          becomes c.net.nodes (change false) ≡ round_in (thread_of s.saved s.thread) (vars_of o.vars) (to_run s.node.body) entry →
+          becomes c.net.nodes (change false) ≡ round_in (thread_of s.saved s.thread) p.vars (to_run s.node.body) entry →
           ChangeIs c (change false)
-      round_runs h p =
+      round_runs h g =
           record {
             answer = round_says e;
             content = λ y k. absurd (puts_no-rows k);
@@ -189,7 +187,7 @@ module _ (s : Situation) (c : Scene) (o : Round) (r : RoundAt s c o) where
                 ∙ ap (λ (t : M.Thread). settle c.at (t ∷ []) c.net.threads)
                 (ap₂ (λ (z : M.Entry) (b : M.Bindings). with_stack (with_bindings c.thread b) (to_run c.node.body ∷ z ∷ below c.thread.stack)) entry-is bindings_are
                 ∙ ap₂ (λ (t : M.Thread) (k : M.Node). with_stack (with_bindings t bound) (to_run k.body ∷ entry ∷ below t.stack)) m.thread m.node)
-                ∙ ap (λ (us : List M.Thread). settle c.at us c.net.threads) (sym (ap goes_on p))
+                ∙ ap (λ (us : List M.Thread). settle c.at us c.net.threads) (sym (ap goes_on g))
                 ∙ sym (append-nil (settle c.at (goes_on (becomes c.net.nodes (change false))) c.net.threads));
           }
 
@@ -197,9 +195,9 @@ module _ (s : Situation) (c : Scene) (o : Round) (r : RoundAt s c o) where
       pub round_forks :
           is_parallel (kind_at s.node.kind) ≡ true → 1 ≤ d.depth →
           becomes c.net.nodes (change true) ≡ with_stack (thread_of s.saved s.thread) (entry ∷ below (thread_of s.saved s.thread).stack) →
-          new_thread s d x.relations ≡ record { site = s.thread.site; bindings = bindings_of o.vars s.thread.relations; stack = to_run s.node.body ∷ [] } →
+          new_thread s d x.relations ≡ record { site = s.thread.site; bindings = bindings_of p.vars s.thread.relations; stack = to_run s.node.body ∷ [] } →
           ChangeIs c (change true)
-      round_forks h deep p f =
+      round_forks h deep g f =
           record {
             answer = round_says e;
             content = λ y k. absurd (puts_no-rows k);
@@ -208,7 +206,7 @@ module _ (s : Situation) (c : Scene) (o : Round) (r : RoundAt s c o) where
                 parallel_threads c loops (round_is e) (kind-is ∙ h)
                 ∙ ap₂ (λ (z : M.Entry) (b : M.Bindings). both c.thread c.node.body z b) entry-is bindings_are
                 ∙ ap₂ (λ (t : M.Thread) (k : M.Node). both t k.body entry bound) m.thread m.node
-                ∙ ap₂ (λ (us : List M.Thread) (u : M.Thread). settle c.at us c.net.threads ++ (u ∷ [])) (sym (ap goes_on p)) (sym f);
+                ∙ ap₂ (λ (us : List M.Thread) (u : M.Thread). settle c.at us c.net.threads ++ (u ∷ [])) (sym (ap goes_on g)) (sym f);
           }
         where
           both : M.Thread → ℕ → M.Entry → M.Bindings → List M.Thread

@@ -1,4 +1,5 @@
 -- What is decided at a loop, at a scene: over, a round in the thread, or a round in a new one. Assumes nothing.
+use Rattle.std.specs.Prelude.{None, Some, Ok}
 use Prim.Native.Nat.{ℕ, ◌+◌, ◌-◌, ◌<◌, ◌≤◌}
 use mathlib.Core.Path.{◌≡◌, ap, ◌∙◌}
 use mathlib.Core.Bool.{Bool, true, false, cond}
@@ -7,18 +8,15 @@ use native.Mathlib.Omega.{arith}
 use borrow.Author.Tests.{le-ltb}
 use lib.Dec.{ltb}
 use lib.ListN.{length}
-use Rattle.values.specs.Operands.{vars_of}
 use Rattle.rows.specs.declared.Relation as Code
 use Rattle.nets.specs.declared.Entry.TheVariants.{Loop}
-use Rattle.nets.specs.declared.Answer.TheVariants.{Done}
 use Rattle.nets.specs.Nets.{is_parallel, to_run, visiting, Bindings, Thread}
 use Rattle.nets.specs.Scenes.{Scene, below}
 use Rattle.nets.specs.Steps.{restored}
 use Rattle.nets.specs.Answers.{said_of}
 use Rattle.nets.specs.View.{kind_at, marked, node_in, entry_with, entry_of, thread_of}
-use Rattle.step_thread.specs.declared.Round.{Round}
-use Rattle.step_thread.specs.declared.RoundAnswer.TheVariants.{Over, Opened}
-use Rattle.step_thread.specs.ThreadContracts.{is_run, Stacked}
+use Rattle.step_thread.specs.declared.Opened.{Opened}
+use Rattle.step_thread.specs.ThreadContracts.{RoundAnswer, is_run, Stacked}
 use Rattle.step_meets.specs.declared.Decided.{Decided}
 use Rattle.step_meets.specs.Situations.{Situation, moved, saved_after, Onward}
 use Rattle.step_meets.specs.MeetContracts.{Made, DecidedAt}
@@ -26,9 +24,9 @@ use Rattle.step_meets.proofs.DecideLaws.{change_as}
 use Rattle.step_meets.proofs.MovedLaws.{moved-top, moved-over, goes_on_lem, saved-below, onward_framed, round_framed}
 use Rattle.step_meets.proofs.LoopChangeLaws.{loop-relations, same-bindings, RoundAt, round_says, round_over, round_runs, round_forks}
 
-module _ (s : Situation) (q : Code.Relation) (c : Scene) (o : Round) (at : RoundAt s c o) (ok : Stacked s.thread) (eight : length s.thread.stack ≡ 8) (r : Decided) (done : r.answer ≡ Done 0 0) where
+module _ (s : Situation) (q : Code.Relation) (c : Scene) (o : RoundAnswer) (at : RoundAt s c o) (ok : Stacked s.thread) (eight : length s.thread.stack ≡ 8) (r : Decided) (done : r.answer ≡ Ok (record { added = 0; taken = 0 })) where
   -- the loop is over
-  pub over-at : o.answer ≡ Over → r.forks ≡ false → r.vars ≡ s.thread.vars → Onward s.thread.depth s.node.next r → DecidedAt s q c r
+  pub over-at : o ≡ Ok None → r.forks ≡ false → r.vars ≡ s.thread.vars → Onward s.thread.depth s.node.next r → DecidedAt s q c r
   over-at e f v g =
       record {
         answer = ap said_of done ∙ round_says s c o at e;
@@ -40,32 +38,32 @@ module _ (s : Situation) (q : Code.Relation) (c : Scene) (o : Round) (at : Round
       }
 
   module _
-      (e : o.answer ≡ Opened) (first : r.saves ≡ is_run s.frame.entry) {i : ℕ} (number : i ≡ node_in s.frame.entry)
-      (loops : r.frame.entry ≡ Loop i) (waits : (b : Bindings) → entry_of b r.frame ≡ visiting i (marked 0 o.visit) b) where
+      (p : Opened) (e : o ≡ Ok (Some p)) (first : r.saves ≡ is_run s.frame.entry) {i : ℕ} (number : i ≡ node_in s.frame.entry)
+      (loops : r.frame.entry ≡ Loop i) (waits : (b : Bindings) → entry_of b r.frame ≡ visiting i (marked 0 p.visit) b) where
     abbrev saved : Bindings
     saved = saved_after s r (s.thread.depth - 1)
 
-    waiting : entry_of saved r.frame ≡ visiting (node_in s.frame.entry) (marked 0 o.visit) saved
-    waiting = waits saved ∙ ap (λ (j : ℕ). visiting j (marked 0 o.visit) saved) number
+    waiting : entry_of saved r.frame ≡ visiting (node_in s.frame.entry) (marked 0 p.visit) saved
+    waiting = waits saved ∙ ap (λ (j : ℕ). visiting j (marked 0 p.visit) saved) number
 
     -- no entry is removed
     stays : s.thread.depth ≤ r.depth → ltb r.depth s.thread.depth ≡ false
     stays h = le-ltb r.depth s.thread.depth h
 
     -- a round in the thread
-    pub runs-at : is_parallel (kind_at s.node.kind) ≡ false → s.thread.depth < 8 → r.forks ≡ false → r.vars ≡ o.vars → r.depth ≡ s.thread.depth + 1 → DecidedAt s q c r
+    pub runs-at : is_parallel (kind_at s.node.kind) ≡ false → s.thread.depth < 8 → r.forks ≡ false → r.vars ≡ p.vars → r.depth ≡ s.thread.depth + 1 → DecidedAt s q c r
     runs-at k deep f v d =
         record {
           answer = ap said_of done ∙ round_says s c o at e;
           change = λ h x.
               change_as c s q r x done f
-              (round_runs s c o at q r x e first k
+              (round_runs s c o at q r x p e first k
               (ap (λ (b : Bool). back_by b x) (stays (omega (arith, d)))
               ∙ moved-over s.thread s.saved (saved_after s r) r x.above x.over x.body x.relations ok eight (saved-below s r) deep d
               ∙ (λ j.
               record {
                 site = s.thread.site;
-                bindings = record { vars = vars_of (v j); relations = loop-relations s q r x at.loop j };
+                bindings = record { vars = v j; relations = loop-relations s q r x at.loop j };
                 stack = entry_with (saved_after s r s.thread.depth) x.body.visit (x.runs j) ∷ waiting j ∷ below (thread_of s.saved s.thread).stack;
               })));
           framed = λ h. round_framed s r (omega (arith, d)) (omega (arith, d)) loops number at.loop first;
@@ -77,22 +75,22 @@ module _ (s : Situation) (q : Code.Relation) (c : Scene) (o : Round) (at : Round
             cond b (restored c.net.nodes u u.stack) u
 
     -- a round in a new thread
-    pub forks-at : is_parallel (kind_at s.node.kind) ≡ true → r.forks ≡ true → r.vars ≡ s.thread.vars → r.inner ≡ o.vars → r.depth ≡ s.thread.depth → DecidedAt s q c r
+    pub forks-at : is_parallel (kind_at s.node.kind) ≡ true → r.forks ≡ true → r.vars ≡ s.thread.vars → r.inner ≡ p.vars → r.depth ≡ s.thread.depth → DecidedAt s q c r
     forks-at k f v n d =
         record {
           answer = ap said_of done ∙ round_says s c o at e;
           change = λ h x.
               change_as c s q r x done f
-              (round_forks s c o at q r x e first k (omega (arith, d, ok.some))
+              (round_forks s c o at q r x p e first k (omega (arith, d, ok.some))
               (ap (λ (b : Bool). back_by b x) (stays (omega (arith, d)))
               ∙ moved-top s.thread s.saved (saved_after s r) r x.above x.over x.body x.relations ok eight (saved-below s r) d
               ∙ (λ j.
               record {
                 site = s.thread.site;
-                bindings = record { vars = vars_of (v j); relations = loop-relations s q r x at.loop j };
+                bindings = record { vars = v j; relations = loop-relations s q r x at.loop j };
                 stack = waiting j ∷ below (thread_of s.saved s.thread).stack;
               }))
-              (λ j. record { site = s.thread.site; bindings = record { vars = vars_of (n j); relations = loop-relations s q r x at.loop j }; stack = to_run s.node.body ∷ [] }));
+              (λ j. record { site = s.thread.site; bindings = record { vars = n j; relations = loop-relations s q r x at.loop j }; stack = to_run s.node.body ∷ [] }));
           framed = λ h. round_framed s r (omega (arith, d)) (omega (arith, d)) loops number at.loop first;
         }
       where

@@ -1,10 +1,9 @@
 -- The parts that the code holds of a scene: they are the parts of its step, and of its round. Assumes nothing.
 use mathlib.Core.Path.{◌≡◌, ap, ap₂, sym, subst, ◌∙◌}
 use mathlib.Core.Bool.{cond}
-use mathlib.Core.Option.{none, some}
+use Rattle.std.specs.Prelude.{None, Some}
 use lib.Dec.{T, ltb}
 use lib.ListN.{get_or}
-use Rattle.values.specs.Operands.{vars_of}
 use Rattle.rows.specs.declared.Relation as Code
 use Rattle.rows.specs.Relations.{Relation}
 use Rattle.rows.specs.View.{relation_of, operands_of}
@@ -24,7 +23,7 @@ module _ (s : Situation) (c : Scene) (m : Meets s c) where
   pub met-kind : c.node.kind ≡ kind_at s.node.kind
   met-kind = ap (λ (d : M.Node). d.kind) m.node
 
-  pub met-vars : vars c ≡ vars_of s.thread.vars
+  pub met-vars : vars c ≡ s.thread.vars
   met-vars = ap (λ (t : M.Thread). t.bindings.vars) m.thread
 
   pub met-template : template c ≡ operands_of s.node.selector.template
@@ -32,7 +31,7 @@ module _ (s : Situation) (c : Scene) (m : Meets s c) where
 
   pub met-relation : relation c ≡ relation_read s
   unfolding relation
-  met-relation = ap₂ (λ (t : M.Thread) (d : M.Node). get_or t.bindings.relations d.read none) m.thread m.node
+  met-relation = ap₂ (λ (t : M.Thread) (d : M.Node). get_or t.bindings.relations d.read None) m.thread m.node
 
   -- with the source of rows `q`
   pub met-parts : (q : Code.Relation) → relation_of q ≡ source c → parts_in s q ≡ parts c
@@ -40,8 +39,8 @@ module _ (s : Situation) (c : Scene) (m : Meets s c) where
 
   -- a loop's round, with the table variable read `r`
   pub met_round :
-      T (is_loop (kind_at s.node.kind)) → (r : Relation) → relation_read s ≡ some r →
-      round_here c ≡ round_with (vars_of s.thread.vars) (operands_of s.node.selector.template) r (visit_of s.frame r) s.row (room_for_round c)
+      T (is_loop (kind_at s.node.kind)) → (r : Relation) → relation_read s ≡ Some r →
+      round_here c ≡ round_with s.thread.vars (operands_of s.node.selector.template) r (visit_of s.frame r) s.row (room_for_round c)
   met_round l r e =
       loop_round c (subst (λ (k : Kind). T (is_loop k)) (sym met-kind) l) r (met-relation ∙ e)
       ∙ rw (met-vars, met-template, m.entry, ← m.row, visit-any)

@@ -3,23 +3,21 @@ use Prim.Native.Nat.{ℕ, ◌≤◌, ◌<◌}
 use mathlib.Core.Path.{◌≡◌, refl, ap, ap₂, sym, subst, ◌∙◌}
 use mathlib.Core.Bool.{Bool, true, false, not, cond, ◌&&◌}
 use mathlib.Core.List.{List}
-use mathlib.Core.Option.{Option, none, some}
+use Rattle.std.specs.Prelude.{Option, None, Some, is_some, unwrap_or}
 use native.Mathlib.Omega.{arith}
 use lib.Dec.{T, eqb, ltb, eqb→eq, leb→le, ltb→lt}
 use lib.ListN.{length}
 use Rattle.values.specs.declared.Operand.{Operand}
-use Rattle.values.specs.Lists.{is_some, all}
-use Rattle.values.specs.Operands.{vars_of}
+use Rattle.std.specs.List.{list_all}
 use Rattle.values.proofs.Bools.{and_l, and_r, and_in, is_true, T_of, T_not_of}
 use Rattle.values.proofs.ListLaws.{all-at}
 use Rattle.values.proofs.Firsts.{length-firsts}
-use Rattle.rows.specs.declared.Field.{Field}
 use Rattle.rows.specs.declared.Operands.{Operands}
 use Rattle.rows.specs.declared.Relation as Code
 use Rattle.rows.specs.Relations.{Relation}
 use Rattle.rows.specs.View.{no_row, no_field, values_of, relation_of, operands_of, Shaped, Short}
 use Rattle.row_change.specs.ChangeContracts.{Complete}
-use Rattle.nets.specs.declared.TableVariable.{TableVariable}
+use Rattle.nets.specs.View.{TableVariable}
 use Rattle.step_meets.specs.Situations.{Situation}
 use Rattle.nets.specs.Nets as M
 use Rattle.nets.specs.Nets.{Kind, has_template, has_tuple, is_select, is_loop, reads_relation, binds_relation, code}
@@ -69,7 +67,7 @@ module _ (l : List Operand) where
   none-few h = omega (arith, eqb→eq (length l) 0 h)
 
 short : (t : Operands) → length (operands_of t) ≤ 4 → Short t
-short t h = record { count = subst (λ (n : ℕ). n ≤ 4) (length-firsts (λ (f : Field). f.operand) no_field t.count t.fields) h }
+short t h = record { count = subst (λ (n : ℕ). n ≤ 4) (length-firsts (λ (o : Operand). o) no_field t.count t.fields) h }
 
 module _ (k : Kind) (d : M.Node) (h : T (fields_ok_as k d)) where
   known-kind : T (not (eqb (code k) 0))
@@ -130,11 +128,11 @@ module _ (s : Situation) (f : Fine s) where
       let b : M.Bindings = own_bindings s in
       let k = f.bindings in
       let two : length b.relations ≡ 2 = eqb→eq (length b.relations) 2 (search (and_l, and_r)) in
-      all-at relation_ok b.relations s.node.read none (search (and_l, and_r)) (omega (arith, fine-read))
+      all-at relation_ok b.relations s.node.read None (search (and_l, and_r)) (omega (arith, fine-read))
 
-  read-shaped : (q : Code.Relation) → relation_read s ≡ some (relation_of q) → Shaped q
+  read-shaped : (q : Code.Relation) → relation_read s ≡ Some (relation_of q) → Shaped q
   read-shaped q e =
-      let k : T (relation_ok (some (relation_of q))) = subst (λ (o : Option Relation). T (relation_ok o)) e bound-fine in
+      let k : T (relation_ok (Some (relation_of q))) = subst (λ (o : Option Relation). T (relation_ok o)) e bound-fine in
       shaped q
       (record {
         columns = leb→le (length (relation_of q).columns) 4 (search (and_l, and_r));
@@ -148,7 +146,7 @@ module _ (s : Situation) (k : Known s) where
 
   -- ── a select's t ──
 
-  pub known-complete : Fine s → T (is_select (kind_at s.node.kind)) → Complete (vars_of s.thread.vars) (operands_of s.node.selector.template) (operands_of s.node.tuple)
+  pub known-complete : Fine s → T (is_select (kind_at s.node.kind)) → Complete s.thread.vars (operands_of s.node.selector.template) (operands_of s.node.tuple)
   known-complete f h = select-complete (own_bindings s) (node_of s.node) f.count f.number f.node f.bindings k.reads h
 
 -- ── check 12 ──
@@ -163,9 +161,9 @@ module _ (s : Situation) (c : Scene) (m : Meets s c) where
 
 -- with the table variables that are bound given by flags
 module _ (s : Situation) (hs : List Bool) (held : (i : ℕ) → flag_at hs i ≡ is_bound_table (own_bindings s).relations i)
-    {b : Bool} (e : b ≡ reads_ok (is_bound (vars_of s.thread.vars)) (flag_at hs) (node_of s.node)) where
+    {b : Bool} (e : b ≡ reads_ok (is_bound s.thread.vars) (flag_at hs) (node_of s.node)) where
   reads-flagged : b ≡ reads_ok (is_bound (own_bindings s).vars) (is_bound_table (own_bindings s).relations) (node_of s.node)
-  reads-flagged = e ∙ (λ i. reads_ok (is_bound (vars_of s.thread.vars)) (λ n. held n i) (node_of s.node))
+  reads-flagged = e ∙ (λ i. reads_ok (is_bound s.thread.vars) (λ n. held n i) (node_of s.node))
 
   pub flagged-known : b ≡ true → Known s
   flagged-known h = record { reads = subst T (sym h ∙ reads-flagged) tt }
@@ -175,41 +173,35 @@ module _ (s : Situation) (hs : List Bool) (held : (i : ℕ) → flag_at hs i ≡
 
 -- ── the source of rows ──
 
-module _ (s : Situation) (f : Fine s) (v : TableVariable) (p : variable_of v ≡ relation_read s) where
-  abbrev source_from : Bool → Bool → Code.Relation
-  source_from a b = cond (a && b) v.content s.content
+module _ (s : Situation) (f : Fine s) where
+  abbrev source_from : TableVariable → Bool → Code.Relation
+  source_from v a = cond a (unwrap_or v s.content) s.content
 
   -- a bound one is what is read
-  read_as : v.bound ≡ true → relation_read s ≡ some (relation_of v.content)
-  read_as e = sym p ∙ rw e
-
-  unread : v.bound ≡ false → relation_read s ≡ none
-  unread e = sym p ∙ rw e
-
-  source-read : (b : Bool) → v.bound ≡ b → T (reads_relation (kind_at s.node.kind)) → Known s → SourceIs s (source_from true b)
-  source-read true e r k =
+  source-read : (v : TableVariable) → variable_of v ≡ relation_read s → T (reads_relation (kind_at s.node.kind)) → Known s → SourceIs s (source_from v true)
+  source-read (Some q) p r k =
       record {
-        shaped = read-shaped s f v.content (read_as e);
-        read = λ g. read_as e;
+        shaped = read-shaped s f q (sym p);
+        read = λ g. sym p;
         own = λ g. absurd (subst T g r);
       }
-  source-read false e r k =
-      absurd (subst (λ (o : Option Relation). T (is_some o)) (unread e) (read-bound s k r))
+  source-read None p r k =
+      absurd (subst (λ (o : Option Relation). T (is_some o)) (sym p) (read-bound s k r))
 
-  shaped_from : (a b : Bool) → v.bound ≡ b → Shaped (source_from a b)
-  shaped_from true true e = read-shaped s f v.content (read_as e)
-  shaped_from true false e = f.content
-  shaped_from false b e = f.content
+  shaped_from : (v : TableVariable) → variable_of v ≡ relation_read s → (a : Bool) → Shaped (source_from v a)
+  shaped_from (Some q) p true = read-shaped s f q (sym p)
+  shaped_from None p true = f.content
+  shaped_from v p false = f.content
 
-  pub sourced : Sourced s (source_from (reads_relation (kind_at s.node.kind)) v.bound)
-  sourced =
+  pub sourced : (v : TableVariable) → variable_of v ≡ relation_read s → Sourced s (source_from v (reads_relation (kind_at s.node.kind)))
+  sourced v p =
       record {
-        shaped = shaped_from (reads_relation (kind_at s.node.kind)) v.bound refl;
+        shaped = shaped_from v p (reads_relation (kind_at s.node.kind));
         source = go (reads_relation (kind_at s.node.kind)) refl;
       }
     where
-      go : (a : Bool) → reads_relation (kind_at s.node.kind) ≡ a → Known s → SourceIs s (source_from a v.bound)
-      go true e k = source-read v.bound refl (T_of (reads_relation (kind_at s.node.kind)) e) k
+      go : (a : Bool) → reads_relation (kind_at s.node.kind) ≡ a → Known s → SourceIs s (source_from v a)
+      go true e k = source-read v p (T_of (reads_relation (kind_at s.node.kind)) e) k
       go false e k = record { shaped = f.content; read = λ g. absurd (subst T e g); own = λ g. refl }
 
 module _ (s : Situation) (q : Code.Relation) (i : SourceIs s q) where
@@ -222,13 +214,13 @@ module _ (s : Situation) (q : Code.Relation) (i : SourceIs s q) where
           (met-relation s c m ∙ i.read (T_of (reads_relation (kind_at s.node.kind)) e)))
       go false e = i.own e ∙ m.content ∙ sym (own-source c (ap reads_relation (met-kind s c m) ∙ e))
 
-  pub loop-read : T (is_loop (kind_at s.node.kind)) → relation_read s ≡ some (relation_of q)
+  pub loop-read : T (is_loop (kind_at s.node.kind)) → relation_read s ≡ Some (relation_of q)
   loop-read l = i.read (loop-reads (kind_at s.node.kind) l)
 
   -- the places to visit are rows of it
-  pub visits-there : Fine s → T (is_loop (kind_at s.node.kind)) → T (all (λ (j : ℕ). ltb j q.count) (visit_of s.frame (relation_of q)))
+  pub visits-there : Fine s → T (is_loop (kind_at s.node.kind)) → T (list_all (λ (j : ℕ). ltb j q.count) (visit_of s.frame (relation_of q)))
   visits-there f l =
-      subst (λ (n : ℕ). T (all (λ (j : ℕ). ltb j n) (visit_of s.frame (relation_of q))))
+      subst (λ (n : ℕ). T (list_all (λ (j : ℕ). ltb j n) (visit_of s.frame (relation_of q))))
       (length-firsts (values_of q.columns) no_row q.count q.rows) (f.visits l (relation_of q) (loop-read l))
 
   pub step-ready : Fine s → Known s → StepReady s.node s.content q s.thread.vars

@@ -1,17 +1,13 @@
 -- What the functions that decide on a step require and give back, part by part.
-use Rattle.std.specs.Prelude.{ℕ, ◌+◌, ◌-◌, ◌≤◌, ◌<◌, ◌≡◌, Bool, false, cond, List, [], ◌∷◌, ◌++◌, map, T, ltb, get_or, set, length, drop}
-use Rattle.std.proofs.Math.Option.{Option, none, some}
-use Rattle.values.specs.declared.Site.{Site}
-use Rattle.values.specs.Lists.{all, is_some}
+use Rattle.std.specs.Prelude.{ℕ, ◌+◌, ◌-◌, ◌≤◌, ◌<◌, ◌≡◌, Bool, false, cond, List, [], ◌∷◌, ◌++◌, map, T, ltb, get_or, set, length, drop, Option, None, Some, is_some}
+use Rattle.std.specs.List.{list_all}
 use Rattle.rows.specs.declared.Relation as Code
 use Rattle.rows.specs.Relations.{Relation}
 use Rattle.rows.specs.View.{relation_of, Shaped}
 use Rattle.row_change.specs.ChangeContracts.{Holds}
-use Rattle.step_meets.specs.declared.Located.{Located}
-use Rattle.step_meets.specs.declared.Located.TheVariants.{Nowhere, At}
 use Rattle.nets.specs.declared.Entry.TheVariants.{Run, Loop}
 use Rattle.nets.specs.declared.Frame.{Frame}
-use Rattle.nets.specs.declared.TableVariable.{TableVariable}
+use Rattle.nets.specs.View.{TableVariable}
 use Rattle.step_meets.specs.declared.Decided.{Decided}
 use Rattle.step_meets.specs.Situations.{Situation, Rest, Change, over_of, moved, saved_after}
 use Rattle.nets.specs.Nets as M
@@ -25,12 +21,6 @@ use Rattle.nets.specs.Answers.{is_doing, answer_of, said_of}
 use Rattle.step_reads.specs.ReadContracts.{flag_at}
 use Rattle.step_effect.specs.EffectContracts.{is_step, puts_rows, parts_of, Doing}
 use Rattle.step_thread.specs.ThreadContracts.{visit_of, is_run, Stacked, goes_on, forks_of}
-
--- ── where L leads ──
-
-abbrev pub located_of : Located → Option Site
-located_of Nowhere = none
-located_of (At s) = some s
 
 -- ── the step from small parts ──
 
@@ -46,7 +36,7 @@ pub record Meets (s : Situation) (c : Scene) : Type 0 where
   pub thread : c.thread ≡ thread_of s.saved s.thread
   pub entry : c.entry ≡ entry_of (s.saved (s.thread.depth - 1)) s.frame
   pub node : c.node ≡ node_of s.node
-  pub located : site_of_l c ≡ located_of s.located
+  pub located : site_of_l c ≡ s.located
   pub found : s.found ≡ is_some (table c)
   pub content : relation_of s.content ≡ content_of (table c)
   pub held : T (binds_relation c.node.kind) → s.held ≡ held c
@@ -60,7 +50,7 @@ own_bindings s = bindings_of s.thread.vars s.thread.relations
 
 -- the table variable that the node reads
 abbrev pub relation_read : Situation → Option Relation
-relation_read s = get_or (own_bindings s).relations s.node.read none
+relation_read s = get_or (own_bindings s).relations s.node.read None
 
 -- what soundness says of them
 pub record Fine (s : Situation) : Type 0 where
@@ -71,7 +61,7 @@ pub record Fine (s : Situation) : Type 0 where
   pub stacked : Stacked s.thread
   pub content : Shaped s.content
   -- a loop entry's places are rows of the table variable read
-  pub visits : T (is_loop (kind_at s.node.kind)) → (r : Relation) → relation_read s ≡ some r → T (all (λ i. ltb i (length r.rows)) (visit_of s.frame r))
+  pub visits : T (is_loop (kind_at s.node.kind)) → (r : Relation) → relation_read s ≡ Some r → T (list_all (λ i. ltb i (length r.rows)) (visit_of s.frame r))
 
 -- check 12 passed, said of the parts
 pub record Known (s : Situation) : Type 0 where
@@ -84,7 +74,7 @@ pub record Flagged (w : Rest) (flags : List Bool) : Type 0 where
 -- the source of rows: what the table variable read holds, or the table's content
 pub record SourceIs (s : Situation) (r : Code.Relation) : Type 0 where
   pub shaped : Shaped r
-  pub read : T (reads_relation (kind_at s.node.kind)) → relation_read s ≡ some (relation_of r)
+  pub read : T (reads_relation (kind_at s.node.kind)) → relation_read s ≡ Some (relation_of r)
   pub own : reads_relation (kind_at s.node.kind) ≡ false → relation_of r ≡ relation_of s.content
 
 -- the source, before check 12 is known to pass
@@ -118,7 +108,7 @@ pub record Made (s : Situation) (q : Code.Relation) (r : Decided) : Type 0 where
   pub relations : List TableVariable
   pub bound :
       map variable_of relations
-      ≡ cond (binds_relation (kind_at s.node.kind)) (set (map variable_of s.thread.relations) s.node.bound (some (bound_by (kind_at s.node.kind) (parts_in s q)))) (map variable_of s.thread.relations)
+      ≡ cond (binds_relation (kind_at s.node.kind)) (set (map variable_of s.thread.relations) s.node.bound (Some (bound_by (kind_at s.node.kind) (parts_in s q)))) (map variable_of s.thread.relations)
   pub above : ℕ
   pub over : above ≡ over_of s.thread.depth
   pub body : Frame

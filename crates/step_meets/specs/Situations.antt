@@ -1,17 +1,16 @@
 -- What a pick meets and what it changes, put together from the parts that the code holds. Only the code speaks of it: the rules are in `Steps`.
-use Rattle.std.specs.Prelude.{ℕ, ◌-◌, ◌≡◌, Bool, true, false, cond, ◌&&◌, List, eqb, ltb, set, length}
+use Rattle.std.specs.Prelude.{ℕ, ◌-◌, ◌≡◌, Bool, true, false, cond, ◌&&◌, List, eqb, ltb, set, length, Option}
 use Rattle.values.specs.declared.Site.{Site}
-use Rattle.values.specs.declared.Slot.{Slot}
+use Rattle.values.specs.Operands.{Got}
 use Rattle.rows.specs.declared.Relation.{Relation}
-use Rattle.nets.specs.declared.Answer.{Answer}
+use Rattle.nets.specs.Answers.{Answer}
 use Rattle.nets.specs.declared.Frame.{Frame}
 use Rattle.nets.specs.declared.Node.{Node}
-use Rattle.nets.specs.declared.TableVariable.{TableVariable}
+use Rattle.nets.specs.View.{TableVariable}
 use Rattle.nets.specs.declared.Thread.{Thread}
 use Rattle.nets.specs.declared.Entry.TheVariants.{Run}
 use Rattle.nets.specs.Nets as M
 use Rattle.nets.specs.View.{bindings_of}
-use Rattle.step_meets.specs.declared.Located.{Located}
 use Rattle.step_meets.specs.declared.Setting.{Setting}
 use Rattle.step_meets.specs.declared.Decided.{Decided}
 
@@ -22,7 +21,7 @@ pub record Situation : Type 0 where
   pub saved : ℕ → M.Bindings
   pub frame : Frame
   pub node : Node
-  pub located : Located
+  pub located : Option Site
   pub found : Bool
   pub content : Relation
   pub held : Bool
@@ -54,7 +53,7 @@ pub record Rest : Type 0 where
   pub saved : ℕ → M.Bindings
   pub long : length stack ≡ 8
 
-abbrev pub whole : List Slot → ℕ → Rest → Thread
+abbrev pub whole : List Got → ℕ → Rest → Thread
 whole vs n w = record { site = w.site; vars = vs; relations = w.relations; stack = w.stack; depth = n }
 
 -- the caller's thread: some `Rest` completes the parts that are handed on, and `P` holds of it

@@ -4,20 +4,15 @@ ghost use Rattle.values.specs.Lists.{or_else};
 ghost use Rattle.rows.specs.Relations.{no_relation};
 ghost use Rattle.rows.specs.View.{relation_of};
 ghost use Rattle.nets.specs.View.{no_site};
-ghost use Rattle.step_meets.specs.MeetContracts.{located_of};
 
-use crate::Located;
 use rows::Relation;
 use values::Site;
 
 // Where L leads nowhere any site will do: check 13 refuses the step, whatever table is found there.
-pub fn site_or_any(l: Located) -> Site
-    ensures { result ≡ or_else no_site (located_of l) }
+pub fn site_or_any(l: Option<Site>) -> Site
+    ensures { result ≡ or_else no_site l }
 {
-    match l {
-        Located::Nowhere => Site(0),
-        Located::At(s) => s,
-    }
+    l.unwrap_or(Site(0))
 }
 
 // The place found; where none is, the first place of the array.

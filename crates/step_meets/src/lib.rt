@@ -2,24 +2,17 @@
 #![tactic(auto)]
 
 use nets::{Answer, Frame};
-use values::{Site, Slot};
+use values::{Site, Vars};
 
 pub mod found;
 pub mod parts;
 pub mod sites;
 
-// Where L leads.
-#[derive(Clone, Copy)]
-pub enum Located {
-    Nowhere,
-    At(Site),
-}
-
 // What a pick meets beside its thread, its node and rows: where L leads, whether the table is there, whether a loop entry holds the table variable to
 // be bound, the numbers of tables and threads, and the row picked.
 #[derive(Clone, Copy)]
 pub struct Setting {
-    pub located: Located,
+    pub located: Option<Site>,
     pub found: bool,
     pub held: bool,
     pub tables: usize,
@@ -36,6 +29,6 @@ pub struct Decided {
     pub saves: bool,
     pub frame: Frame,
     pub depth: usize,
-    pub vars: [Slot; 16],
-    pub inner: [Slot; 16],
+    pub vars: Vars,
+    pub inner: Vars,
 }

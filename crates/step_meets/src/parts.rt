@@ -1,27 +1,24 @@
 // The parts of a decision: a refusal, where the thread goes on, which table variables are bound, and the rows spoken of.
-ghost use Rattle.std.specs.Prelude.{◌≡◌, false, cond, ◌&&◌, map, ℕ, ◌≤◌, length};
-ghost use Rattle.values.specs.Lists.{is_some};
+ghost use Rattle.std.specs.Prelude.{◌≡◌, false, cond, ◌&&◌, map, ℕ, ◌≤◌, length, Err, Ok, unwrap_or};
 ghost use Rattle.nets.specs.Nets.{reads_relation};
 ghost use Rattle.nets.specs.Steps.{is_bound_table};
 ghost use Rattle.nets.specs.View.{kind_at, variable_of};
 ghost use Rattle.step_reads.specs.ReadContracts.{flag_at};
 ghost use Rattle.step_meets.specs.Situations.{Onward};
-ghost use Rattle.step_meets.specs.MeetContracts.{located_of};
 
-use crate::{Decided, Located};
+use crate::Decided;
 use nets::kinds::reads_relation;
-use nets::{Answer, Frame, Refusal, TableVariable, Thread};
+use nets::{Answer, Done, Frame, Refusal, TableVariable, Thread};
 use rows::Relation;
 use step_thread::run_frame;
-use values::Slot;
+use values::Vars;
 
 // Refused: of the other parts none is looked at.
-pub fn refuses(r: Refusal, vars: [Slot; 16], depth: usize, frame: Frame) -> Decided
-    ensures { (result.answer ≡ Answer.Refused r) × (result.forks ≡ false) }
+pub fn refuses(r: Refusal, vars: Vars, depth: usize, frame: Frame) -> Decided
+    ensures { (result.answer ≡ Err r) × (result.forks ≡ false) }
 {
-    let answer = Answer::Refused(r);
     Decided {
-        answer,
+        answer: Err(r),
         forks: false,
         saves: false,
         frame,
@@ -36,16 +33,16 @@ pub fn onward(
     depth: usize,
     frame: Frame,
     next: u8,
-    vars: [Slot; 16],
+    vars: Vars,
     added: usize,
     taken: usize,
 ) -> Decided
     requires { 1 ≤ depth }
-    ensures { (result.answer ≡ Answer.Done added taken) × (result.forks ≡ false) × (result.vars ≡ vars) × Onward depth next result }
+    ensures { (result.answer ≡ Ok (record { added = added; taken = taken })) × (result.forks ≡ false) × (result.vars ≡ vars) × Onward depth next result }
 {
     if next == 255 {
         return Decided {
-            answer: Answer::Done(added, taken),
+            answer: Ok(Done { added, taken }),
             forks: false,
             saves: false,
             frame,
@@ -55,7 +52,7 @@ pub fn onward(
         };
     }
     Decided {
-        answer: Answer::Done(added, taken),
+        answer: Ok(Done { added, taken }),
         forks: false,
         saves: false,
         frame: run_frame(next),
@@ -65,31 +62,19 @@ pub fn onward(
     }
 }
 
-pub fn is_located(l: Located) -> bool
-    ensures { result ≡ is_some (located_of l) }
-{
-    match l {
-        Located::Nowhere => false,
-        Located::At(_) => true,
-    }
-}
-
 // The table variables that are bound. The contract also says how long the stack's array is, which a caller that reads the thread from a list can't tell by itself.
 pub fn bound_tables(t: Thread) -> [bool; 2]
     ensures { ((i : ℕ) → flag_at result i ≡ is_bound_table (map variable_of t.relations) i) × (length t.stack ≡ 8) }
 {
-    let a = t.relations[0];
-    let b = t.relations[1];
-    [a.bound, b.bound]
+    [t.relations[0].is_some(), t.relations[1].is_some()]
 }
 
-// The rows that the step speaks of: those of the table variable read, or of the table. What an unbound table variable holds is no matter.
+// The rows that the step speaks of: those of the table variable read, or of the table.
 pub fn source_of(kind: u8, v: TableVariable, content: Relation) -> Relation
-    ensures { result ≡ cond (reads_relation (kind_at kind) && v.bound) v.content content }
+    ensures { result ≡ cond (reads_relation (kind_at kind)) (unwrap_or v content) content }
 {
-    let own = v.content;
-    if reads_relation(kind) & v.bound {
-        return own;
+    if reads_relation(kind) {
+        return v.unwrap_or(content);
     }
     content
 }

@@ -3,12 +3,12 @@ use Prim.Native.Nat.{ℕ, ◌-◌, ◌<◌}
 use mathlib.Core.Path.{◌≡◌, refl, ap, sym, subst, ◌∙◌}
 use mathlib.Core.Bool.{Bool, true, false, not, cond}
 use mathlib.Core.List.{List, ◌∷◌, map}
-use mathlib.Core.Option.{Option, none}
+use Rattle.std.specs.Prelude.{Option, None}
 use native.Mathlib.Omega.{arith}
 use lib.Dec.{T, T_not, eqb, eqb_refl}
 use lib.ListN.{length, get_or, set, get_or-map}
 use lib.Seq.{get_or-set_other}
-use Rattle.values.specs.Lists.{all, any}
+use Rattle.std.specs.List.{list_all, list_any}
 use Rattle.values.proofs.Bools.{and_l, and_r, T_of}
 use Rattle.values.proofs.ListLaws.{not-any}
 use Rattle.rows.specs.Relations.{Relation}
@@ -16,7 +16,7 @@ use Rattle.nets.specs.declared.Entry.{Entry}
 use Rattle.nets.specs.declared.Entry.TheVariants.{Run, Loop}
 use Rattle.nets.specs.declared.Frame.{Frame}
 use Rattle.nets.specs.declared.Pick.{Pick}
-use Rattle.nets.specs.declared.TableVariable.{TableVariable}
+use Rattle.nets.specs.View.{TableVariable}
 use Rattle.nets.specs.declared.Thread.{Thread}
 use Rattle.nets.specs.declared.Net.{Net}
 use Rattle.nets.specs.Nets as M
@@ -83,7 +83,7 @@ module _ (net : Net) (p : Pick) (ok : T (sound (view net))) (there : p.thread < 
     entry-ok : T (entry_ok nodes relations (visiting i (marked 0 (frame j).visit) (bs j)))
     entry-ok =
         subst (λ (x : M.Entry). T (entry_ok nodes relations x)) entry-is
-        (stack-all bs (entry_ok nodes relations) (thread.depth - 1) thread.stack (and_l (all (entry_ok nodes relations) under) (all_saved_agree nodes relations under) entries) j low)
+        (stack-all bs (entry_ok nodes relations) (thread.depth - 1) thread.stack (and_l (list_all (entry_ok nodes relations) under) (all_saved_agree nodes relations under) entries) j low)
 
     -- it reads one of the two table variables
     pub read_low : read_at nodes (frame j) < 2
@@ -100,10 +100,10 @@ module _ (net : Net) (p : Pick) (ok : T (sound (view net))) (there : p.thread < 
     unfolding view scene_of
     not-bound binds e =
         let b : ℕ = (scene_of (view net) p).node.bound in
-        let free : T (not (any (holds nodes b) under)) =
-        subst (λ (l : List M.Entry). T (not (any (holds nodes b) l))) under-is
-        (subst (λ (t : M.Thread). T (not (any (holds nodes b) (below t.stack)))) (scene_thread net p ok there)
-        (given (binds_relation (scene_of (view net) p).node.kind) (not (any (holds nodes b) (below (scene_of (view net) p).thread.stack))) binds facts.free)) in
+        let free : T (not (list_any (holds nodes b) under)) =
+        subst (λ (l : List M.Entry). T (not (list_any (holds nodes b) l))) under-is
+        (subst (λ (t : M.Thread). T (not (list_any (holds nodes b) (below t.stack)))) (scene_thread net p ok there)
+        (given (binds_relation (scene_of (view net) p).node.kind) (not (list_any (holds nodes b) (below (scene_of (view net) p).thread.stack))) binds facts.free)) in
         let here : T (not (holds nodes b (visiting i (marked 0 (frame j).visit) (bs j)))) =
         subst (λ (x : M.Entry). T (not (holds nodes b x))) entry-is (stack-all bs (λ x. not (holds nodes b x)) (thread.depth - 1) thread.stack (not-any (holds nodes b) under free) j low) in
         T_not (eqb b (get_or nodes i S.no_node).read) here (subst (λ (n : ℕ). T (eqb b n)) (sym e ∙ sym number_is) (eqb_refl b))
@@ -116,14 +116,14 @@ module _ (net : Net) (p : Pick) (ok : T (sound (view net))) (there : p.thread < 
   sees_bound vs k b o kind-is bound-is e j low i loop = (
     read_low j low i loop,
     sym (get_or-map variable_of vs (read_at nodes (frame j)) no_variable)
-        ∙ ap (λ (l : List (Option Relation)). get_or l (read_at nodes (frame j)) none) e
+        ∙ ap (λ (l : List (Option Relation)). get_or l (read_at nodes (frame j)) None) e
         ∙ go (binds_relation k) refl
         ∙ get_or-map variable_of thread.relations (read_at nodes (frame j)) no_variable,
   )
     where
-      go : (z : Bool) → binds_relation k ≡ z → get_or (cond z (set relations b o) relations) (read_at nodes (frame j)) none ≡ get_or relations (read_at nodes (frame j)) none
+      go : (z : Bool) → binds_relation k ≡ z → get_or (cond z (set relations b o) relations) (read_at nodes (frame j)) None ≡ get_or relations (read_at nodes (frame j)) None
       go true x =
-          get_or-set_other relations b (read_at nodes (frame j)) o none
+          get_or-set_other relations b (read_at nodes (frame j)) o None
           (λ d. not-bound j low i loop (T_of _ (ap binds_relation kind-is ∙ x)) (d ∙ sym bound-is))
       go false x = refl
 
@@ -141,19 +141,19 @@ module _ (net : Net) (p : Pick) (ok : T (sound (view net))) (there : p.thread < 
         ∙ ap (λ (k : ℕ). entry_of (bs k) (frame k) ∷ stack_of bs k thread.stack) e
         ∙ ap (λ (x : M.Entry). x ∷ stack_of bs (thread.depth - 2) thread.stack) (entry-is (thread.depth - 2) here n outer)
 
-    all-agree : T (all (agree_on nodes relations (bs (thread.depth - 2)).relations) under)
+    all-agree : T (list_all (agree_on nodes relations (bs (thread.depth - 2)).relations) under)
     all-agree =
         let x : M.Entry = visiting n (marked 0 (frame (thread.depth - 2)).visit) (bs (thread.depth - 2)) in
         let l : List M.Entry = stack_of bs (thread.depth - 2) thread.stack in
-        let h : T (all_saved_agree nodes relations (x ∷ l)) = subst (λ (k : List M.Entry). T (all_saved_agree nodes relations k)) top-is (and_r (all (entry_ok nodes relations) under) (all_saved_agree nodes relations under) entries) in
+        let h : T (all_saved_agree nodes relations (x ∷ l)) = subst (λ (k : List M.Entry). T (all_saved_agree nodes relations k)) top-is (and_r (list_all (entry_ok nodes relations) under) (all_saved_agree nodes relations under) entries) in
         let a : T (saved_agrees nodes relations (x ∷ l) x) = and_l (saved_agrees nodes relations (x ∷ l) x) (all_saved_agree nodes relations l) h in
-        subst (λ (k : List M.Entry). T (all (agree_on nodes relations (bs (thread.depth - 2)).relations) k)) (sym top-is)
-        (given (is_sequential (get_or nodes n S.no_node).kind) (all (agree_on nodes relations (bs (thread.depth - 2)).relations) (x ∷ l)) (T_of _ sequential) a)
+        subst (λ (k : List M.Entry). T (list_all (agree_on nodes relations (bs (thread.depth - 2)).relations) k)) (sym top-is)
+        (given (is_sequential (get_or nodes n S.no_node).kind) (list_all (agree_on nodes relations (bs (thread.depth - 2)).relations) (x ∷ l)) (T_of _ sequential) a)
 
     pub agrees-below :
-        (j : ℕ) → j < thread.depth - 1 → (i : ℕ) → (frame j).entry ≡ Loop i → get_or relations (read_at nodes (frame j)) none ≡ get_or (bs (thread.depth - 2)).relations (read_at nodes (frame j)) none
+        (j : ℕ) → j < thread.depth - 1 → (i : ℕ) → (frame j).entry ≡ Loop i → get_or relations (read_at nodes (frame j)) None ≡ get_or (bs (thread.depth - 2)).relations (read_at nodes (frame j)) None
     agrees-below j low i loop =
-        subst (λ (m : ℕ). get_or relations m none ≡ get_or (bs (thread.depth - 2)).relations m none) (number_is j low i loop)
-        (relation_eq (get_or relations (get_or nodes i S.no_node).read none) (get_or (bs (thread.depth - 2)).relations (get_or nodes i S.no_node).read none)
+        subst (λ (m : ℕ). get_or relations m None ≡ get_or (bs (thread.depth - 2)).relations m None) (number_is j low i loop)
+        (relation_eq (get_or relations (get_or nodes i S.no_node).read None) (get_or (bs (thread.depth - 2)).relations (get_or nodes i S.no_node).read None)
         (subst (λ (x : M.Entry). T (agree_on nodes relations (bs (thread.depth - 2)).relations x)) (entry-is j low i loop)
         (stack-all bs (agree_on nodes relations (bs (thread.depth - 2)).relations) (thread.depth - 1) thread.stack all-agree j low)))

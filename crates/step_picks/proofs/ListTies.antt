@@ -3,11 +3,11 @@ use Prim.Native.Nat.{ℕ}
 use mathlib.Core.Path.{◌≡◌, refl, ap, sym, ◌∙◌}
 use mathlib.Core.Bool.{Bool, true, false}
 use mathlib.Core.List.{List, [], ◌∷◌}
-use mathlib.Core.Option.{Option, some}
+use Rattle.std.specs.Prelude.{Option, Some, is_some}
 use lib.Dec.{T}
 use lib.ListN.{get_or, set}
 use Rattle.values.specs.declared.Site.{Site}
-use Rattle.values.specs.Lists.{is_some, remove_at}
+use Rattle.values.specs.Lists.{remove_at}
 use Rattle.rows.specs.Relations.{Row}
 use Rattle.nets.specs.Nets.{Table, Kind, acting, drop, Net, refused, done}
 use Rattle.nets.specs.Tables.{table_at, rows_of, columns_of, with_rows, change}
@@ -34,7 +34,7 @@ module _ (s : Site) (n : ℕ) where
       t : Table
       t = get_or ts (place_at s n ts) d
 
-      found : table_at s n ts ≡ some t
+      found : table_at s n ts ≡ Some t
       found = table-at s n ts d (place-below s n ts h)
 
       rows : g t.content.rows ≡ rows_of (table_at s n (change s n g ts))

@@ -3,7 +3,7 @@ use Prim.Native.Nat.{ℕ, ◌+◌, ◌-◌, ◌<◌, ◌≤◌}
 use mathlib.Core.Path.{◌≡◌, refl, ap, sym, ◌∙◌}
 use mathlib.Core.Bool.{Bool, true, false, not, cond, ◌&&◌}
 use mathlib.Core.List.{List, [], map}
-use mathlib.Core.Option.{Option, some}
+use Rattle.std.specs.Prelude.{Option, Some}
 use native.Mathlib.Omega.{arith}
 use lib.Dec.{T, eqb, ltb}
 use lib.ListN.{length, get_or, set}
@@ -19,7 +19,7 @@ use Rattle.rows.specs.Relations.{Relation}
 use Rattle.rows.specs.View.{relation_of}
 use Rattle.nets.specs.declared.Table.{Table}
 use Rattle.nets.specs.declared.Frame.{Frame}
-use Rattle.nets.specs.declared.TableVariable.{TableVariable}
+use Rattle.nets.specs.View.{TableVariable}
 use Rattle.nets.specs.declared.Thread.{Thread}
 use Rattle.nets.specs.Nets as M
 use Rattle.nets.specs.Nets.{Kind, code, needs_table, binds_relation, is_create}
@@ -98,11 +98,11 @@ as_moved t r i f e h = e ∙ h ∙ sym (ap (λ (x : Thread). moved t r i f x.rel
 -- a table variable bound anew
 pub bound-set :
     (vs : List TableVariable) (b : ℕ) (q : Code.Relation) (m : Relation) → Holds q m.columns m.rows → {x : Bool} → x ≡ true →
-    map variable_of (set vs b (record { bound = true; content = q })) ≡ cond x (set (map variable_of vs) b (some m)) (map variable_of vs)
+    map variable_of (set vs b (Some q)) ≡ cond x (set (map variable_of vs) b (Some m)) (map variable_of vs)
 bound-set vs b q m h e =
-    map-set variable_of vs b (record { bound = true; content = q })
-    ∙ ap (λ (r : Relation). set (map variable_of vs) b (some r)) (λ i. record { columns = h.columns i; rows = h.rows i })
-    ∙ ap (λ (x : Bool). cond x (set (map variable_of vs) b (some m)) (map variable_of vs)) (sym e)
+    map-set variable_of vs b (Some q)
+    ∙ ap (λ (r : Relation). set (map variable_of vs) b (Some r)) (λ i. record { columns = h.columns i; rows = h.rows i })
+    ∙ ap (λ (x : Bool). cond x (set (map variable_of vs) b (Some m)) (map variable_of vs)) (sym e)
 
 pub bound-none : (vs : List TableVariable) (o : List (Option Relation)) {x : Bool} → x ≡ false → map variable_of vs ≡ cond x o (map variable_of vs)
 bound-none vs o e = ap (λ (x : Bool). cond x o (map variable_of vs)) (sym e)

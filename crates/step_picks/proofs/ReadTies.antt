@@ -2,15 +2,16 @@
 use Prim.Native.Nat.{ℕ, ◌-◌, ◌<◌, ◌≤◌}
 use mathlib.Core.Path.{◌≡◌, refl, ap, ap₂, sym, subst, ◌∙◌}
 use mathlib.Core.Bool.{Bool, true, false, cond}
-use mathlib.Core.Option.{none, some}
+use Rattle.std.specs.Prelude.{Option, None, Some, is_some}
 use native.Mathlib.Omega.{arith}
 use lib.Dec.{T, ltb, lt→ltb}
 use borrow.Author.Tests.{ltb-true}
 use lib.ListN.{length, get_or, get_or-map}
 use Rattle.values.specs.declared.Site.{Site}
-use Rattle.values.specs.declared.Got.{Got}
-use Rattle.values.specs.Lists.{all, any, is_some, or_else}
-use Rattle.values.specs.Operands.{vars_of, eval}
+use Rattle.values.specs.Operands.{Got}
+use Rattle.values.specs.Lists.{or_else}
+use Rattle.std.specs.List.{list_all, list_any}
+use Rattle.values.specs.Operands.{eval}
 use Rattle.values.proofs.ListLaws.{all_weaken}
 use Rattle.values.proofs.ByPlace.{length_by}
 use Rattle.values.proofs.Firsts.{length-firsts, firsts_at}
@@ -21,7 +22,6 @@ use Rattle.nets.specs.declared.Pick.{Pick}
 use Rattle.nets.specs.declared.Frame.{Frame}
 use Rattle.nets.specs.declared.Thread.{Thread}
 use Rattle.nets.specs.declared.Node.{Node}
-use Rattle.step_meets.specs.declared.Located.{Located}
 use Rattle.step_meets.specs.Situations.{Situation, situation}
 use Rattle.nets.specs.declared.Net.{Net}
 use Rattle.nets.specs.Nets as M
@@ -32,7 +32,7 @@ use Rattle.nets.specs.Sound.{sound, entry_node, entry_ok}
 use Rattle.nets.specs.Scenes.{scene_of, top, site_of_got, site_of_l, site, table}
 use Rattle.nets.specs.Steps.{holds}
 use Rattle.nets.specs.View.{no_site, no_table, no_frame, no_node, no_variable, variable_of, kind_at, node_of, table_of, node_in, entry_of, thread_of, aliases_of, tables_of, nodes_of, thread_at, view}
-use Rattle.step_meets.specs.MeetContracts.{located_of, Meets, Fine, relation_read}
+use Rattle.step_meets.specs.MeetContracts.{Meets, Fine, relation_read}
 use Rattle.step_thread.specs.ThreadContracts.{Stacked}
 use Rattle.nets.proofs.StackView.{stack_cons, entry-node_in}
 use Rattle.nets.proofs.SureLaws.{entry-node}
@@ -48,18 +48,18 @@ top_entry net p f = entry_of (saved_in net p.thread ((thread_in net p.thread).de
 
 -- the top frame `f`, its node's number `k`, whether a loop entry holds the table variable that the node binds, what L gives and where it leads, and
 -- the place and content of the table there
-pub record Read (net : Net) (p : Pick) (f : Frame) (k : ℕ) (h : Bool) (g : Got) (l : Located) (s : Site) (at : ℕ) (q : Code.Relation) : Type 0 where
+pub record Read (net : Net) (p : Pick) (f : Frame) (k : ℕ) (h : Bool) (g : Got) (l : Option Site) (s : Site) (at : ℕ) (q : Code.Relation) : Type 0 where
   pub frame : top_entry net p f ≡ top (thread_seen net p.thread).stack
   pub number : k ≡ node_in f.entry
-  pub held : T (binds_relation (kind_at (node_read net k).kind)) → h ≡ any (holds (nodes_of net.nodecount net.nodes) (node_read net k).bound) (thread_seen net p.thread).stack
-  pub got : g ≡ eval (vars_of (thread_in net p.thread).vars) (node_read net k).locality
-  pub located : located_of l ≡ site_of_got (aliases_of net.aliascount net.aliases) (thread_in net p.thread).site g
-  pub site : s ≡ or_else no_site (located_of l)
+  pub held : T (binds_relation (kind_at (node_read net k).kind)) → h ≡ list_any (holds (nodes_of net.nodecount net.nodes) (node_read net k).bound) (thread_seen net p.thread).stack
+  pub got : g ≡ eval (thread_in net p.thread).vars (node_read net k).locality
+  pub located : l ≡ site_of_got (aliases_of net.aliascount net.aliases) (thread_in net p.thread).site g
+  pub site : s ≡ or_else no_site l
   pub place : at ≡ place_at s (node_read net k).name (tables_of net.tablecount net.tables)
-  pub content : relation_of q ≡ content_of (cond (ltb at net.tablecount) (some (get_or (tables_of net.tablecount net.tables) at (table_of no_table))) none)
+  pub content : relation_of q ≡ content_of (cond (ltb at net.tablecount) (Some (get_or (tables_of net.tablecount net.tables) at (table_of no_table))) None)
 
 -- the situation made of it
-abbrev pub situation_in : Net → Pick → Frame → ℕ → Bool → Located → ℕ → Code.Relation → Situation
+abbrev pub situation_in : Net → Pick → Frame → ℕ → Bool → Option Site → ℕ → Code.Relation → Situation
 situation_in net p f k h l at q =
     situation (thread_in net p.thread) (saved_in net p.thread) f (node_read net k) q
     (record { located = l; found = ltb at net.tablecount; held = h; tables = net.tablecount; threads = net.threadcount; row = p.row })
@@ -67,12 +67,12 @@ situation_in net p f k h l at q =
 -- the content of the table at a place, or none
 pub shown_content : (net : Net) (at slot : ℕ) (found : Bool) (q : Code.Relation) → slot ≡ cond (ltb at net.tablecount) at 0 → found ≡ ltb at net.tablecount →
     relation_of q ≡ cond found (relation_of (get_or net.tables slot no_table).content) no_relation →
-    relation_of q ≡ content_of (cond (ltb at net.tablecount) (some (get_or (tables_of net.tablecount net.tables) at (table_of no_table))) none)
+    relation_of q ≡ content_of (cond (ltb at net.tablecount) (Some (get_or (tables_of net.tablecount net.tables) at (table_of no_table))) None)
 shown_content net at slot found q e d c = c ∙ ap₂ (λ (b : Bool) (i : ℕ). cond b (relation_of (get_or net.tables i no_table).content) no_relation) d e ∙ go (ltb at net.tablecount) refl
   where
     go :
         (b : Bool) → ltb at net.tablecount ≡ b →
-        cond b (relation_of (get_or net.tables (cond b at 0) no_table).content) no_relation ≡ content_of (cond b (some (get_or (tables_of net.tablecount net.tables) at (table_of no_table))) none)
+        cond b (relation_of (get_or net.tables (cond b at 0) no_table).content) no_relation ≡ content_of (cond b (Some (get_or (tables_of net.tablecount net.tables) at (table_of no_table))) None)
     go true h = sym (ap (λ (t : M.Table). t.content) (firsts_at table_of no_table net.tablecount net.tables at (table_of no_table) (ltb-true at net.tablecount h)))
     go false h = refl
 
@@ -81,7 +81,7 @@ module _ (net : Net) (p : Pick) (ok : T (sound (view net))) (there : p.thread < 
   thread-below = omega (arith, few-threads net ok)
 
   -- the entries of the stack name nodes
-  pub entries-there : T (all (λ x. ltb (entry_node x) net.nodecount) (thread_seen net p.thread).stack)
+  pub entries-there : T (list_all (λ x. ltb (entry_node x) net.nodecount) (thread_seen net p.thread).stack)
   unfolding view
   entries-there =
       all_weaken (entry_ok (view net).nodes (thread_seen net p.thread).bindings.relations) (λ x. ltb (entry_node x) net.nodecount) (thread_seen net p.thread).stack
@@ -121,11 +121,11 @@ module _ (net : Net) (p : Pick) (ok : T (sound (view net))) (there : p.thread < 
 
   -- ── all that is read ──
 
-  module _ {f : Frame} {k : ℕ} {h : Bool} {g : Got} {l : Located} {s : Site} {at : ℕ} {q : Code.Relation} (r : Read net p f k h g l s at q) where
+  module _ {f : Frame} {k : ℕ} {h : Bool} {g : Got} {l : Option Site} {s : Site} {at : ℕ} {q : Code.Relation} (r : Read net p f k h g l s at q) where
     pub node-read : (scene_of (view net) p).node ≡ node_of (node_read net k)
     node-read = scene_node r.frame (r.number ∙ sym (entry-node_in (saved_in net p.thread ((thread_in net p.thread).depth - 1)) f))
 
-    located-read : site_of_l (scene_of (view net) p) ≡ located_of l
+    located-read : site_of_l (scene_of (view net) p) ≡ l
     unfolding site_of_l scene_of view
     located-read =
         ap₂ (λ (t : M.Thread) (d : M.Node). site_of_got (aliases_of net.aliascount net.aliases) t.site (eval t.bindings.vars d.locality)) (scene_thread net p ok there) node-read
@@ -140,11 +140,11 @@ module _ (net : Net) (p : Pick) (ok : T (sound (view net))) (there : p.thread < 
     unfolding table scene_of view
     found-read = ap₂ (λ (z : Site) (d : M.Node). table_at z d.name (tables_of net.tablecount net.tables)) site-read node-read
 
-    held-read : T (binds_relation (scene_of (view net) p).node.kind) → h ≡ any (holds (scene_of (view net) p).net.nodes (scene_of (view net) p).node.bound) (scene_of (view net) p).thread.stack
+    held-read : T (binds_relation (scene_of (view net) p).node.kind) → h ≡ list_any (holds (scene_of (view net) p).net.nodes (scene_of (view net) p).node.bound) (scene_of (view net) p).thread.stack
     unfolding scene_of view
     held-read t =
         r.held (subst (λ (d : M.Node). T (binds_relation d.kind)) node-read t)
-        ∙ sym (ap₂ (λ (u : M.Thread) (d : M.Node). any (holds (nodes_of net.nodecount net.nodes) d.bound) u.stack) (scene_thread net p ok there) node-read)
+        ∙ sym (ap₂ (λ (u : M.Thread) (d : M.Node). list_any (holds (nodes_of net.nodecount net.nodes) d.bound) u.stack) (scene_thread net p ok there) node-read)
 
     pub read_meets : Meets (situation_in net p f k h l at q) (scene_of (view net) p)
     unfolding scene_of view
@@ -157,7 +157,7 @@ module _ (net : Net) (p : Pick) (ok : T (sound (view net))) (there : p.thread < 
           found = ap (λ (i : ℕ). ltb i net.tablecount) r.place ∙ sym (ap is_some found-read ∙ table-found s (node_read net k).name net.tablecount net.tables);
           content =
               r.content
-              ∙ ap (λ (i : ℕ). content_of (cond (ltb i net.tablecount) (some (get_or (tables_of net.tablecount net.tables) i (table_of no_table))) none)) r.place
+              ∙ ap (λ (i : ℕ). content_of (cond (ltb i net.tablecount) (Some (get_or (tables_of net.tablecount net.tables) i (table_of no_table))) None)) r.place
               ∙ ap content_of (table-read s (node_read net k).name net.tablecount net.tables ∙ sym found-read);
           held = held-read;
           tables = sym (length-firsts table_of no_table net.tablecount net.tables);

@@ -3,20 +3,19 @@ use Prim.Native.Nat.{ℕ, zero, suc, ◌+◌, ◌-◌, ◌*◌, ◌<◌, ◌≤�
 use mathlib.Core.Path.{◌≡◌, refl, ap, ap₂, sym, subst, ◌∙◌}
 use mathlib.Core.Bool.{Bool, true, false, not, cond, ◌&&◌}
 use mathlib.Core.List.{List, [], ◌∷◌, map}
-use mathlib.Core.Option.{Option, none}
+use Rattle.std.specs.Prelude.{Option, None}
 use native.Mathlib.Omega.{arith}
 use lib.Dec.{T, eqb, ltb, lt→ltb}
 use lib.ListN.{length, get_or, set, length-set, get_or-map, get_or-eq_default}
 use lib.Seq.{get_or-set_same, get_or-set_other}
 use borrow.Author.Tests.{ltb-true, ltb-false, eq-eqb, eqb-true, eqb-false}
-use Rattle.values.specs.declared.Slot.{Slot}
-use Rattle.values.specs.Operands.{vars_of}
+use Rattle.values.specs.Operands.{Got}
 use Rattle.values.proofs.Bools.{is_true}
 use Rattle.rows.specs.Relations.{Relation}
 use Rattle.nets.specs.declared.Entry.{Entry}
 use Rattle.nets.specs.declared.Entry.TheVariants.{Run, Loop}
 use Rattle.nets.specs.declared.Frame.{Frame}
-use Rattle.nets.specs.declared.TableVariable.{TableVariable}
+use Rattle.nets.specs.View.{TableVariable}
 use Rattle.nets.specs.declared.Saved.{Saved}
 use Rattle.nets.specs.declared.Thread.{Thread}
 use Rattle.nets.specs.Nets as M
@@ -39,8 +38,8 @@ abbrev pub SeesSame : List M.Node → Frame → List TableVariable → List Tabl
 SeesSame ds f ks ls = (i : ℕ) → f.entry ≡ Loop i → (read_at ds f < 2) × (variable_of (get_or ks (read_at ds f) no_variable) ≡ variable_of (get_or ls (read_at ds f) no_variable))
 
 by_read : (n : ℕ) (ks ls : List TableVariable) (b : Saved) → n < 2 → variable_of (get_or ks n no_variable) ≡ variable_of (get_or ls n no_variable) → saved_of n ks b ≡ saved_of n ls b
-by_read zero ks ls b l e = λ i. record { vars = vars_of b.vars; relations = e i ∷ variable_of b.other ∷ [] }
-by_read (suc zero) ks ls b l e = λ i. record { vars = vars_of b.vars; relations = variable_of b.other ∷ e i ∷ [] }
+by_read zero ks ls b l e = λ i. record { vars = b.vars; relations = e i ∷ variable_of b.other ∷ [] }
+by_read (suc zero) ks ls b l e = λ i. record { vars = b.vars; relations = variable_of b.other ∷ e i ∷ [] }
 by_read (suc (suc n)) ks ls b l e = absurd (omega arith)
 
 -- then it holds the same
@@ -55,8 +54,8 @@ sees_same ds f ks ls b h = go f.entry refl
 pub first-saved : (n : ℕ) (vs : List TableVariable) (b : Saved) → n < 2 → length vs ≡ 2 → b.other ≡ get_or vs (1 - n) no_variable → saved_of n vs b ≡ bindings_of b.vars vs
 first-saved n [] b low two e = absurd (omega arith)
 first-saved n (x ∷ []) b low two e = absurd (omega arith)
-first-saved zero (x ∷ y ∷ []) b low two e = λ i. record { vars = vars_of b.vars; relations = variable_of x ∷ variable_of (e i) ∷ [] }
-first-saved (suc zero) (x ∷ y ∷ []) b low two e = λ i. record { vars = vars_of b.vars; relations = variable_of (e i) ∷ variable_of y ∷ [] }
+first-saved zero (x ∷ y ∷ []) b low two e = λ i. record { vars = b.vars; relations = variable_of x ∷ variable_of (e i) ∷ [] }
+first-saved (suc zero) (x ∷ y ∷ []) b low two e = λ i. record { vars = b.vars; relations = variable_of (e i) ∷ variable_of y ∷ [] }
 first-saved (suc (suc n)) (x ∷ y ∷ []) b low two e = absurd (omega arith)
 first-saved n (x ∷ y ∷ z ∷ vs) b low two e = absurd (omega arith)
 
@@ -65,13 +64,13 @@ back-bindings :
     (n : ℕ) (vs rs : List TableVariable) (b : Saved) → n < 2 → length vs ≡ 2 → variable_of (get_or vs n no_variable) ≡ variable_of (get_or rs n no_variable) → bindings_of b.vars (set vs (1 - n) b.other) ≡ saved_of n rs b
 back-bindings n [] rs b low two e = absurd (omega arith)
 back-bindings n (x ∷ []) rs b low two e = absurd (omega arith)
-back-bindings zero (x ∷ y ∷ []) rs b low two e = λ i. record { vars = vars_of b.vars; relations = e i ∷ variable_of b.other ∷ [] }
-back-bindings (suc zero) (x ∷ y ∷ []) rs b low two e = λ i. record { vars = vars_of b.vars; relations = variable_of b.other ∷ e i ∷ [] }
+back-bindings zero (x ∷ y ∷ []) rs b low two e = λ i. record { vars = b.vars; relations = e i ∷ variable_of b.other ∷ [] }
+back-bindings (suc zero) (x ∷ y ∷ []) rs b low two e = λ i. record { vars = b.vars; relations = variable_of b.other ∷ e i ∷ [] }
 back-bindings (suc (suc n)) (x ∷ y ∷ []) rs b low two e = absurd (omega arith)
 back-bindings n (x ∷ y ∷ z ∷ vs) rs b low two e = absurd (omega arith)
 
 -- the table variable that is stored
-pub other_of : (n : ℕ) (rs : List TableVariable) (b : Saved) → n < 2 → get_or (saved_of n rs b).relations (1 - n) none ≡ variable_of b.other
+pub other_of : (n : ℕ) (rs : List TableVariable) (b : Saved) → n < 2 → get_or (saved_of n rs b).relations (1 - n) None ≡ variable_of b.other
 other_of zero rs b low = refl
 other_of (suc zero) rs b low = refl
 other_of (suc (suc n)) rs b low = absurd (omega arith)
@@ -107,13 +106,13 @@ top-holds ds old new at s seen r framed node-is frame_is low vs two loops kept i
 
     variable : variable_of (get_or vs s.node.read no_variable) ≡ variable_of (get_or s.thread.relations s.node.read no_variable)
     variable =
-        sym (get_or-map variable_of vs s.node.read no_variable) ∙ ap (λ (l : List (Option Relation)). get_or l s.node.read none) relations ∙ get_or-map variable_of s.thread.relations s.node.read no_variable
+        sym (get_or-map variable_of vs s.node.read no_variable) ∙ ap (λ (l : List (Option Relation)). get_or l s.node.read None) relations ∙ get_or-map variable_of s.thread.relations s.node.read no_variable
 
     go : (b : Bool) → r.saves ≡ b → saved_of s.node.read vs (get_or new (at * 8 + top) no_saved) ≡ saved_after s r top
     go true x =
         ap (saved_of s.node.read vs) (kept.first x)
         ∙ first-saved s.node.read vs _ low two refl
-        ∙ (λ k. record { vars = vars_of s.thread.vars; relations = relations k })
+        ∙ (λ k. record { vars = s.thread.vars; relations = relations k })
         ∙ sym (rw (x, eq-eqb top top refl))
     go false x =
         ap (saved_of s.node.read vs) (kept.later x)
@@ -179,7 +178,7 @@ module _
   -- ── what its entries hold ──
 
   -- with variables `es` and table variables `ws`
-  abbrev with : List Slot → List TableVariable → Thread
+  abbrev with : List Got → List TableVariable → Thread
   with es ws = record { site = s.thread.site; vars = es; relations = ws; stack = frames; depth = r.depth }
 
   low_same :
@@ -264,7 +263,7 @@ module _
 
   module _ (deep : 1 < depth) (ends : r.depth ≡ depth - 1) (two : length vs ≡ 2) {n : ℕ} (loop : (frame (depth - 2)).entry ≡ Loop n) (sequential : is_sequential (get_or ds n S.no_node).kind ≡ true)
       (agrees : (j : ℕ) → j < depth - 1 → (i : ℕ) → (frame j).entry ≡ Loop i →
-      get_or (map variable_of s.thread.relations) (read_at ds (frame j)) none ≡ get_or (s.saved (depth - 2)).relations (read_at ds (frame j)) none) where
+      get_or (map variable_of s.thread.relations) (read_at ds (frame j)) None ≡ get_or (s.saved (depth - 2)).relations (read_at ds (frame j)) None) where
     abbrev outer : Frame
     outer = frame (depth - 2)
 
@@ -301,7 +300,7 @@ module _
             let d : m ≡ 1 - number = two_cases m number (sees j h i e).0 low (eqb-false m number x) in
             ap variable_of (ap (λ (k : ℕ). get_or back k no_variable) d ∙ get_or-set_same vs (1 - number) held.other no_variable (omega (arith, two)))
             ∙ sym (other_of number s.thread.relations held low)
-            ∙ ap₂ (λ (x : M.Bindings) (k : ℕ). get_or x.relations k none) (sym (seen (depth - 2))) (sym d)
+            ∙ ap₂ (λ (x : M.Bindings) (k : ℕ). get_or x.relations k None) (sym (seen (depth - 2))) (sym d)
             ∙ sym (agrees j h i e)
             ∙ get_or-map variable_of s.thread.relations m no_variable
 

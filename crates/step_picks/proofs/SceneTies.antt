@@ -3,13 +3,13 @@ use Prim.Native.Nat.{ℕ, zero, suc, ◌-◌, ◌<◌, ◌≤◌}
 use mathlib.Core.Path.{◌≡◌, refl, ap, ap₂, sym, subst, ◌∙◌}
 use mathlib.Core.Bool.{Bool, true, false, cond}
 use mathlib.Core.List.{List}
-use mathlib.Core.Option.{Option, none, some}
+use Rattle.std.specs.Prelude.{Option, None, Some, is_some}
 use native.Mathlib.Omega.{arith}
 use lib.Dec.{T, eqb, ltb, leb→le, lt→ltb}
 use lib.ListN.{length, get_or, get_or-eq_default}
 use borrow.Author.Tests.{eqb-true, eqb-false, ltb-true, ltb-false}
 use Rattle.values.specs.declared.Site.{Site}
-use Rattle.values.specs.Lists.{is_some, all}
+use Rattle.std.specs.List.{list_all}
 use Rattle.values.proofs.Bools.{and_l, and_r, is_true}
 use Rattle.values.proofs.ListLaws.{all-at, find-all}
 use Rattle.values.proofs.ByPlace.{length_by, by_at}
@@ -44,15 +44,15 @@ use Rattle.nets.proofs.TablePlaces.{place_at, table-there, table-at}
 thread-stack : (ds : List M.Node) (t : M.Thread) → T (thread_ok ds t) → StackFacts ds t.bindings.relations t.stack
 thread-stack ds t h = stack-facts ds t.bindings.relations t.stack (search (and_l, and_r))
 
-pub thread-entries : (ds : List M.Node) (t : M.Thread) → T (thread_ok ds t) → T (all (entry_ok ds t.bindings.relations) t.stack)
+pub thread-entries : (ds : List M.Node) (t : M.Thread) → T (thread_ok ds t) → T (list_all (entry_ok ds t.bindings.relations) t.stack)
 thread-entries ds t h = search (and_l, and_r)
 
 pub thread-bindings : (ds : List M.Node) (t : M.Thread) → T (thread_ok ds t) → T (bindings_ok t.bindings)
 thread-bindings ds t h = search (and_l, and_r)
 
-content-within : (o : Option M.Table) → ((t : M.Table) → o ≡ some t → T (table_ok t)) → Within (content_of o)
-content-within none h = record { columns = omega arith; rows = omega arith }
-content-within (some t) h =
+content-within : (o : Option M.Table) → ((t : M.Table) → o ≡ Some t → T (table_ok t)) → Within (content_of o)
+content-within None h = record { columns = omega arith; rows = omega arith }
+content-within (Some t) h =
     let k = h t refl in
     record {
       columns = leb→le (length t.content.columns) 4 (search (and_l, and_r));
@@ -112,25 +112,25 @@ module _ (m : M.Net) (p : Pick) (ok : T (sound m)) (there : p.thread < length m.
         stacked = stack-within s.saved s.thread m.nodes (subst (λ (t : M.Thread). T (thread_ok m.nodes t)) q.thread thread-fine);
         content = shaped s.content (subst Within (sym q.content) table-fine);
         visits = λ l r e.
-            subst (λ (v : List ℕ). T (all (λ i. ltb i (length r.rows)) v)) (ap (λ (x : M.Entry). still_to_visit x (length r.rows)) q.entry ∙ visit-any (s.saved (s.thread.depth - 1)) s.frame (length r.rows))
+            subst (λ (v : List ℕ). T (list_all (λ i. ltb i (length r.rows)) v)) (ap (λ (x : M.Entry). still_to_visit x (length r.rows)) q.entry ∙ visit-any (s.saved (s.thread.depth - 1)) s.frame (length r.rows))
             (visits-ok m.nodes c.thread.bindings.relations c.entry c.node r refl (read r e) entry-fine);
       }
     where
       c : Scene
       c = scene_of m p
 
-      read : (r : Relation) → relation_read s ≡ some r → get_or c.thread.bindings.relations c.node.read none ≡ some r
-      read r e = ap₂ (λ (t : M.Thread) (d : M.Node). get_or t.bindings.relations d.read none) q.thread q.node ∙ e
+      read : (r : Relation) → relation_read s ≡ Some r → get_or c.thread.bindings.relations c.node.read None ≡ Some r
+      read r e = ap₂ (λ (t : M.Thread) (d : M.Node). get_or t.bindings.relations d.read None) q.thread q.node ∙ e
 
 -- ── in the code's structs ──
 
 -- what a test of every entry says of each frame in use
-pub stack-all : (bs : ℕ → M.Bindings) (q : M.Entry → Bool) (n : ℕ) (l : List Frame) → T (all q (stack_of bs n l)) → (j : ℕ) → j < n → T (q (entry_of (bs j) (get_or l j no_frame)))
+pub stack-all : (bs : ℕ → M.Bindings) (q : M.Entry → Bool) (n : ℕ) (l : List Frame) → T (list_all q (stack_of bs n l)) → (j : ℕ) → j < n → T (q (entry_of (bs j) (get_or l j no_frame)))
 stack-all bs q zero l h j k = absurd (omega arith)
-stack-all bs q (suc n) l h j k = go (eqb j n) refl (stack-all bs q n l (and_r (q (entry_of (bs n) (get_or l n no_frame))) (all q (stack_of bs n l)) h) j)
+stack-all bs q (suc n) l h j k = go (eqb j n) refl (stack-all bs q n l (and_r (q (entry_of (bs n) (get_or l n no_frame))) (list_all q (stack_of bs n l)) h) j)
   where
     go : (b : Bool) → eqb j n ≡ b → (j < n → T (q (entry_of (bs j) (get_or l j no_frame)))) → T (q (entry_of (bs j) (get_or l j no_frame)))
-    go true e ih = subst (λ (i : ℕ). T (q (entry_of (bs i) (get_or l i no_frame)))) (sym (eqb-true j n e)) (and_l (q (entry_of (bs n) (get_or l n no_frame))) (all q (stack_of bs n l)) h)
+    go true e ih = subst (λ (i : ℕ). T (q (entry_of (bs i) (get_or l i no_frame)))) (sym (eqb-true j n e)) (and_l (q (entry_of (bs n) (get_or l n no_frame))) (list_all q (stack_of bs n l)) h)
     go false e ih = let d : j ≡ n → ⊥ = eqb-false j n e in ih (omega arith)
 
 abbrev pub thread_in : Net → ℕ → Thread
@@ -201,17 +201,17 @@ module _ (s : Site) (n : ℕ) (k : ℕ) (l : List Table) where
   pub table-found : is_some (table_at s n (tables_of k l)) ≡ ltb (place_at s n (tables_of k l)) k
   table-found = table-there s n (tables_of k l) ∙ ap (ltb (place_at s n (tables_of k l))) (length-firsts table_of no_table k l)
 
-  pub table-missing : k ≤ place_at s n (tables_of k l) → table_at s n (tables_of k l) ≡ none
+  pub table-missing : k ≤ place_at s n (tables_of k l) → table_at s n (tables_of k l) ≡ None
   table-missing h = go (table_at s n (tables_of k l)) table-found
     where
-      go : (o : Option M.Table) → is_some o ≡ ltb (place_at s n (tables_of k l)) k → o ≡ none
-      go none e = refl
-      go (some t) e = let low = ltb-true (place_at s n (tables_of k l)) k (sym e) in absurd (omega arith)
+      go : (o : Option M.Table) → is_some o ≡ ltb (place_at s n (tables_of k l)) k → o ≡ None
+      go None e = refl
+      go (Some t) e = let low = ltb-true (place_at s n (tables_of k l)) k (sym e) in absurd (omega arith)
 
   -- what stands at the place, if it is one
-  pub table-read : cond (ltb (place_at s n (tables_of k l)) k) (some (get_or (tables_of k l) (place_at s n (tables_of k l)) (table_of no_table))) none ≡ table_at s n (tables_of k l)
+  pub table-read : cond (ltb (place_at s n (tables_of k l)) k) (Some (get_or (tables_of k l) (place_at s n (tables_of k l)) (table_of no_table))) None ≡ table_at s n (tables_of k l)
   table-read = go (ltb (place_at s n (tables_of k l)) k) refl
     where
-      go : (b : Bool) → ltb (place_at s n (tables_of k l)) k ≡ b → cond b (some (get_or (tables_of k l) (place_at s n (tables_of k l)) (table_of no_table))) none ≡ table_at s n (tables_of k l)
+      go : (b : Bool) → ltb (place_at s n (tables_of k l)) k ≡ b → cond b (Some (get_or (tables_of k l) (place_at s n (tables_of k l)) (table_of no_table))) None ≡ table_at s n (tables_of k l)
       go true e = sym (table-at s n (tables_of k l) (table_of no_table) (rw length-firsts (ltb-true (place_at s n (tables_of k l)) k e)))
       go false e = sym (table-missing (ltb-false (place_at s n (tables_of k l)) k e))

@@ -1,4 +1,5 @@
 -- What a step stores is the net after it, and what it answers is the rule's answer. Assumes nothing.
+use Rattle.std.specs.Prelude.{Option, is_some, Err, Ok}
 use Prim.Native.Nat.{ℕ, ◌<◌, ◌≤◌}
 use mathlib.Core.Path.{◌≡◌, refl, ap, ap₂, sym, subst, ◌∙◌}
 use mathlib.Core.Bool.{Bool}
@@ -6,8 +7,7 @@ use mathlib.Core.List.{List, ◌++◌}
 use lib.Dec.{T, ltb, ltb→lt, lt→ltb}
 use lib.ListN.{length}
 use Rattle.values.specs.declared.Site.{Site}
-use Rattle.values.specs.declared.Got.{Got}
-use Rattle.values.specs.Lists.{is_some}
+use Rattle.values.specs.Operands.{Got}
 use borrow.Author.Tests.{le-ltb}
 use Rattle.values.proofs.Bools.{and_l, is_true}
 use Rattle.values.proofs.ByPlace.{length_by}
@@ -18,10 +18,8 @@ use Rattle.rows.specs.View.{relation_of}
 use Rattle.nets.specs.declared.Pick.{Pick}
 use Rattle.nets.specs.declared.Refusal.{Refusal}
 use Rattle.nets.specs.declared.Refusal.TheVariants.{NoThread}
-use Rattle.nets.specs.declared.Answer.{Answer}
-use Rattle.nets.specs.declared.Answer.TheVariants.{Done, Refused}
+use Rattle.nets.specs.Answers.{Answer}
 use Rattle.nets.specs.declared.Frame.{Frame}
-use Rattle.step_meets.specs.declared.Located.{Located}
 use Rattle.step_meets.specs.Situations.{Change}
 use Rattle.nets.specs.declared.Saved.{Saved}
 use Rattle.nets.specs.declared.Table.{Table}
@@ -51,7 +49,7 @@ use Rattle.step_picks.proofs.ReadTies.{node_read, Read, node-read, site-read}
 -- ── a refused step ──
 
 -- no such thread
-pub past-refused : (net : Net) (p : Pick) → T (sound (view net)) → net.threadcount ≤ p.thread → answer_of (step (view net) p) ≡ said_of (Refused NoThread)
+pub past-refused : (net : Net) (p : Pick) → T (sound (view net)) → net.threadcount ≤ p.thread → answer_of (step (view net) p) ≡ said_of (Err NoThread)
 unfolding view
 past-refused net p ok h =
     ap answer_of
@@ -60,8 +58,8 @@ past-refused net p ok h =
 
 -- refused by a later check
 pub change-refused :
-    (net : Net) (p : Pick) → T (sound (view net)) → p.thread < net.threadcount → {a : Answer} → said_of a ≡ answer_of (outcome_at (scene_of (view net) p)) → {why : Refusal} → a ≡ Refused why →
-    answer_of (step (view net) p) ≡ said_of (Refused why)
+    (net : Net) (p : Pick) → T (sound (view net)) → p.thread < net.threadcount → {a : Answer} → said_of a ≡ answer_of (outcome_at (scene_of (view net) p)) → {why : Refusal} → a ≡ Err why →
+    answer_of (step (view net) p) ≡ said_of (Err why)
 change-refused net p ok there is says = ap answer_of (step_is net p ok there) ∙ sym is ∙ ap said_of says
 
 -- ── a done step passed the checks ──
@@ -102,9 +100,9 @@ net_with net ts n hs m given =
 
 module _
     (net : Net) (p : Pick) (ok : T (sound (view net))) (there : p.thread < net.threadcount)
-    {f : Frame} {k : ℕ} {h : Bool} {g : Got} {l : Located} {s : Site} {at : ℕ} {q : Code.Relation} (r : Read net p f k h g l s at q)
+    {f : Frame} {k : ℕ} {h : Bool} {g : Got} {l : Option Site} {s : Site} {at : ℕ} {q : Code.Relation} (r : Read net p f k h g l s at q)
     {d : Change} (is : ChangeIs (scene_of (view net) p) d) where
-  module _ {a t : ℕ} (says : d.answer ≡ Done a t) where
+  module _ {a t : ℕ} (says : d.answer ≡ Ok (record { added = a; taken = t })) where
     is-doing : T (is_doing (said_of d.answer))
     is-doing = subst (λ (x : Answer). T (is_doing (said_of x))) (sym says) tt
 

@@ -11,7 +11,7 @@ ghost use Rattle.step_left.specs.Carried.{CarriedIs, reached_by};
 
 use nets::kinds::binds_relation;
 use nets::tables::find_table;
-use nets::{Answer, Entry, Net, Refusal, Saved, Table, TableVariable};
+use nets::{Entry, Net, Refusal, Saved, Table, TableVariable};
 use step_bytes::answers::{has_room, put_answer_at};
 use step_bytes::picks::pick_at;
 use step_decide::decide;
@@ -37,19 +37,16 @@ pub fn carry_out(from: Net, picks: &[u8], out: &mut [u8]) -> Carried
     let mut net = from;
     let mut added = zero();
     let mut taken = zero();
-    let mut answer = Answer::Refused(Refusal::Unsound);
-    let mut i: usize = 0;
-    while i < count {
-        let pick_place = i;
-        let pick = pick_at(picks, pick_place);
-        i += 1;
+    let mut answer = Err(Refusal::Unsound);
+    for i in 0..count {
+        let pick = pick_at(picks, i);
 
         // ---- check 11: the thread, and the node of its top entry
         let thread_place = pick.thread as usize;
         let threadcount = net.threadcount;
         if threadcount <= thread_place {
-            answer = Answer::Refused(Refusal::NoThread);
-            put_answer_at(out, room, pick_place, answer);
+            answer = Err(Refusal::NoThread);
+            put_answer_at(out, room, i, answer);
             continue;
         }
         let mut thread = net.threads[thread_place];
@@ -64,13 +61,11 @@ pub fn carry_out(from: Net, picks: &[u8], out: &mut [u8]) -> Carried
         let binds = binds_relation(kind);
         let mut held = false;
         if binds {
-            let mut level: usize = 0;
-            while level < depth {
+            for level in 0..depth {
                 let other = thread.stack[level];
                 let entry = other.entry;
-                level += 1;
                 match entry {
-                    Entry::Run(_) => {}
+                    Entry::Run(_) => continue,
                     Entry::Loop(looping) => {
                         let n = looping as usize;
                         held = held | (node.bound == net.nodes[n].read);
@@ -121,12 +116,12 @@ pub fn carry_out(from: Net, picks: &[u8], out: &mut [u8]) -> Carried
             setting,
         );
         answer = decided.answer;
-        put_answer_at(out, room, pick_place, answer);
-        let Answer::Done(rows_added, rows_taken) = answer else {
+        put_answer_at(out, room, i, answer);
+        let Ok(done) = answer else {
             continue;
         };
-        added = add_count(added, rows_added);
-        taken = add_count(taken, rows_taken);
+        added = add_count(added, done.added);
+        taken = add_count(taken, done.taken);
 
         // ---- the thread after it: its variables, its top frame with the body above it, and the table variable bound
         let vars_after = decided.vars;
@@ -139,10 +134,7 @@ pub fn carry_out(from: Net, picks: &[u8], out: &mut [u8]) -> Carried
         if binds {
             let bound = node.bound as usize;
             let content_bound = bound_after(node, content, source, vars, rows_judged);
-            thread.relations[bound] = TableVariable {
-                bound: true,
-                content: content_bound,
-            };
+            thread.relations[bound] = Some(content_bound);
         }
 
         // ---- the tables: the one found gives way, a new one goes last, a removed one closes up
@@ -153,12 +145,10 @@ pub fn carry_out(from: Net, picks: &[u8], out: &mut [u8]) -> Carried
             }
             24 => {
                 let last = tablecount - 1;
-                let mut gap = at;
-                while gap < last {
+                for gap in at..last {
                     let next = gap + 1;
                     let moved = net.tables[next];
                     net.tables[gap] = moved;
-                    gap = next;
                 }
                 net.tablecount = last;
             }
@@ -197,23 +187,20 @@ pub fn carry_out(from: Net, picks: &[u8], out: &mut [u8]) -> Carried
         // ---- the threads: one without entries is removed, and the list closes up, with what entries of its threads hold; a fork goes last
         if decided.depth == 0 {
             let last = threadcount - 1;
-            let mut gap = thread_place;
-            while gap < last {
+            for gap in thread_place..last {
                 let next = gap + 1;
                 let moved = net.threads[next];
                 net.threads[gap] = moved;
-                gap = next;
             }
             net.threadcount = last;
             let end = last * 8;
-            let mut hole = thread_place * 8;
-            while hole < end {
+            let first = thread_place * 8;
+            for hole in first..end {
                 let owner = hole / 8;
                 if hole % 8 < net.threads[owner].depth {
                     let kept = net.saved[hole + 8];
                     net.saved[hole] = kept;
                 }
-                hole += 1;
             }
             continue;
         }
@@ -222,6 +209,7 @@ pub fn carry_out(from: Net, picks: &[u8], out: &mut [u8]) -> Carried
             let inner = decided.inner;
             net.threads[threadcount] = forked(thread, inner, node.body);
             net.threadcount = threadcount + 1;
+            continue;
         }
     }
     let contents = net.tables;

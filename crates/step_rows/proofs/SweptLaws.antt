@@ -8,10 +8,8 @@ use lib.Dec.{T}
 use lib.ListN.{length}
 use mir.Val.{Val}
 use denote.Laws.{Is}
-use Rattle.values.specs.declared.Got.{Got}
-use Rattle.values.specs.declared.Slot.{Slot}
+use Rattle.values.specs.Operands.{Got}
 use Rattle.values.specs.Lists.{count, firsts}
-use Rattle.values.specs.Operands.{vars_of}
 use Rattle.rows.specs.declared.Row.{Row}
 use Rattle.rows.specs.declared.Relation as Code
 use Rattle.rows.specs.declared.Terms.{Terms}
@@ -37,15 +35,15 @@ never p q = absurd (subst T (sym p ∙ q) tt)
 -- ── the shape ──
 
 -- the columns of what a step makes of a row: a select's own, or the relation's
-pub record ShapeIs (d : Node) (q : Code.Relation) (vs : List Slot) (columns : ℕ) (kinds : List ℕ) : Type 0 where
+pub record ShapeIs (d : Node) (q : Code.Relation) (vs : List Got) (columns : ℕ) (kinds : List ℕ) : Type 0 where
   pub short : columns ≤ 4
   pub select : is_select (kind_at d.kind) ≡ true →
-      (columns ≡ d.tuple.count) × (columns_of columns kinds ≡ selected_columns (vars_of vs) (operands_of d.selector.template) (operands_of d.tuple) (columns_of d.selector.template.count q.kinds))
+      (columns ≡ d.tuple.count) × (columns_of columns kinds ≡ selected_columns vs (operands_of d.selector.template) (operands_of d.tuple) (columns_of d.selector.template.count q.kinds))
   pub own : is_select (kind_at d.kind) ≡ false → (columns ≡ q.columns) × (kinds ≡ q.kinds)
 
-module _ (d : Node) (q : Code.Relation) (vars : List Slot) {x : Bool} (sel : x ≡ is_select (kind_at d.kind)) {columns : ℕ} {kinds : List ℕ} where
+module _ (d : Node) (q : Code.Relation) (vars : List Got) {x : Bool} (sel : x ≡ is_select (kind_at d.kind)) {columns : ℕ} {kinds : List ℕ} where
   pub shape-select : x ≡ true → d.tuple.count ≤ 4 → columns ≡ d.tuple.count →
-      columns_of d.tuple.count kinds ≡ selected_columns (vars_of vars) (operands_of d.selector.template) (operands_of d.tuple) (columns_of d.selector.template.count q.kinds) →
+      columns_of d.tuple.count kinds ≡ selected_columns vars (operands_of d.selector.template) (operands_of d.tuple) (columns_of d.selector.template.count q.kinds) →
       ShapeIs d q vars columns kinds
   shape-select is short e made = record { short = rw e short; select = λ k. (e, rw e made); own = λ k. never (sym sel ∙ is) k }
 
@@ -75,20 +73,20 @@ abbrev pub ResultIs : Node → Code.Relation → List Bool → Got → Type 0
 ResultIs d q flags g =
     d.kind ≡ 22 → T (column_fits d.function d.column (relation_of q).columns) → g ≡ aggregated d.function d.column (sift true (marks q.count flags) (relation_of q).rows)
 
-module _ (d : Node) (q : Code.Relation) (vars : List Slot) (sixteen : length vars ≡ 16) (ready : JudgeReady d q) {vs : List Val} (good : Is R.the_row q vs)
+module _ (d : Node) (q : Code.Relation) (vars : List Got) (sixteen : length vars ≡ 16) (ready : JudgeReady d q) {vs : List Val} (good : Is R.the_row q vs)
     {columns : ℕ} {kinds : List ℕ} (shape : ShapeIs d q vars columns kinds) (plan : Plan)
-    (plans : (row : Row) → length row.cells ≡ 4 → plan_hits plan row ≡ hits (vars_of vars) (selector_of d.selector) (values_of d.selector.template.count row))
-    (terms : Terms) (made : terms_in terms ≡ map (term_of (vars_of vars) (operands_of d.selector.template)) (operands_of d.tuple)) (as_many : terms.count ≡ d.tuple.count)
+    (plans : (row : Row) → length row.cells ≡ 4 → plan_hits plan row ≡ hits vars (selector_of d.selector) (values_of d.selector.template.count row))
+    (terms : Terms) (made : terms_in terms ≡ map (term_of vars (operands_of d.selector.template)) (operands_of d.tuple)) (as_many : terms.count ≡ d.tuple.count)
     {n : ℕ} (all-rows : Long d q → n ≡ q.count) {x u : Bool} (sel : x ≡ is_select (kind_at d.kind)) (upd : u ≡ is_update (kind_at d.kind)) (o : Swept)
     (swept : SweptIs plan (x || u) x terms columns kinds n q.rows o) (g : Got)
     (res : ResultIs d q o.flags g) where
   fine : Long d q → Ready q d.selector
   fine l = record { columns = ready.source.columns; count = ready.source.count; long = l }
 
-  p : Long d q → Planned q d.selector (vars_of vars) plan
-  p l = planned (fine l) good (vars_of vars) plan plans
+  p : Long d q → Planned q d.selector vars plan
+  p l = planned (fine l) good vars plan plans
 
-  t : Long d q → Termed q d.selector (vars_of vars) (operands_of d.tuple) terms
+  t : Long d q → Termed q d.selector vars (operands_of d.tuple) terms
   t l = termed (fine l) vars sixteen d.tuple terms made
 
   all-swept : Long d q → SweptIs plan (x || u) x terms columns kinds q.count q.rows o
@@ -118,7 +116,7 @@ module _ (d : Node) (q : Code.Relation) (vars : List Slot) (sixteen : length var
             let a = all-swept l in
             let loose = sel ∙ k in
             let drafts : (x || u) ≡ true = ap (◌|| u) loose in (
-              columns-same (fine l) (vars_of vars) (operands_of d.tuple) (shape.select k).1,
+              columns-same (fine l) vars (operands_of d.tuple) (shape.select k).1,
               ap (λ (m : ℕ). sift true (marks q.count o.flags) (firsts (values_of m) no_row q.count o.rows)) ((shape.select k).0 ∙ sym as_many)
                   ∙ picked (p l) (t l) a drafts loose complete,
             );

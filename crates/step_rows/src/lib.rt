@@ -18,10 +18,10 @@ use row_terms::terms_of;
 use rows::Relation;
 use step_effect::Judged;
 use step_effect::saying::column_fits;
-use values::{Got, Slot};
+use values::{Value, Vars};
 
 // The aggregate of the marked rows; nothing where check 16 will refuse. Where the column does not fit, check 16 comes first.
-fn result_of(node: Node, source: Relation, flags: [bool; 16]) -> Got
+fn result_of(node: Node, source: Relation, flags: [bool; 16]) -> Option<Value>
     requires { Shaped source }
     ensures { T (column_fits node.function node.column (relation_of source).columns) → result ≡ aggregated node.function node.column (sift true (marks source.count flags) (relation_of source).rows) }
 {
@@ -31,12 +31,12 @@ fn result_of(node: Node, source: Relation, flags: [bool; 16]) -> Got
         let taken = sifted(source, flags, true);
         return aggregate(function, column, taken);
     }
-    Got::Nothing
+    None
 }
 
 // Of a step with a predicate, in one pass over the rows. The columns of what the step makes of a row are a select's own, or the relation's; where T is not as long as the relation's,
 // check 16 comes first and no row is looked at.
-fn judged_rows(node: Node, source: Relation, vars: [Slot; 16]) -> Judged
+fn judged_rows(node: Node, source: Relation, vars: Vars) -> Judged
     requires { JudgeReady node source }
     ensures { JudgedIs node source vars result }
 {
@@ -62,7 +62,7 @@ fn judged_rows(node: Node, source: Relation, vars: [Slot; 16]) -> Judged
     let s = swept(source, n, plan, drafts, select, terms, columns, kinds);
     let rows = s.rows;
     let flags = s.flags;
-    let mut result = Got::Nothing;
+    let mut result = None;
     if is_aggregate(kind) {
         result = result_of(node, source, flags);
     }
@@ -76,7 +76,7 @@ fn judged_rows(node: Node, source: Relation, vars: [Slot; 16]) -> Judged
 }
 
 // Only steps with a predicate judge rows; for any other none are judged.
-pub fn judged(node: Node, source: Relation, vars: [Slot; 16]) -> Judged
+pub fn judged(node: Node, source: Relation, vars: Vars) -> Judged
     requires { JudgeReady node source }
     ensures { JudgedIs node source vars result }
 {
@@ -90,6 +90,6 @@ pub fn judged(node: Node, source: Relation, vars: [Slot; 16]) -> Judged
         kinds,
         rows,
         flags: [false; 16],
-        result: Got::Nothing,
+        result: None,
     }
 }

@@ -9,32 +9,25 @@ ghost use Rattle.step_thread.specs.ThreadContracts.{is_run, Stacked};
 
 use nets::kinds::is_sequential;
 use nets::{Entry, Frame, Refusal, Thread};
-use values::Slot;
+use values::Vars;
 
-// What a loop's pick comes to: over, a round opened, or refused.
+// A round that is opened: the visit set without the row picked, and the variables with T's formals bound to it.
 #[derive(Clone, Copy)]
-pub enum RoundAnswer {
-    Over,
-    Opened,
-    Stopped(Refusal),
-}
-
-// Of a round that is opened, the visit set without the row picked, and the variables with T's formals bound to it; else both as they were.
-#[derive(Clone, Copy)]
-pub struct Round {
-    pub answer: RoundAnswer,
+pub struct Opened {
     pub visit: [bool; 16],
-    pub vars: [Slot; 16],
+    pub vars: Vars,
 }
+
+// What a loop's pick comes to: a round, none where the loop is over, or a refusal.
+pub type RoundAnswer = Result<Option<Opened>, Refusal>;
 
 // ---- frames
 
 pub fn run_frame(node: u8) -> Frame
     ensures { result.entry ≡ Entry.Run node }
 {
-    let entry = Entry::Run(node);
     Frame {
-        entry,
+        entry: Entry::Run(node),
         visit: [false; 16],
     }
 }
@@ -42,21 +35,15 @@ pub fn run_frame(node: u8) -> Frame
 pub fn node_of(f: Frame) -> u8
     ensures { result ≡ node_in f.entry }
 {
-    let e = f.entry;
-    match e {
-        Entry::Run(i) => i,
-        Entry::Loop(i) => i,
+    match f.entry {
+        Entry::Run(i) | Entry::Loop(i) => i,
     }
 }
 
 pub fn is_run(f: Frame) -> bool
     ensures { result ≡ is_run f.entry }
 {
-    let e = f.entry;
-    match e {
-        Entry::Run(_) => true,
-        Entry::Loop(_) => false,
-    }
+    matches!(f.entry, Entry::Run(_))
 }
 
 // Whether the frame is that of a sequential loop, so that a round ends where the entry above it is removed.
@@ -72,18 +59,16 @@ pub fn top_frame(t: Thread) -> Frame
     requires { Stacked t }
     ensures { result ≡ get_or t.stack (t.depth - 1) no_frame }
 {
-    let at = t.depth - 1;
-    t.stack[at]
+    t.stack[t.depth - 1]
 }
 
 // A thread at the same site with the same table variables, these variables, and one entry. An entry to run holds nothing, so whatever is saved at its place is no matter.
-pub fn forked(t: Thread, vars: [Slot; 16], body: u8) -> Thread
+pub fn forked(t: Thread, vars: Vars, body: u8) -> Thread
     ensures { ((bs : ℕ → M.Bindings) → thread_of bs result ≡ record { site = t.site; bindings = bindings_of vars t.relations; stack = to_run body ∷ [] }) × (result.depth ≡ 1) }
 {
     let mut next = t;
     next.vars = vars;
     next.depth = 1;
-    let f = run_frame(body);
-    next.stack[0] = f;
+    next.stack[0] = run_frame(body);
     next
 }

@@ -1,5 +1,5 @@
 // Contents of tables and table variables. Cells and rows past the counts hold no values.
-use rows::{Cell, Relation, Row};
+use rows::{Relation, Row};
 use values::{Locality, Value};
 
 pub const CARD: u32 = 0x43415244;
@@ -9,12 +9,8 @@ pub const RIG1: u32 = 0x52494731;
 pub const RIG2: u32 = 0x52494732;
 
 fn row(a: Value, b: Value, c: Value, d: Value) -> Row {
-    let e = Cell { value: a };
-    let f = Cell { value: b };
-    let g = Cell { value: c };
-    let h = Cell { value: d };
     Row {
-        cells: [e, f, g, h],
+        cells: [a, b, c, d],
     }
 }
 
@@ -46,38 +42,31 @@ pub fn no_relation() -> Relation {
     }
 }
 
-// Text and Int: two rows.
-pub fn cards() -> Relation {
-    let none = no_row();
-    let mut rows = [none; 16];
-    rows[0] = pair(RIG1, 36);
-    rows[1] = pair(RIG2, -40);
+// Text and Int.
+fn two_rows(first: Row, second: Row) -> Relation {
+    let mut rows = [no_row(); 16];
+    rows[0] = first;
+    rows[1] = second;
     Relation {
         columns: 2,
         kinds: [2, 1, 0, 9],
         rows,
         count: 2,
     }
+}
+
+pub fn cards() -> Relation {
+    two_rows(pair(RIG1, 36), pair(RIG2, -40))
 }
 
 // The same two rows in the other order.
 pub fn turned() -> Relation {
-    let none = no_row();
-    let mut rows = [none; 16];
-    rows[0] = pair(RIG2, -40);
-    rows[1] = pair(RIG1, 36);
-    Relation {
-        columns: 2,
-        kinds: [2, 1, 0, 9],
-        rows,
-        count: 2,
-    }
+    two_rows(pair(RIG2, -40), pair(RIG1, 36))
 }
 
 // A value of each kind.
 pub fn logs() -> Relation {
-    let none = no_row();
-    let mut rows = [none; 16];
+    let mut rows = [no_row(); 16];
     rows[0] = row(
         Value::Int(7),
         Value::Text(RIG1),
@@ -93,11 +82,10 @@ pub fn logs() -> Relation {
 }
 
 fn sixteen_rows() -> Relation {
-    let row = pair(RIG1, 36);
     Relation {
         columns: 2,
         kinds: [2, 1, 0, 9],
-        rows: [row; 16],
+        rows: [pair(RIG1, 36); 16],
         count: 16,
     }
 }

@@ -26,13 +26,9 @@ fn alias(site: u8, locality: u8, means: u8) -> Alias {
 
 // Every locality 1..7 of every site.
 fn all_aliases() -> [Alias; 56] {
-    let first = alias(0, 1, 0);
-    let mut aliases = [first; 56];
-    let mut i: u8 = 0;
-    while i < 56 {
-        let at = i as usize;
-        aliases[at] = alias(i / 7, i % 7 + 1, i % 8);
-        i += 1;
+    let mut aliases = [alias(0, 1, 0); 56];
+    for i in 0..56_u8 {
+        aliases[i as usize] = alias(i / 7, i % 7 + 1, i % 8);
     }
     aliases
 }
@@ -41,8 +37,7 @@ fn aliases_of(e: [u8; 24]) -> [Alias; 56] {
     if e[2] == 2 {
         return all_aliases();
     }
-    let none = alias(9, 9, 9);
-    let mut aliases = [none; 56];
+    let mut aliases = [alias(9, 9, 9); 56];
     aliases[0] = alias(0, 1, 1);
     aliases[1] = alias(1, 2, 0);
     if e[3] == 2 {
@@ -63,13 +58,9 @@ fn table(site: u8, name: u32, content: Relation) -> Table {
 
 // CARD and seven names above it, at site 0.
 fn eight_tables() -> [Table; 8] {
-    let first = table(0, CARD, cards());
-    let mut tables = [first; 8];
-    let mut i: u8 = 0;
-    while i < 8 {
-        let at = i as usize;
-        tables[at] = table(0, CARD + (i as u32), cards());
-        i += 1;
+    let mut tables = [table(0, CARD, cards()); 8];
+    for i in 0..8_u8 {
+        tables[i as usize].name = CARD + (i as u32);
     }
     tables
 }
@@ -79,8 +70,7 @@ fn tables_of(e: [u8; 24]) -> [Table; 8] {
     if e[2] == 1 {
         return eight_tables();
     }
-    let none = table(9, 0, no_relation());
-    let mut tables = [none; 8];
+    let mut tables = [table(9, 0, no_relation()); 8];
     tables[0] = table(1, CARD, cards());
     tables[1] = table(0, 0x4c4f4753, logs());
     if e[3] == 3 {
@@ -93,8 +83,7 @@ fn tables_of(e: [u8; 24]) -> [Table; 8] {
 
 // Drops, but for the loop that the threads are in.
 fn all_nodes() -> [Node; 128] {
-    let drop = placed(24, 255);
-    let mut nodes = [drop; 128];
+    let mut nodes = [placed(24, 255); 128];
     nodes[9] = looping(25, 10);
     nodes
 }
@@ -140,10 +129,11 @@ fn first_thread(e: [u8; 24]) -> Thread {
 }
 
 fn threads_of(e: [u8; 24]) -> [Thread; 8] {
-    let mut other = no_thread();
-    if e[2] == 4 {
-        other = busy_thread();
-    }
+    let other = if e[2] == 4 {
+        busy_thread()
+    } else {
+        no_thread()
+    };
     let mut threads = [other; 8];
     threads[0] = first_thread(e);
     threads[1] = busy_thread();
@@ -155,12 +145,12 @@ fn threads_of(e: [u8; 24]) -> [Thread; 8] {
 // A count as the bytes tell it, or that of a full list, or of the other nets.
 fn count_of(told: bool, number: u8, full: bool, many: usize, few: usize) -> usize {
     if told {
-        return number as usize;
+        number as usize
+    } else if full {
+        many
+    } else {
+        few
     }
-    if full {
-        return many;
-    }
-    few
 }
 
 pub fn exchanged(e: [u8; 24]) -> Net {

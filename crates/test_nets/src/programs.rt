@@ -1,39 +1,31 @@
 // The nodes of the net: node i is of kind 16 + i, and node 11 is a drop that the loops have as their body.
 use crate::contents::CARD;
 use nets::Node;
-use rows::{Field, Function, Operands, Selector, Test};
+use rows::{Function, Operands, Selector, Test};
 use values::{Locality, Operand};
 
 // ---- operands
 
 pub fn two(a: Operand, b: Operand) -> Operands {
-    let e = Field { operand: a };
-    let f = Field { operand: b };
-    let none = Field {
-        operand: Operand::Formal(99),
-    };
+    let none = Operand::Formal(99);
     Operands {
-        fields: [e, f, none, none],
+        fields: [a, b, none, none],
         count: 2,
     }
 }
 
 // No operands; what lies past the count is out of range.
 fn none() -> Operands {
-    let field = Field {
-        operand: Operand::Formal(99),
-    };
     Operands {
-        fields: [field; 4],
+        fields: [Operand::Formal(99); 4],
         count: 0,
     }
 }
 
 // Four operands of one sort, no formals.
 pub fn four(a: Operand) -> Operands {
-    let field = Field { operand: a };
     Operands {
-        fields: [field; 4],
+        fields: [a; 4],
         count: 4,
     }
 }
@@ -84,82 +76,55 @@ pub fn bare(kind: u8, next: u8) -> Node {
     }
 }
 
-// The same node with these fields, which are enums beside a column.
-pub fn remade(node: Node, function: Function, column: u8, locality: Operand, res: Operand) -> Node {
-    let kinds = node.kinds;
-    let selector = node.selector;
-    let tuple = node.tuple;
-    Node {
-        kind: node.kind,
-        next: node.next,
-        body: node.body,
-        name: node.name,
-        bound: node.bound,
-        read: node.read,
-        function,
-        column,
-        columns: node.columns,
-        kinds,
-        locality,
-        selector,
-        tuple,
-        result: res,
-    }
-}
-
 // A node on the table CARD at the site that locality 1 means.
 pub fn placed(kind: u8, next: u8) -> Node {
-    let mut d = bare(kind, next);
-    d.name = CARD;
-    remade(
-        d,
-        Function::Unused,
-        0,
-        Operand::ConstLoc(Locality(1)),
-        Operand::Absent,
-    )
+    Node {
+        name: CARD,
+        locality: Operand::ConstLoc(Locality(1)),
+        ..bare(kind, next)
+    }
 }
 
 // The same node with another template and predicate.
 pub fn selecting(node: Node, selector: Selector) -> Node {
-    let mut d = node;
-    d.selector = selector;
-    d
+    Node { selector, ..node }
 }
 
 pub fn giving(node: Node, tuple: Operands) -> Node {
-    let mut d = node;
-    d.tuple = tuple;
-    d
+    Node { tuple, ..node }
 }
 
 // The sum of the second column, bound to variable 5.
 fn aggregate(next: u8) -> Node {
-    let d = selecting(placed(22, next), below_forty());
-    let locality = d.locality;
-    remade(d, Function::Sum, 1, locality, Operand::Formal(5))
+    Node {
+        function: Function::Sum,
+        column: 1,
+        selector: below_forty(),
+        result: Operand::Formal(5),
+        ..placed(22, next)
+    }
 }
 
 // Text and Int.
 fn create(next: u8) -> Node {
-    let mut d = placed(23, next);
-    d.columns = 2;
-    d.kinds[0] = 2;
-    d.kinds[1] = 1;
-    d
+    Node {
+        columns: 2,
+        kinds: [2, 1, 4, 4],
+        ..placed(23, next)
+    }
 }
 
 pub fn looping(kind: u8, next: u8) -> Node {
-    let mut d = selecting(bare(kind, next), matching(formals()));
-    d.body = 11;
-    d
+    Node {
+        body: 11,
+        selector: matching(formals()),
+        ..bare(kind, next)
+    }
 }
 
 // The same loop over table variable 1.
 pub fn over_second(node: Node) -> Node {
-    let mut d = node;
-    d.read = 1;
-    d
+    Node { read: 1, ..node }
 }
 
 // ---- all of them
@@ -167,8 +132,7 @@ pub fn over_second(node: Node) -> Node {
 pub fn nodes() -> [Node; 128] {
     let row = two(Operand::ConstText(0x4e455731), Operand::Plus(0, 1));
     let values = two(Operand::Var(3), Operand::Var(4));
-    let none = bare(99, 0);
-    let mut nodes = [none; 128];
+    let mut nodes = [bare(99, 0); 128];
     nodes[0] = giving(placed(16, 1), row);
     nodes[1] = placed(17, 2);
     nodes[2] = selecting(placed(18, 3), below_forty());

@@ -4,7 +4,7 @@ use crate::stacks::value_of;
 use crate::threads::{no_variable, no_vars};
 use nets::{Entry, Frame, Saved, TableVariable, Thread};
 use record_bytes::text_in;
-use values::{Got, Slot};
+use values::Vars;
 
 fn no_saved() -> Saved {
     Saved {
@@ -16,8 +16,7 @@ fn no_saved() -> Saved {
 // Node 9 is a sequential loop over table variable 0, and node 7, where it is one, over table variable 1.
 fn saved_by(thread: Thread, node: u8) -> Saved {
     let vars = thread.vars;
-    let first = thread.relations[0];
-    let second = thread.relations[1];
+    let [first, second] = thread.relations;
     match node {
         7 => Saved { vars, other: first },
         9 => Saved {
@@ -29,8 +28,7 @@ fn saved_by(thread: Thread, node: u8) -> Saved {
 }
 
 fn saved_for(thread: Thread, frame: Frame) -> Saved {
-    let entry = frame.entry;
-    match entry {
+    match frame.entry {
         Entry::Run(_) => no_saved(),
         Entry::Loop(node) => saved_by(thread, node),
     }
@@ -39,18 +37,15 @@ fn saved_for(thread: Thread, frame: Frame) -> Saved {
 // ---- by bytes
 
 // By byte 17: 0 the same, 1 none bound, 2 a Text in variable 15, 3 a Loc there, by bytes 20 to 23.
-fn vars_of(vars: [Slot; 16], e: [u8; 24]) -> [Slot; 16] {
+fn vars_of(vars: Vars, e: [u8; 24]) -> Vars {
     if e[17] == 0 {
         return vars;
     }
     if e[17] == 1 {
-        let none = Slot { held: Got::Nothing };
-        return [none; 16];
+        return [None; 16];
     }
     let mut next = vars;
-    next[15] = Slot {
-        held: Got::One(value_of(e[17], text_in(&e[20..24]), e[20])),
-    };
+    next[15] = Some(value_of(e[17], text_in(&e[20..24]), e[20]));
     next
 }
 
@@ -59,30 +54,21 @@ fn other_of(other: TableVariable, e: [u8; 24]) -> TableVariable {
     if e[16] == 2 {
         return other;
     }
-    TableVariable {
-        bound: e[16] == 1,
-        content: content_of(e),
-    }
+    (e[16] == 1).then_some(content_of(e))
 }
 
 fn resaved(saved: Saved, e: [u8; 24]) -> Saved {
-    let vars = saved.vars;
-    let other = saved.other;
     Saved {
-        vars: vars_of(vars, e),
-        other: other_of(other, e),
+        vars: vars_of(saved.vars, e),
+        other: other_of(saved.other, e),
     }
 }
 
 // The one exchanged is at the place that byte 4 says, eight to a thread.
 pub fn saved_of(whole: Thread, threads: [Thread; 8], e: [u8; 24]) -> [Saved; 64] {
-    let none = no_saved();
-    let mut saved = [none; 64];
-    let mut i: usize = 0;
-    while i < 64 {
-        let thread = threads[i / 8];
-        saved[i] = saved_for(whole, thread.stack[i % 8]);
-        i += 1;
+    let mut saved = [no_saved(); 64];
+    for i in 0..64 {
+        saved[i] = saved_for(whole, threads[i / 8].stack[i % 8]);
     }
     if e[3] == 18 {
         let at = (e[4] % 64) as usize;

@@ -6,31 +6,31 @@ use crate::threads::{to_run, visiting};
 use nets::{Entry, Frame, TableVariable, Thread};
 use record_bytes::text_in;
 use rows::Relation;
-use values::{Got, Locality, Site, Slot, Value};
+use values::{Locality, Site, Value};
 
 // At another site, with another count of entries.
 fn moved(thread: Thread, site: Site, depth: usize) -> Thread {
-    let mut t = thread;
-    t.site = site;
-    t.depth = depth;
-    t
+    Thread {
+        site,
+        depth,
+        ..thread
+    }
 }
 
 // Another value in variable 15.
 fn holding(thread: Thread, value: Value) -> Thread {
     let mut t = thread;
-    t.vars[15] = Slot {
-        held: Got::One(value),
-    };
+    t.vars[15] = Some(value);
     t
 }
 
 // A Text, or a Loc.
 pub fn value_of(kind: u8, text: u32, locality: u8) -> Value {
     if kind == 2 {
-        return Value::Text(text);
+        Value::Text(text)
+    } else {
+        Value::Loc(Locality(locality))
     }
-    Value::Loc(Locality(locality))
 }
 
 // Table variable `at` bound to another content, or unbound.
@@ -38,7 +38,7 @@ fn binding(thread: Thread, at: usize, bound: bool, content: Relation) -> Thread
     requires { at < 2 }
 {
     let mut t = thread;
-    t.relations[at] = TableVariable { bound, content };
+    t.relations[at] = bound.then_some(content);
     t
 }
 
@@ -74,10 +74,8 @@ fn entries_of(old: [Frame; 8], e: [u8; 24]) -> [Frame; 8] {
     let between = coded(e[10]);
     let top = (e[19] % 8) as usize;
     let mut stack = old;
-    let mut i: usize = 0;
-    while i < top {
+    for i in 0..top {
         stack[i] = between;
-        i += 1;
     }
     stack[0] = coded(e[9]);
     stack[top] = coded(e[11]);
@@ -89,8 +87,7 @@ pub fn nested(thread: Thread, e: [u8; 24]) -> Thread {
     let mut content = turned();
     content.count = e[18] as usize;
     let mut t = binding(thread, 1, true, content);
-    let old = t.stack;
-    let stack = entries_of(old, e);
+    let stack = entries_of(t.stack, e);
     t.stack = stack;
     t.depth = (e[19] % 8) as usize + 1;
     t
@@ -98,8 +95,7 @@ pub fn nested(thread: Thread, e: [u8; 24]) -> Thread {
 
 // 14 site and count of entries, 15 a variable, 16 a table variable, 17 entries.
 pub fn thread_of(thread: Thread, e: [u8; 24]) -> Thread {
-    let part = e[3];
-    match part {
+    match e[3] {
         14 => moved(thread, Site(e[4]), e[5] as usize),
         15 => holding(thread, value_of(e[4], text_in(&e[16..20]), e[5])),
         16 => binding(thread, (e[4] % 2) as usize, e[16] == 1, content_of(e)),

@@ -3,7 +3,7 @@ ghost use Rattle.std.specs.Prelude.{◌<◌};
 
 use crate::contents::{RIG2, cards, no_relation};
 use nets::{Entry, Frame, TableVariable, Thread};
-use values::{Got, Locality, Site, Slot, Value};
+use values::{Locality, Site, Value, Vars};
 
 pub fn to_run(node: u8) -> Frame {
     Frame {
@@ -25,31 +25,16 @@ pub fn visiting(node: u8, at: usize) -> Frame
 }
 
 // Variables 0, 1 and 2 hold an Int, a Text and a Loc.
-fn three_bound() -> [Slot; 16] {
-    let none = Slot { held: Got::Nothing };
-    let mut vars = [none; 16];
-    vars[0] = Slot {
-        held: Got::One(Value::Int(5)),
-    };
-    vars[1] = Slot {
-        held: Got::One(Value::Text(RIG2)),
-    };
-    vars[2] = Slot {
-        held: Got::One(Value::Loc(Locality(1))),
-    };
+fn three_bound() -> Vars {
+    let mut vars = [None; 16];
+    vars[0] = Some(Value::Int(5));
+    vars[1] = Some(Value::Text(RIG2));
+    vars[2] = Some(Value::Loc(Locality(1)));
     vars
 }
 
 // At site 0, above a loop over table variable 0, on the insert; table variable 1 is unbound.
 pub fn busy_thread() -> Thread {
-    let bound = TableVariable {
-        bound: true,
-        content: cards(),
-    };
-    let unbound = TableVariable {
-        bound: false,
-        content: no_relation(),
-    };
     let none = Frame {
         entry: Entry::Loop(200),
         visit: [true; 16],
@@ -60,36 +45,29 @@ pub fn busy_thread() -> Thread {
     Thread {
         site: Site(0),
         vars: three_bound(),
-        relations: [bound, unbound],
+        relations: [Some(cards()), None],
         stack,
         depth: 2,
     }
 }
 
 pub fn eight_entries(thread: Thread) -> Thread {
-    let entry = to_run(0);
-    let mut t = thread;
-    t.stack = [entry; 8];
-    t.depth = 8;
-    t
-}
-
-pub fn no_vars() -> [Slot; 16] {
-    let slot = Slot {
-        held: Got::One(Value::Text(3)),
-    };
-    [slot; 16]
-}
-
-pub fn no_variable() -> TableVariable {
-    TableVariable {
-        bound: true,
-        content: no_relation(),
+    Thread {
+        stack: [to_run(0); 8],
+        depth: 8,
+        ..thread
     }
 }
 
+pub fn no_vars() -> Vars {
+    [Some(Value::Text(3)); 16]
+}
+
+pub fn no_variable() -> TableVariable {
+    Some(no_relation())
+}
+
 pub fn no_thread() -> Thread {
-    let variable = no_variable();
     let none = Frame {
         entry: Entry::Loop(200),
         visit: [true; 16],
@@ -97,7 +75,7 @@ pub fn no_thread() -> Thread {
     Thread {
         site: Site(9),
         vars: no_vars(),
-        relations: [variable; 2],
+        relations: [no_variable(); 2],
         stack: [none; 8],
         depth: 0,
     }

@@ -9,6 +9,7 @@ use call_each::table_page::call_page;
 use call_each::tables::call_tables;
 use call_each::threads::call_threads;
 use call_each::trace::call_trace;
+use call_rules::tell;
 use values::Site;
 
 // The tables left after all picks, as records that load again.
@@ -21,9 +22,7 @@ pub extern "C" fn tivgeral_tables(
 ) -> u8
     ensures { TablesIs file.now picks.now out.old out.new result place.new }
 {
-    let reply = call_tables(file, picks, out);
-    *place = reply.place;
-    reply.number
+    tell(call_tables(file, picks, out), place)
 }
 
 // The answer to each pick.
@@ -36,9 +35,7 @@ pub extern "C" fn tivgeral_answers(
 ) -> u8
     ensures { AnswersIs file.now picks.now out.old out.new result place.new }
 {
-    let reply = call_answers(file, picks, out);
-    *place = reply.place;
-    reply.number
+    tell(call_answers(file, picks, out), place)
 }
 
 // The threads left after all picks.
@@ -51,9 +48,7 @@ pub extern "C" fn tivgeral_threads(
 ) -> u8
     ensures { ThreadsIs file.now picks.now out.old out.new result place.new }
 {
-    let reply = call_threads(file, picks, out);
-    *place = reply.place;
-    reply.number
+    tell(call_threads(file, picks, out), place)
 }
 
 // The net after the first `from` picks and after each further one, with all that threads hold, as long as there is room.
@@ -67,9 +62,7 @@ pub extern "C" fn tivgeral_trace(
 ) -> u8
     ensures { TraceIs file.now picks.now from out.old out.new result place.new }
 {
-    let reply = call_trace(file, picks, from, out);
-    *place = reply.place;
-    reply.number
+    tell(call_trace(file, picks, from, out), place)
 }
 
 // The page of one table after all picks.
@@ -84,9 +77,7 @@ pub extern "C" fn tivgeral_page(
 ) -> u8
     ensures { PageAfterIs file.now picks.now (record { 0 = site }) name out.old out.new result place.new }
 {
-    let reply = call_page(file, picks, Site(site), name, out);
-    *place = reply.place;
-    reply.number
+    tell(call_page(file, picks, Site(site), name, out), place)
 }
 
 // The file's own picks.
@@ -94,7 +85,5 @@ pub extern "C" fn tivgeral_page(
 pub extern "C" fn tivgeral_picks(file: &[u8], out: &mut [u8], place: &mut usize) -> u8
     ensures { PicksIs file.now out.old out.new result place.new }
 {
-    let reply = call_picks(file, out);
-    *place = reply.place;
-    reply.number
+    tell(call_picks(file, out), place)
 }

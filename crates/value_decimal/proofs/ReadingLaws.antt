@@ -3,7 +3,7 @@ use Prim.Native.Nat.{ℕ, zero, suc, ◌+◌, ◌-◌, ◌*◌, ◌/◌, ◌%◌
 use mathlib.Core.Path.{◌≡◌, refl, sym, ap, ◌∙◌}
 use mathlib.Core.Bool.{Bool, true, false, cond}
 use mathlib.Core.List.{List, [], ◌∷◌, ◌++◌, append-nil, append_assoc}
-use mathlib.Core.Option.{some}
+use Rattle.std.specs.Prelude.{Some}
 use native.Mathlib.Omega.{arith}
 use lib.Dec.{eqb}
 use lib.IntN.{ℤ, pos, negsuc}
@@ -36,7 +36,7 @@ read_more n h i l =
     let e : 10 * (n / 10) + n % 10 ≡ n = omega arith in
     rw (decimal-more n h, append_assoc) (i (digit (n % 10) ∷ l) ∙ read-digit (n / 10) (n % 10) l (omega arith) ∙ ap (λ (m : ℕ). read_on m l) e)
 
-digits-read : (n : ℕ) → read_on 0 (decimal n) ≡ some n
+digits-read : (n : ℕ) → read_on 0 (decimal n) ≡ Some n
 digits-read n = ap (read_on 0) (sym (append-nil (decimal n))) ∙ by_tenths Reads read_one read_more n []
 
 -- ── the first digit: no blank, and no minus ──
@@ -47,14 +47,14 @@ pub record Begins (l : List ℕ) : Type 0 where
   pub small : first < 10
   pub whole : l ≡ digit first ∷ rest
 
-pub first-digit : (n : ℕ) → Begins (decimal n)
+first-digit : (n : ℕ) → Begins (decimal n)
 first-digit =
     by_tenths
     (λ n. Begins (decimal n))
     (λ n h. record { first = n; rest = []; small = h; whole = decimal-one n h })
     (λ n h i. record { first = i.first; rest = i.rest ++ (digit (n % 10) ∷ []); small = i.small; whole = decimal-more n h ∙ ap (λ (l : List ℕ). l ++ (digit (n % 10) ∷ [])) i.whole })
 
-read-digits : (n : ℕ) → read_digits (decimal n) ≡ some n
+read-digits : (n : ℕ) → read_digits (decimal n) ≡ Some n
 read-digits n =
     let b = first-digit n in
     ap read_digits b.whole ∙ ap (read_on 0) (sym b.whole) ∙ digits-read n
@@ -66,7 +66,7 @@ not_minus d = ne_eqb (digit d) 0x2d (λ e. omega arith)
 not_blank : (d : ℕ) → eqb (digit d) 0x20 ≡ false
 not_blank d = ne_eqb (digit d) 0x20 (λ e. omega arith)
 
-read-positive : (n : ℕ) → read_signed (decimal n) ≡ some (pos n)
+read-positive : (n : ℕ) → read_signed (decimal n) ≡ Some (pos n)
 read-positive n =
     let b = first-digit n in
     ap read_signed b.whole
@@ -74,7 +74,7 @@ read-positive n =
     ∙ ap (λ (l : List ℕ). positive (read_digits l)) (sym b.whole)
     ∙ ap positive (read-digits n)
 
-signed-read : (z : ℤ) → read_signed (signed z) ≡ some z
+signed-read : (z : ℤ) → read_signed (signed z) ≡ Some z
 signed-read (pos n) = read-positive n
 signed-read (negsuc n) = ap negative (read-digits (suc n))
 
@@ -88,6 +88,6 @@ first-seen (pos n) =
     ∙ ap read_signed (sym b.whole)
 first-seen (negsuc n) = refl
 
-pub number_read : (k : ℕ) (z : ℤ) → read_number (blanks k ++ signed z) ≡ some z
+pub number_read : (k : ℕ) (z : ℤ) → read_number (blanks k ++ signed z) ≡ Some z
 number_read zero z = first-seen z ∙ signed-read z
 number_read (suc k) z = number_read k z

@@ -1,7 +1,7 @@
 // Numbers in decimal, put at the end of a lent part of a buffer, with blanks before them.
 #![tactic(auto)]
 
-ghost use Rattle.std.specs.Prelude.{◌≡◌, ◌++◌, ◌+◌, ◌≤◌, nat_abs, length, take};
+ghost use Rattle.std.specs.Prelude.{◌≡◌, ◌++◌, ◌+◌, ◌≤◌, length, take};
 ghost use Rattle.value_decimal.specs.Decimals.{decimal, number, signed, blanks};
 
 // Room for every number of 64 bits: twenty digits and a minus.
@@ -11,11 +11,7 @@ pub const PLACES: usize = 21;
 pub fn put_blanks(out: &mut [u8])
     ensures { out.new ≡ blanks (length out.old) }
 {
-    let mut i = 0;
-    while i < out.len() {
-        out[i] = b' ';
-        i += 1;
-    }
+    out.fill(b' ');
 }
 
 // Puts the last digit at the end and each further one a place to the left; gives the place of the first digit.
@@ -25,6 +21,7 @@ fn put_digits(out: &mut [u8], n: u64) -> usize
 {
     let mut at = out.len();
     let mut rest = n;
+    // The number ends the loop and not the part: a `for` over the places would have an end that is never reached.
     while rest > 9 {
         at -= 1;
         out[at] = 48 + (rest % 10) as u8;
@@ -36,6 +33,7 @@ fn put_digits(out: &mut [u8], n: u64) -> usize
 }
 
 // Puts the number at the end of the part and blanks before it; gives how many blanks.
+// The sign stands beside the distance from zero: no integer of 64 bits holds each `u64` with and without a minus.
 pub fn put_number(out: &mut [u8], negative: bool, n: u64) -> usize
     requires { length (number negative n) ≤ length out.old }
     ensures { (out.new ≡ blanks result ++ number negative n) × (result + length (number negative n) ≡ length out.old) }
@@ -49,21 +47,10 @@ pub fn put_number(out: &mut [u8], negative: bool, n: u64) -> usize
     first
 }
 
-// How far a number is from zero; the least one of 64 bits has no opposite there.
-fn magnitude(z: i64) -> u64
-    ensures { result ≡ nat_abs z }
-{
-    if z < 0 {
-        let short = 0 - (z + 1);
-        return short as u64 + 1;
-    }
-    z as u64
-}
-
 // Puts a signed number at the end of the part and blanks before it; gives how many blanks.
 pub fn put_signed(out: &mut [u8], z: i64) -> usize
     requires { length (signed z) ≤ length out.old }
     ensures { (out.new ≡ blanks result ++ signed z) × (result + length (signed z) ≡ length out.old) }
 {
-    put_number(out, z < 0, magnitude(z))
+    put_number(out, z < 0, z.unsigned_abs())
 }

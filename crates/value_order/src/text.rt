@@ -1,20 +1,17 @@
 // Texts, compared byte by byte with a..z read as A..Z.
-ghost use Rattle.std.specs.Prelude.{◌≡◌};
+ghost use Rattle.std.specs.Prelude.{◌≡◌, Some};
+ghost use Rattle.values.specs.Values.{upper, text_order};
 ghost use Rattle.values.specs.Folding.{folded_text};
-ghost use Rattle.values.specs.Values.{upper, text_order, number_order};
 
-use values::Order;
+use std::cmp::Ordering;
 
 fn upper_byte(b: u32) -> u32
     ensures { result ≡ upper b }
 {
-    if b < 97 {
-        return b;
+    match b {
+        97..=122 => b - 32,
+        _ => b,
     }
-    if 122 < b {
-        return b;
-    }
-    b - 32
 }
 
 // The four bytes as capitals, again as one number.
@@ -28,26 +25,12 @@ fn folded(t: u32) -> u32
     ((a * 256 + b) * 256 + c) * 256 + d
 }
 
-pub fn number_order(m: u32, n: u32) -> Order
-    ensures { result ≡ number_order m n }
-{
-    if m < n {
-        return Order::Before;
-    }
-    if n < m {
-        return Order::After;
-    }
-    Order::Same
-}
-
 // Folded texts are ordered as numbers, since the first byte is the highest.
-pub fn text_order(t: u32, u: u32) -> Order
-    ensures { result ≡ text_order t u }
+pub fn text_order(t: u32, u: u32) -> Ordering
+    ensures { Some result ≡ text_order t u }
 {
     if t == u {
-        return Order::Same;
+        return Ordering::Equal;
     }
-    let a = folded(t);
-    let b = folded(u);
-    number_order(a, b)
+    folded(t).cmp(&folded(u))
 }

@@ -22,18 +22,9 @@ pub fn add_count(t: Total, n: usize) -> Total
     requires { t.high < 2 ^ 63 }
     ensures { (total_of result ≡ total_of t + n) × (result.high ≤ t.high + 1) }
 {
-    let more = n as u64;
-    let high = t.high;
-    let low = t.low;
-    let room = 18446744073709551615 - low;
-    if more <= room {
-        return Total {
-            high,
-            low: low + more,
-        };
-    }
+    let (low, over) = t.low.overflowing_add(n as u64);
     Total {
-        high: high + 1,
-        low: more - room - 1,
+        high: t.high + u64::from(over),
+        low,
     }
 }

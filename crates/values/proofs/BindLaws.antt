@@ -3,21 +3,22 @@ use Prim.Native.Nat.{ℕ, zero, suc, ◌<◌}
 use mathlib.Core.Path.{◌≡◌, refl, ap, ◌∙◌}
 use mathlib.Core.Bool.{Bool, true, false, ◌||◌}
 use mathlib.Core.List.{List, [], ◌∷◌, map}
-use mathlib.Core.Option.{Option, none, some}
+use Rattle.std.specs.Prelude.{Option, None, Some}
 use native.Mathlib.Omega.{arith}
 use lib.Dec.{T, eqb, eqb→eq}
 use lib.ListN.{get_or, set, length, length-set}
 use lib.Seq.{get_or-set_same}
 use Rattle.values.specs.declared.Operand.{Operand}
-use Rattle.values.specs.Lists.{all, among, present}
+use Rattle.values.specs.Lists.{among, present}
+use Rattle.std.specs.List.{list_all}
 use Rattle.values.specs.Operands.{formal_of, formals, bind_to, bind}
 use Rattle.values.proofs.Arrays.{map-set}
 use Rattle.values.proofs.Bools.{and_l, and_r, and_in, T_of}
 
 module _ {A : Type 0} where
   pub length_to : (f : Option ℕ) (a : A) (e : List A) → length (bind_to f a e) ≡ length e
-  length_to none a e = refl
-  length_to (some j) a e = length-set e j a
+  length_to None a e = refl
+  length_to (Some j) a e = length-set e j a
 
   pub length-bind : (t : List Operand) (r e : List A) → length (bind t r e) ≡ length e
   unfolding bind
@@ -27,21 +28,21 @@ module _ {A : Type 0} where
 
 -- every element passes
 module _ {A : Type 0} (p : A → Bool) where
-  pub all_set : (l : List A) (i : ℕ) (a : A) → T (all p l) → T (p a) → T (all p (set l i a))
+  pub all_set : (l : List A) (i : ℕ) (a : A) → T (list_all p l) → T (p a) → T (list_all p (set l i a))
   all_set [] i a h k = tt
-  all_set (b ∷ l) zero a h k = and_in (p a) (all p l) k (and_r (p b) (all p l) h)
-  all_set (b ∷ l) (suc i) a h k = and_in (p b) (all p (set l i a)) (and_l (p b) (all p l) h) (all_set l i a (and_r (p b) (all p l) h) k)
+  all_set (b ∷ l) zero a h k = and_in (p a) (list_all p l) k (and_r (p b) (list_all p l) h)
+  all_set (b ∷ l) (suc i) a h k = and_in (p b) (list_all p (set l i a)) (and_l (p b) (list_all p l) h) (all_set l i a (and_r (p b) (list_all p l) h) k)
 
-  all_to : (f : Option ℕ) (a : A) (e : List A) → T (all p e) → T (p a) → T (all p (bind_to f a e))
-  all_to none a e h k = h
-  all_to (some j) a e h k = all_set e j a h k
+  all_to : (f : Option ℕ) (a : A) (e : List A) → T (list_all p e) → T (p a) → T (list_all p (bind_to f a e))
+  all_to None a e h k = h
+  all_to (Some j) a e h k = all_set e j a h k
 
-  pub all-bind : (t : List Operand) (r e : List A) → T (all p e) → T (all p r) → T (all p (bind t r e))
+  pub all-bind : (t : List Operand) (r e : List A) → T (list_all p e) → T (list_all p r) → T (list_all p (bind t r e))
   unfolding bind
   all-bind [] r e h k = h
   all-bind (o ∷ t) [] e h k = h
   all-bind (o ∷ t) (a ∷ r) e h k =
-      all-bind t r (bind_to (formal_of o) a e) (all_to (formal_of o) a e h (and_l (p a) (all p r) k)) (and_r (p a) (all p r) k)
+      all-bind t r (bind_to (formal_of o) a e) (all_to (formal_of o) a e h (and_l (p a) (list_all p r) k)) (and_r (p a) (list_all p r) k)
 
 -- the element at one place, `d` where there is none, passes
 abbrev Passes : {A : Type 0} → (A → Bool) → A → ℕ → List A → Type 0
@@ -57,39 +58,39 @@ module _ {A : Type 0} (p : A → Bool) (d : A) where
 
 module _ {A : Type 0} (p : A → Bool) (d : A) (i : ℕ) where
   to_stays : (f : Option ℕ) (a : A) (e : List A) → T (p a) → Passes p d i e → Passes p d i (bind_to f a e)
-  to_stays none a e k h = h
-  to_stays (some j) a e k h = set-stays p d e i j a k h
+  to_stays None a e k h = h
+  to_stays (Some j) a e k h = set-stays p d e i j a k h
 
-  bind-stays : (t : List Operand) (r e : List A) → T (all p r) → Passes p d i e → Passes p d i (bind t r e)
+  bind-stays : (t : List Operand) (r e : List A) → T (list_all p r) → Passes p d i e → Passes p d i (bind t r e)
   unfolding bind
   bind-stays [] r e k h = h
   bind-stays (o ∷ t) [] e k h = h
   bind-stays (o ∷ t) (a ∷ r) e k h =
-      bind-stays t r (bind_to (formal_of o) a e) (and_r (p a) (all p r) k) (to_stays (formal_of o) a e (and_l (p a) (all p r) k) h)
+      bind-stays t r (bind_to (formal_of o) a e) (and_r (p a) (list_all p r) k) (to_stays (formal_of o) a e (and_l (p a) (list_all p r) k) h)
 
   -- a formal's variable, once things that pass are bound
-  formal_passes : (t : List Operand) (r e : List A) → i < length e → length t ≡ length r → T (all p r) → T (among i (formals t)) → Passes p d i (bind t r e)
+  formal_passes : (t : List Operand) (r e : List A) → i < length e → length t ≡ length r → T (list_all p r) → T (among i (formals t)) → Passes p d i (bind t r e)
   unfolding bind
   formal_passes [] r e l q k h = absurd h
   formal_passes (o ∷ t) [] e l q k h = absurd (omega arith)
   formal_passes (o ∷ t) (a ∷ r) e l q k h =
       go (formal_of o) h (formal_passes t r (bind_to (formal_of o) a e) (rw (length_to (formal_of o) a e) l) (omega arith) rest)
     where
-      rest : T (all p r)
-      rest = and_r (p a) (all p r) k
+      rest : T (list_all p r)
+      rest = and_r (p a) (list_all p r) k
 
       found : (j : ℕ) (b : Bool) → eqb i j ≡ b → T (b || among i (formals t)) → (T (among i (formals t)) → Passes p d i (bind t r (set e j a))) → Passes p d i (bind t r (set e j a))
       found j true x h ih =
           bind-stays t r (set e j a) rest
-          (rw (← eqb→eq i j (T_of (eqb i j) x), get_or-set_same e i a d l) (and_l (p a) (all p r) k))
+          (rw (← eqb→eq i j (T_of (eqb i j) x), get_or-set_same e i a d l) (and_l (p a) (list_all p r) k))
       found j false x h ih = ih h
 
       go : (f : Option ℕ) → T (among i (present (f ∷ map formal_of t))) → (T (among i (formals t)) → Passes p d i (bind t r (bind_to f a e))) → Passes p d i (bind t r (bind_to f a e))
-      go none h ih = ih h
-      go (some j) h ih = found j (eqb i j) refl h ih
+      go None h ih = ih h
+      go (Some j) h ih = found j (eqb i j) refl h ih
 
   -- a variable that passed, or is a formal's
-  pub known-passes : (t : List Operand) (r e : List A) → i < length e → length t ≡ length r → T (all p r) → T (p (get_or e i d) || among i (formals t)) → Passes p d i (bind t r e)
+  pub known-passes : (t : List Operand) (r e : List A) → i < length e → length t ≡ length r → T (list_all p r) → T (p (get_or e i d) || among i (formals t)) → Passes p d i (bind t r e)
   known-passes t r e l q k h = go (p (get_or e i d)) refl h
     where
       go : (b : Bool) → p (get_or e i d) ≡ b → T (b || among i (formals t)) → Passes p d i (bind t r e)
@@ -99,8 +100,8 @@ module _ {A : Type 0} (p : A → Bool) (d : A) (i : ℕ) where
 -- what is bound, and what it is bound to, mapped
 module _ {A B : Type 0} (f : A → B) where
   map_to : (o : Option ℕ) (a : A) (e : List A) → map f (bind_to o a e) ≡ bind_to o (f a) (map f e)
-  map_to none a e = refl
-  map_to (some i) a e = map-set f e i a
+  map_to None a e = refl
+  map_to (Some i) a e = map-set f e i a
 
   pub map-bind : (t : List Operand) (r e : List A) → map f (bind t r e) ≡ bind t (map f r) (map f e)
   unfolding bind

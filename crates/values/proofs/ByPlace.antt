@@ -7,7 +7,8 @@ use native.Mathlib.Omega.{arith}
 use native.Mathlib.Numerals.{add-one}
 use lib.Dec.{T}
 use lib.ListN.{length, drop, get_or, set}
-use Rattle.values.specs.Lists.{all, places, remove_at}
+use Rattle.values.specs.Lists.{places, remove_at}
+use Rattle.std.specs.List.{list_all}
 use Rattle.values.proofs.Bools.{and_l, and_r}
 
 module _ {B : Type 0} (f : ℕ → B) where
@@ -52,13 +53,13 @@ module _ {B : Type 0} (f : ℕ → B) where
   by_next n = rw add-one (next-from 0 n ∙ ap (λ (m : ℕ). map f (places 0 n) ++ (f m ∷ [])) (omega arith))
 
   -- what holds of all holds at each place
-  pub all_by : (p : B → Bool) (n j : ℕ) → j < n → T (all p (map f (places 0 n))) → T (p (f j))
+  pub all_by : (p : B → Bool) (n j : ℕ) → j < n → T (list_all p (map f (places 0 n))) → T (p (f j))
   all_by p n j h t = let e : 0 + j ≡ j = omega arith in subst (λ (m : ℕ). T (p (f m))) e (go 0 n j h t)
     where
-      go : (i m k : ℕ) → k < m → T (all p (map f (places i m))) → T (p (f (i + k)))
+      go : (i m k : ℕ) → k < m → T (list_all p (map f (places i m))) → T (p (f (i + k)))
       go i zero k h t = absurd (omega arith)
-      go i (suc m) zero h t = let e : i + 0 ≡ i = omega arith in rw e (and_l (p (f i)) (all p (map f (places (suc i) m))) t)
-      go i (suc m) (suc k) h t = let e : i + suc k ≡ suc i + k = omega arith in rw e (go (suc i) m k (omega arith) (and_r (p (f i)) (all p (map f (places (suc i) m))) t))
+      go i (suc m) zero h t = let e : i + 0 ≡ i = omega arith in rw e (and_l (p (f i)) (list_all p (map f (places (suc i) m))) t)
+      go i (suc m) (suc k) h t = let e : i + suc k ≡ suc i + k = omega arith in rw e (go (suc i) m k (omega arith) (and_r (p (f i)) (list_all p (map f (places (suc i) m))) t))
 
 module _ {B : Type 0} (f g : ℕ → B) where
   same_from : (i n : ℕ) → ((j : ℕ) → i ≤ j → j < i + n → f j ≡ g j) → map f (places i n) ≡ map g (places i n)

@@ -1,13 +1,14 @@
 -- The part of an array that is in use, seen as a list (`firsts`): its length, its places, stores behind it and in it, and a function of its elements.
 use Prim.Native.Nat.{ℕ, zero, suc, ◌+◌, ◌<◌, ◌≤◌}
 use mathlib.Core.Path.{◌≡◌, refl, ap, ap₂}
-use mathlib.Core.Bool.{Bool}
+use mathlib.Core.Bool.{Bool, ◌&&◌, ◌||◌}
 use mathlib.Core.List.{List, [], ◌∷◌, ◌++◌, map}
 use native.Mathlib.Omega.{arith}
 use native.Mathlib.Numerals.{add-one}
 use lib.Dec.{T}
-use lib.ListN.{length, drop, get_or, set}
-use Rattle.values.specs.Lists.{all, firsts}
+use lib.ListN.{length, take, drop, get_or, set}
+use Rattle.values.specs.Lists.{firsts}
+use Rattle.std.specs.List.{list_all, list_any}
 use Rattle.values.proofs.Bools.{and_l, and_r}
 
 module _ {A B : Type 0} (f : A → B) (z : A) where
@@ -76,6 +77,12 @@ module _ {A B : Type 0} (f : A → B) (z : A) where
   firsts-set (suc n) (b ∷ l) zero a h = refl
   firsts-set (suc n) (b ∷ l) (suc i) a h = ap (f b ∷◌) (firsts-set n l i a (omega arith))
 
+-- what is in use, as a part of the array
+pub take_firsts : {A : Type 0} (z : A) (n : ℕ) (l : List A) → n ≤ length l → take n l ≡ firsts (λ (a : A). a) z n l
+take_firsts z zero l h = refl
+take_firsts z (suc n) [] h = absurd (omega arith)
+take_firsts z (suc n) (a ∷ l) h = ap (a ∷◌) (take_firsts z n l (omega arith))
+
 -- a function of what is in use
 pub map-firsts : {A B C : Type 0} (g : B → C) (f : A → B) (z : A) (n : ℕ) (l : List A) → map g (firsts f z n l) ≡ firsts (λ (a : A). g (f a)) z n l
 map-firsts g f z zero l = refl
@@ -92,9 +99,28 @@ firsts_same f y g z (suc n) (a ∷ k) [] h = ap₂ ◌∷◌ (h 0 (omega arith))
 firsts_same f y g z (suc n) (a ∷ k) (b ∷ l) h = ap₂ ◌∷◌ (h 0 (omega arith)) (firsts_same f y g z n k l (λ i q. h (suc i) (omega arith)))
 
 -- what holds of all that is in use holds at each place
-pub all_firsts : {A B : Type 0} (p : B → Bool) (f : A → B) (z : A) (n : ℕ) (l : List A) (i : ℕ) → i < n → T (all p (firsts f z n l)) → T (p (f (get_or l i z)))
+pub all_firsts : {A B : Type 0} (p : B → Bool) (f : A → B) (z : A) (n : ℕ) (l : List A) (i : ℕ) → i < n → T (list_all p (firsts f z n l)) → T (p (f (get_or l i z)))
 all_firsts p f z zero l i h t = absurd (omega arith)
-all_firsts p f z (suc n) [] zero h t = and_l (p (f z)) (all p (firsts f z n [])) t
-all_firsts p f z (suc n) (a ∷ l) zero h t = and_l (p (f a)) (all p (firsts f z n l)) t
-all_firsts p f z (suc n) [] (suc i) h t = all_firsts p f z n [] i (omega arith) (and_r (p (f z)) (all p (firsts f z n [])) t)
-all_firsts p f z (suc n) (a ∷ l) (suc i) h t = all_firsts p f z n l i (omega arith) (and_r (p (f a)) (all p (firsts f z n l)) t)
+all_firsts p f z (suc n) [] zero h t = and_l (p (f z)) (list_all p (firsts f z n [])) t
+all_firsts p f z (suc n) (a ∷ l) zero h t = and_l (p (f a)) (list_all p (firsts f z n l)) t
+all_firsts p f z (suc n) [] (suc i) h t = all_firsts p f z n [] i (omega arith) (and_r (p (f z)) (list_all p (firsts f z n [])) t)
+all_firsts p f z (suc n) (a ∷ l) (suc i) h t = all_firsts p f z n l i (omega arith) (and_r (p (f a)) (list_all p (firsts f z n l)) t)
+
+-- ── the first `n` of an array that has as many ──
+
+module _ {A B : Type 0} (f : A → B) (z : A) where
+  pub firsts_taken : (n : ℕ) (l : List A) → n ≤ length l → firsts f z n l ≡ map f (take n l)
+  firsts_taken zero l h = refl
+  firsts_taken (suc n) [] h = absurd (omega arith)
+  firsts_taken (suc n) (a ∷ l) h = ap (f a ∷◌) (firsts_taken n l (omega arith))
+
+  module _ (p : B → Bool) where
+    pub all_taken : (n : ℕ) (l : List A) → n ≤ length l → list_all p (firsts f z n l) ≡ list_all (λ a. p (f a)) (take n l)
+    all_taken zero l h = refl
+    all_taken (suc n) [] h = absurd (omega arith)
+    all_taken (suc n) (a ∷ l) h = ap (p (f a) &&◌) (all_taken n l (omega arith))
+
+    pub any_taken : (n : ℕ) (l : List A) → n ≤ length l → list_any p (firsts f z n l) ≡ list_any (λ a. p (f a)) (take n l)
+    any_taken zero l h = refl
+    any_taken (suc n) [] h = absurd (omega arith)
+    any_taken (suc n) (a ∷ l) h = ap (p (f a) ||◌) (any_taken n l (omega arith))

@@ -2,11 +2,11 @@
 use Prim.Native.Nat.{ℕ, zero, suc, ◌+◌, ◌<◌, ◌≤◌}
 use mathlib.Core.Path.{◌≡◌, refl, sym, ap, ◌∙◌, subst}
 use mathlib.Core.Bool.{Bool, true, false, ◌&&◌}
-use mathlib.Core.List.{List, map}
+use mathlib.Core.List.{List}
 use native.Mathlib.Omega.{arith}
 use borrow.Author.Tests.{lt-ltb, le-ltb, ltb-true, ltb-false}
 use lib.Dec.{ltb}
-use lib.ListN.{length, get_or, set, replicate, length-replicate, length-set, get_or-map, get_or-eq_default}
+use lib.ListN.{length, get_or, set, replicate, length-replicate, length-set, get_or-eq_default}
 use lib.Seq.{get_or-set_same, get_or-set_other}
 
 -- past its end no flag is set
@@ -42,12 +42,3 @@ module _ (p : ℕ → Bool) (n : ℕ) where
       here k false e false e' =
           let d : k ≡ i = omega (arith, ltb-false k i e, ltb-false i k e') in
           rw (d, get_or-set_same l i b false (omega (arith, inv.size)), lt-ltb i (i + 1) (omega arith)) q
-
--- all flags of an array's elements are set, by `q` of `h` of each; `q` fails past the end
-pub flags-all : {A B : Type 0} (q : B → Bool) (h : A → B) (z : A) (vs : List A) {n : ℕ} {fs : List Bool} → q (h z) ≡ false → length vs ≡ n →
-    Flagged (λ (k : ℕ). q (h (get_or vs k z))) n n fs → (k : ℕ) → get_or fs k false ≡ q (get_or (map h vs) k (h z))
-flags-all {A} q h z vs {n} e r inv k = inv.flags k ∙ go (ltb k n) refl ∙ ap q (sym (get_or-map h vs k z))
-  where
-    go : (t : Bool) → ltb k n ≡ t → (t && q (h (get_or vs k z))) ≡ q (h (get_or vs k z))
-    go true m = refl
-    go false m = sym (ap (λ (a : A). q (h a)) (get_or-eq_default vs z (subst (λ (j : ℕ). j ≤ k) (sym r) (ltb-false k n m))) ∙ e)

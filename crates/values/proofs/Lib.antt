@@ -10,7 +10,6 @@ pub mod Ints
 pub mod ListLaws
 pub mod LookLaws
 pub mod Loops
-pub mod OperandArms
 pub mod PairLaws
 pub mod PlaceLaws
 pub mod RangeLaws

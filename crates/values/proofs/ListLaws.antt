@@ -6,8 +6,9 @@ use mathlib.Core.List.{List, [], ◌∷◌, ◌++◌, map}
 use native.Mathlib.Omega.{arith}
 use lib.Dec.{T}
 use lib.ListN.{length, get_or}
-use mathlib.Core.Option.{some}
-use Rattle.values.specs.Lists.{is_some, bit, all, any, filter, keep, count, find, first}
+use Rattle.std.specs.Prelude.{Some, is_some, cond}
+use Rattle.values.specs.Lists.{bit, filter, keep, count}
+use Rattle.std.specs.List.{find, list_all, list_any}
 use Rattle.values.proofs.Bools.{and_l, and_r, and_in}
 
 module _ {A : Type 0} where
@@ -43,67 +44,67 @@ module _ {A : Type 0} where
       go true ih = omega arith
       go false ih = omega arith
 
-  pub all_append : (p : A → Bool) (k l : List A) → T (all p k) → T (all p l) → T (all p (k ++ l))
+  pub all_append : (p : A → Bool) (k l : List A) → T (list_all p k) → T (list_all p l) → T (list_all p (k ++ l))
   all_append p [] l h i = i
-  all_append p (a ∷ k) l h i = and_in (p a) (all p (k ++ l)) (and_l (p a) (all p k) h) (all_append p k l (and_r (p a) (all p k) h) i)
+  all_append p (a ∷ k) l h i = and_in (p a) (list_all p (k ++ l)) (and_l (p a) (list_all p k) h) (all_append p k l (and_r (p a) (list_all p k) h) i)
 
-  pub all_filter : (p q : A → Bool) (l : List A) → T (all p l) → T (all p (filter q l))
+  pub all_filter : (p q : A → Bool) (l : List A) → T (list_all p l) → T (list_all p (filter q l))
   all_filter p q [] h = tt
-  all_filter p q (a ∷ l) h = go (q a) (and_l (p a) (all p l) h) (all_filter p q l (and_r (p a) (all p l) h))
+  all_filter p q (a ∷ l) h = go (q a) (and_l (p a) (list_all p l) h) (all_filter p q l (and_r (p a) (list_all p l) h))
     where
-      go : (b : Bool) → T (p a) → T (all p (filter q l)) → T (all p (keep b a (filter q l)))
-      go true h ih = and_in (p a) (all p (filter q l)) h ih
+      go : (b : Bool) → T (p a) → T (list_all p (filter q l)) → T (list_all p (keep b a (filter q l)))
+      go true h ih = and_in (p a) (list_all p (filter q l)) h ih
       go false h ih = ih
 
-  pub all_map : {B : Type 0} (p : A → Bool) (f : B → A) (l : List B) → ((b : B) → T (p (f b))) → T (all p (map f l))
+  pub all_map : {B : Type 0} (p : A → Bool) (f : B → A) (l : List B) → ((b : B) → T (p (f b))) → T (list_all p (map f l))
   all_map p f [] h = tt
-  all_map p f (b ∷ l) h = and_in (p (f b)) (all p (map f l)) (h b) (all_map p f l h)
+  all_map p f (b ∷ l) h = and_in (p (f b)) (list_all p (map f l)) (h b) (all_map p f l h)
 
   -- as each element passes, so does what it is mapped to
-  pub all-map_of : {B : Type 0} (q : B → Bool) (p : A → Bool) (f : B → A) (l : List B) → ((b : B) → T (q b) → T (p (f b))) → T (all q l) → T (all p (map f l))
+  pub all-map_of : {B : Type 0} (q : B → Bool) (p : A → Bool) (f : B → A) (l : List B) → ((b : B) → T (q b) → T (p (f b))) → T (list_all q l) → T (list_all p (map f l))
   all-map_of q p f [] g h = tt
   all-map_of q p f (b ∷ l) g h =
-      and_in (p (f b)) (all p (map f l)) (g b (and_l (q b) (all q l) h)) (all-map_of q p f l g (and_r (q b) (all q l) h))
+      and_in (p (f b)) (list_all p (map f l)) (g b (and_l (q b) (list_all q l) h)) (all-map_of q p f l g (and_r (q b) (list_all q l) h))
 
   -- an element, or the default where there is none
-  pub all_get_d : (p : A → Bool) (l : List A) (i : ℕ) (d : A) → T (all p l) → T (p d) → T (p (get_or l i d))
+  pub all_get_d : (p : A → Bool) (l : List A) (i : ℕ) (d : A) → T (list_all p l) → T (p d) → T (p (get_or l i d))
   all_get_d p [] i d h k = k
-  all_get_d p (a ∷ l) zero d h k = and_l (p a) (all p l) h
-  all_get_d p (a ∷ l) (suc i) d h k = all_get_d p l i d (and_r (p a) (all p l) h) k
+  all_get_d p (a ∷ l) zero d h k = and_l (p a) (list_all p l) h
+  all_get_d p (a ∷ l) (suc i) d h k = all_get_d p l i d (and_r (p a) (list_all p l) h) k
 
   -- a weaker test
-  pub all_weaken : (p q : A → Bool) (l : List A) → ((a : A) → T (p a) → T (q a)) → T (all p l) → T (all q l)
+  pub all_weaken : (p q : A → Bool) (l : List A) → ((a : A) → T (p a) → T (q a)) → T (list_all p l) → T (list_all q l)
   all_weaken p q [] f h = tt
-  all_weaken p q (a ∷ l) f h = and_in (q a) (all q l) (f a (and_l (p a) (all p l) h)) (all_weaken p q l f (and_r (p a) (all p l) h))
+  all_weaken p q (a ∷ l) f h = and_in (q a) (list_all q l) (f a (and_l (p a) (list_all p l) h)) (all_weaken p q l f (and_r (p a) (list_all p l) h))
 
   -- what is found passes every test that all pass
-  pub find-all : (p q : A → Bool) (l : List A) (a : A) → find p l ≡ some a → T (all q l) → T (q a)
+  pub find-all : (p q : A → Bool) (l : List A) (a : A) → find p l ≡ Some a → T (list_all q l) → T (q a)
   find-all p q [] a e h = let z : ◌≡◌ {A = ℕ} 0 1 = cc in absurd (omega arith)
-  find-all p q (b ∷ l) a e h = go (p b) e (λ e'. find-all p q l a e' (and_r (q b) (all q l) h))
+  find-all p q (b ∷ l) a e h = go (p b) e (λ e'. find-all p q l a e' (and_r (q b) (list_all q l) h))
     where
-      go : (t : Bool) → first t b (find p l) ≡ some a → (find p l ≡ some a → T (q a)) → T (q a)
-      go true e ih = let f : b ≡ a = cc in subst (λ (x : A). T (q x)) f (and_l (q b) (all q l) h)
+      go : (t : Bool) → cond t (Some b) (find p l) ≡ Some a → (find p l ≡ Some a → T (q a)) → T (q a)
+      go true e ih = let f : b ≡ a = cc in subst (λ (x : A). T (q x)) f (and_l (q b) (list_all q l) h)
       go false e ih = ih e
 
-  pub all-and : (p q : A → Bool) (l : List A) → T (all p l) → T (all q l) → T (all (λ a. p a && q a) l)
+  pub all-and : (p q : A → Bool) (l : List A) → T (list_all p l) → T (list_all q l) → T (list_all (λ a. p a && q a) l)
   all-and p q [] h k = tt
   all-and p q (a ∷ l) h k =
-      and_in (p a && q a) (all (λ x. p x && q x) l) (and_in (p a) (q a) (and_l (p a) (all p l) h) (and_l (q a) (all q l) k)) (all-and p q l (and_r (p a) (all p l) h) (and_r (q a) (all q l) k))
+      and_in (p a && q a) (list_all (λ x. p x && q x) l) (and_in (p a) (q a) (and_l (p a) (list_all p l) h) (and_l (q a) (list_all q l) k)) (all-and p q l (and_r (p a) (list_all p l) h) (and_r (q a) (list_all q l) k))
 
-  pub not-any : (p : A → Bool) (l : List A) → T (not (any p l)) → T (all (λ a. not (p a)) l)
+  pub not-any : (p : A → Bool) (l : List A) → T (not (list_any p l)) → T (list_all (λ a. not (p a)) l)
   not-any p [] h = tt
   not-any p (a ∷ l) h = go (p a) h (not-any p l)
     where
-      go : (b : Bool) → T (not (b || any p l)) → (T (not (any p l)) → T (all (λ x. not (p x)) l)) → T (not b && all (λ x. not (p x)) l)
+      go : (b : Bool) → T (not (b || list_any p l)) → (T (not (list_any p l)) → T (list_all (λ x. not (p x)) l)) → T (not b && list_all (λ x. not (p x)) l)
       go true h ih = h
       go false h ih = ih h
 
   -- one is found where any passes
-  pub found-any : (p : A → Bool) (l : List A) → is_some (find p l) ≡ any p l
+  pub found-any : (p : A → Bool) (l : List A) → is_some (find p l) ≡ list_any p l
   found-any p [] = refl
   found-any p (a ∷ l) = go (p a) (found-any p l)
     where
-      go : (b : Bool) → is_some (find p l) ≡ any p l → is_some (first b a (find p l)) ≡ (b || any p l)
+      go : (b : Bool) → is_some (find p l) ≡ list_any p l → is_some (cond b (Some a) (find p l)) ≡ (b || list_any p l)
       go true ih = refl
       go false ih = ih
 
@@ -115,7 +116,7 @@ module _ {A : Type 0} where
       go true ih = omega arith
       go false ih = omega arith
 
-  pub all-at : (p : A → Bool) (l : List A) (i : ℕ) (d : A) → T (all p l) → i < length l → T (p (get_or l i d))
+  pub all-at : (p : A → Bool) (l : List A) (i : ℕ) (d : A) → T (list_all p l) → i < length l → T (p (get_or l i d))
   all-at p [] i d h k = absurd (omega arith)
-  all-at p (a ∷ l) zero d h k = and_l (p a) (all p l) h
-  all-at p (a ∷ l) (suc i) d h k = all-at p l i d (and_r (p a) (all p l) h) (omega arith)
+  all-at p (a ∷ l) zero d h k = and_l (p a) (list_all p l) h
+  all-at p (a ∷ l) (suc i) d h k = all-at p l i d (and_r (p a) (list_all p l) h) (omega arith)

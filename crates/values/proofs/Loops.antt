@@ -4,37 +4,38 @@ use mathlib.Core.Path.{◌≡◌, sym, ap, ap₂, ◌∙◌}
 use mathlib.Core.Bool.{Bool, true, false, ◌&&◌, ◌||◌}
 use mathlib.Core.List.{List, [], ◌∷◌, foldl}
 use native.Mathlib.Omega.{arith}
-use Rattle.values.specs.Lists.{all, any, agree, look_on, looked_at}
+use Rattle.values.specs.Lists.{agree, look_on, looked_at}
+use Rattle.std.specs.List.{list_all, list_any}
 
 -- a test of every element
-module _ {A : Type 0} (p : A → Bool) (b : Bool) {xs : List A} (left : all p xs ≡ b) where
+module _ {A : Type 0} (p : A → Bool) (b : Bool) {xs : List A} (left : list_all p xs ≡ b) where
   module _ {x : A} {xs' : List A} {t : Bool} (e : xs ≡ x ∷ xs') (q : t ≡ p x) where
-    here : (t && all p xs') ≡ b
-    here = ap (λ (u : Bool). u && all p xs') q ∙ sym (ap (all p) e) ∙ left
+    here : (t && list_all p xs') ≡ b
+    here = ap (λ (u : Bool). u && list_all p xs') q ∙ sym (ap (list_all p) e) ∙ left
 
-    pub all_more : t ≡ true → all p xs' ≡ b
-    all_more h = sym (ap (λ (u : Bool). u && all p xs') h) ∙ here
+    pub all_more : t ≡ true → list_all p xs' ≡ b
+    all_more h = sym (ap (λ (u : Bool). u && list_all p xs') h) ∙ here
 
     pub all-fails : t ≡ false → false ≡ b
-    all-fails h = sym (ap (λ (u : Bool). u && all p xs') h) ∙ here
+    all-fails h = sym (ap (λ (u : Bool). u && list_all p xs') h) ∙ here
 
   pub all-ends : xs ≡ [] → true ≡ b
-  all-ends e = sym (ap (all p) e) ∙ left
+  all-ends e = sym (ap (list_all p) e) ∙ left
 
 -- a search for an element that passes
-module _ {A : Type 0} (p : A → Bool) (b : Bool) {xs : List A} (left : any p xs ≡ b) where
+module _ {A : Type 0} (p : A → Bool) (b : Bool) {xs : List A} (left : list_any p xs ≡ b) where
   module _ {x : A} {xs' : List A} {t : Bool} (e : xs ≡ x ∷ xs') (q : t ≡ p x) where
-    here₁ : (t || any p xs') ≡ b
-    here₁ = ap (λ (u : Bool). u || any p xs') q ∙ sym (ap (any p) e) ∙ left
+    here₁ : (t || list_any p xs') ≡ b
+    here₁ = ap (λ (u : Bool). u || list_any p xs') q ∙ sym (ap (list_any p) e) ∙ left
 
-    pub any-more : t ≡ false → any p xs' ≡ b
-    any-more h = sym (ap (λ (u : Bool). u || any p xs') h) ∙ here₁
+    pub any-more : t ≡ false → list_any p xs' ≡ b
+    any-more h = sym (ap (λ (u : Bool). u || list_any p xs') h) ∙ here₁
 
     pub any_found : t ≡ true → true ≡ b
-    any_found h = sym (ap (λ (u : Bool). u || any p xs') h) ∙ here₁
+    any_found h = sym (ap (λ (u : Bool). u || list_any p xs') h) ∙ here₁
 
   pub any-ends : xs ≡ [] → false ≡ b
-  any-ends e = sym (ap (any p) e) ∙ left
+  any-ends e = sym (ap (list_any p) e) ∙ left
 
 -- two lists that are to agree
 module _ {A B : Type 0} (p : A → B → Bool) (b : Bool) {xs : List A} {ys : List B} (left : agree p xs ys ≡ b) where

@@ -3,7 +3,7 @@
 use mathlib.Core.Path.{◌≡◌, refl, sym, ap, ◌∙◌}
 use mathlib.Core.Bool.{Bool, true, false, not, ◌&&◌, ◌||◌}
 use mathlib.Core.List.{List, [], ◌∷◌}
-use Rattle.values.specs.Lists.{all, any}
+use Rattle.std.specs.List.{list_all, list_any}
 use Rattle.values.proofs.Bools.{and_swap}
 
 module _ {A : Type 0} where
@@ -16,7 +16,7 @@ module _ {A : Type 0} where
   tails-and p q [] = refl
   tails-and p q (a ∷ l) = ap (λ (t : Bool). (p a l && q a l) && t) (tails-and p q l) ∙ and_swap (p a l) (q a l) (tails p l) (tails q l)
 
-  pub tails-all : (p : A → Bool) (l : List A) → tails (λ a r. p a) l ≡ all p l
+  pub tails-all : (p : A → Bool) (l : List A) → tails (λ a r. p a) l ≡ list_all p l
   tails-all p [] = refl
   tails-all p (a ∷ l) = ap (λ (t : Bool). p a && t) (tails-all p l)
 
@@ -36,16 +36,16 @@ module _ {A : Type 0} (p : A → List A → Bool) (b : Bool) {xs : List A} (left
   tails-ends e = sym (ap (tails p) e) ∙ left
 
 -- no element passes
-module _ {A : Type 0} (p : A → Bool) (b : Bool) {xs : List A} (left : not (any p xs) ≡ b) where
+module _ {A : Type 0} (p : A → Bool) (b : Bool) {xs : List A} (left : not (list_any p xs) ≡ b) where
   module _ {x : A} {xs' : List A} {t : Bool} (e : xs ≡ x ∷ xs') (q : t ≡ p x) where
-    here₂ : not (t || any p xs') ≡ b
-    here₂ = ap (λ (u : Bool). not (u || any p xs')) q ∙ sym (ap (λ (l : List A). not (any p l)) e) ∙ left
+    here₂ : not (t || list_any p xs') ≡ b
+    here₂ = ap (λ (u : Bool). not (u || list_any p xs')) q ∙ sym (ap (λ (l : List A). not (list_any p l)) e) ∙ left
 
-    pub none_more : t ≡ false → not (any p xs') ≡ b
-    none_more h = sym (ap (λ (u : Bool). not (u || any p xs')) h) ∙ here₂
+    pub none_more : t ≡ false → not (list_any p xs') ≡ b
+    none_more h = sym (ap (λ (u : Bool). not (u || list_any p xs')) h) ∙ here₂
 
     pub none_found : t ≡ true → false ≡ b
-    none_found h = sym (ap (λ (u : Bool). not (u || any p xs')) h) ∙ here₂
+    none_found h = sym (ap (λ (u : Bool). not (u || list_any p xs')) h) ∙ here₂
 
   pub none-ends : xs ≡ [] → true ≡ b
-  none-ends e = sym (ap (λ (l : List A). not (any p l)) e) ∙ left
+  none-ends e = sym (ap (λ (l : List A). not (list_any p l)) e) ∙ left

@@ -4,12 +4,13 @@ use Prim.Native.Nat.{ℕ, zero, suc, ◌+◌, ◌<◌, ◌≤◌}
 use mathlib.Core.Path.{◌≡◌, refl, ap, sym, ◌∙◌, subst}
 use mathlib.Core.Bool.{Bool, true, false}
 use mathlib.Core.List.{List, [], ◌∷◌}
-use mathlib.Core.Option.{Option, none, some}
+use Rattle.std.specs.Prelude.{Option, None, Some, is_some, cond}
 use native.Mathlib.Omega.{arith}
 use lib.Dec.{T, eqb, ltb, leb-suc-suc}
 use lib.ListN.{length, drop, get_or}
 use borrow.Author.Tests.{lt-ltb, eqb-true, eqb-false}
-use Rattle.values.specs.Lists.{all, find, first, is_some, place_of, next_place, places}
+use Rattle.values.specs.Lists.{place_of, next_place, places}
+use Rattle.std.specs.List.{find, list_all}
 use Rattle.values.proofs.Bools.{and_l, and_r}
 
 -- ── loops: what is left decides ──
@@ -32,16 +33,16 @@ module _ {A : Type 0} (p : A → Bool) (xs : List A) (i : ℕ) (left : place_of 
 -- the first that passes
 module _ {A : Type 0} (p : A → Bool) (w : Option A) {xs : List A} (left : find p xs ≡ w) where
   module _ {x : A} {xs' : List A} {t : Bool} (e : xs ≡ x ∷ xs') (q : t ≡ p x) where
-    first-is : first t x (find p xs') ≡ w
-    first-is = ap (λ (u : Bool). first u x (find p xs')) q ∙ sym (ap (find p) e) ∙ left
+    first-is : cond t (Some x) (find p xs') ≡ w
+    first-is = ap (λ (u : Bool). cond u (Some x) (find p xs')) q ∙ sym (ap (find p) e) ∙ left
 
-    pub find-here : t ≡ true → some x ≡ w
-    find-here h = sym (ap (λ (u : Bool). first u x (find p xs')) h) ∙ first-is
+    pub find-here : t ≡ true → Some x ≡ w
+    find-here h = sym (ap (λ (u : Bool). cond u (Some x) (find p xs')) h) ∙ first-is
 
     pub find-more : t ≡ false → find p xs' ≡ w
-    find-more h = sym (ap (λ (u : Bool). first u x (find p xs')) h) ∙ first-is
+    find-more h = sym (ap (λ (u : Bool). cond u (Some x) (find p xs')) h) ∙ first-is
 
-  pub find-ends : xs ≡ [] → none ≡ w
+  pub find-ends : xs ≡ [] → None ≡ w
   find-ends e = sym (ap (find p) e) ∙ left
 
 -- ── the place and what stands there ──
@@ -52,32 +53,32 @@ module _ {A : Type 0} (p : A → Bool) where
   find-place [] = refl
   find-place (a ∷ l) = go (p a) (find-place l)
     where
-      go : (b : Bool) → ltb (place_of p l) (length l) ≡ is_some (find p l) → ltb (next_place b (place_of p l)) (suc (length l)) ≡ is_some (first b a (find p l))
+      go : (b : Bool) → ltb (place_of p l) (length l) ≡ is_some (find p l) → ltb (next_place b (place_of p l)) (suc (length l)) ≡ is_some (cond b (Some a) (find p l))
       go true ih = lt-ltb 0 (suc (length l)) (omega arith)
       go false ih = leb-suc-suc (suc (place_of p l)) (length l) ∙ ih
 
   -- what is found stands at the place
-  pub place_found : (l : List A) (d : A) → place_of p l < length l → find p l ≡ some (get_or l (place_of p l) d)
+  pub place_found : (l : List A) (d : A) → place_of p l < length l → find p l ≡ Some (get_or l (place_of p l) d)
   place_found [] d h = absurd (omega arith)
   place_found (a ∷ l) d h = go (p a) h (place_found l d)
     where
-      go : (b : Bool) → next_place b (place_of p l) < suc (length l) → (place_of p l < length l → find p l ≡ some (get_or l (place_of p l) d)) →
-          first b a (find p l) ≡ some (get_or (a ∷ l) (next_place b (place_of p l)) d)
+      go : (b : Bool) → next_place b (place_of p l) < suc (length l) → (place_of p l < length l → find p l ≡ Some (get_or l (place_of p l) d)) →
+          cond b (Some a) (find p l) ≡ Some (get_or (a ∷ l) (next_place b (place_of p l)) d)
       go true h ih = refl
       go false h ih = ih (omega arith)
 
 -- ── tests ──
 
 -- two tests that are the same at each element
-pub all_same : {A : Type 0} (p q : A → Bool) (l : List A) → ((a : A) → p a ≡ q a) → all p l ≡ all q l
+pub all_same : {A : Type 0} (p q : A → Bool) (l : List A) → ((a : A) → p a ≡ q a) → list_all p l ≡ list_all q l
 all_same p q [] h = refl
 all_same p q (a ∷ l) h = rw (h a, all_same p q l h)
 
 -- a test that holds at `n` numbers from `i` on holds at each of them
-pub all-places : (p : ℕ → Bool) (i n : ℕ) → T (all p (places i n)) → (b : ℕ) → i ≤ b → b < i + n → T (p b)
+pub all-places : (p : ℕ → Bool) (i n : ℕ) → T (list_all p (places i n)) → (b : ℕ) → i ≤ b → b < i + n → T (p b)
 all-places p i zero h b low high = absurd (omega arith)
-all-places p i (suc n) h b low high = go (eqb i b) refl (λ k. all-places p (suc i) n (and_r (p i) (all p (places (suc i) n)) h) b k (omega arith))
+all-places p i (suc n) h b low high = go (eqb i b) refl (λ k. all-places p (suc i) n (and_r (p i) (list_all p (places (suc i) n)) h) b k (omega arith))
   where
     go : (t : Bool) → eqb i b ≡ t → (suc i ≤ b → T (p b)) → T (p b)
-    go true e ih = subst (λ (k : ℕ). T (p k)) (eqb-true i b e) (and_l (p i) (all p (places (suc i) n)) h)
+    go true e ih = subst (λ (k : ℕ). T (p k)) (eqb-true i b e) (and_l (p i) (list_all p (places (suc i) n)) h)
     go false e ih = let d : i ≡ b → ⊥ = eqb-false i b e in ih (omega arith)

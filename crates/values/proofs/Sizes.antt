@@ -8,20 +8,7 @@ use borrow.Author.Tests.{le-leb, lt-leb, leb-true}
 use Rattle.values.proofs.Bools.{and_first, and_last}
 
 module _ (m : ℕ) {k n : ℕ} (b : Bool) (e : k ≡ n) where
-  -- at most `m`
-  pub size-over : m < n → false ≡ (leb k m && b)
-  size-over h = rw (lt-leb k m (omega arith))
-
-  pub size_fits : n ≤ m → b ≡ (leb k m && b)
-  size_fits h = rw (le-leb k m (omega arith))
-
-  pub size_is : {t : Bool} → t ≡ (leb k m && b) → t ≡ true → n ≤ m
-  size_is q h = let l : k ≤ m = leb-true k m (and_first (leb k m) b (sym q ∙ h)) in omega arith
-
   -- 1 to `m`
-  pub some-none : n ≡ 0 → false ≡ (leb 1 k && leb k m && b)
-  some-none h = rw (e ∙ h)
-
   pub some-over : m < n → false ≡ (leb 1 k && leb k m && b)
   some-over h = rw (lt-leb k m (omega arith), and-false)
 

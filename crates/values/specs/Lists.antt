@@ -1,7 +1,7 @@
--- Lists with Boolean tests. Each function that tests an element hands the test to a helper by cases (`keep`, `first`, `bit`),
--- so that a proof splits on one Bool.
-use Rattle.std.specs.Prelude.{ℕ, zero, suc, ◌+◌, Bool, true, false, ◌&&◌, ◌||◌, List, [], ◌∷◌, eqb}
-use Rattle.std.proofs.Math.Option.{Option, none, some}
+-- Lists with Boolean tests, beside std's `list_all`, `list_any` and `find`. Each function that tests an element hands the test to a helper by cases
+-- (`keep`, `bit`), so that a proof splits on one Bool.
+use Rattle.std.specs.Prelude.{ℕ, zero, suc, ◌+◌, Bool, true, false, ◌&&◌, List, [], ◌∷◌, eqb, Option, None, Some}
+use Rattle.std.specs.List.{list_any}
 
 -- 1 for a test that holds
 abbrev pub bit : Bool → ℕ
@@ -19,21 +19,9 @@ look_on true n = suc n
 look_on false n = 1
 
 module _ {A : Type 0} where
-  abbrev pub is_some : Option A → Bool
-  is_some none = false
-  is_some (some a) = true
-
   abbrev pub or_else : A → Option A → A
-  or_else d none = d
-  or_else d (some a) = a
-
-  abbrev pub all : (A → Bool) → List A → Bool
-  all p [] = true
-  all p (a ∷ l) = p a && all p l
-
-  abbrev pub any : (A → Bool) → List A → Bool
-  any p [] = false
-  any p (a ∷ l) = p a || any p l
+  or_else d None = d
+  or_else d (Some a) = a
 
   abbrev pub keep : Bool → A → List A → List A
   keep true a l = a ∷ l
@@ -43,15 +31,6 @@ module _ {A : Type 0} where
   abbrev pub filter : (A → Bool) → List A → List A
   filter p [] = []
   filter p (a ∷ l) = keep (p a) a (filter p l)
-
-  abbrev pub first : Bool → A → Option A → Option A
-  first true a o = some a
-  first false a o = o
-
-  -- the first element that passes the test
-  abbrev pub find : (A → Bool) → List A → Option A
-  find p [] = none
-  find p (a ∷ l) = first (p a) a (find p l)
 
   -- the place of the first element that passes the test; the length where there is none
   abbrev pub place_of : (A → Bool) → List A → ℕ
@@ -72,8 +51,8 @@ module _ {A : Type 0} where
   -- the elements that are there
   abbrev pub present : List (Option A) → List A
   present [] = []
-  present (none ∷ l) = present l
-  present (some a ∷ l) = a ∷ present l
+  present (None ∷ l) = present l
+  present (Some a ∷ l) = a ∷ present l
 
 module _ {A B : Type 0} where
   -- two lists of one length agree, place by place
@@ -102,7 +81,7 @@ sum (n ∷ l) = n + sum l
 
 -- a number is in a list
 abbrev pub among : ℕ → List ℕ → Bool
-among n l = any (λ m. eqb n m) l
+among n l = list_any (λ m. eqb n m) l
 
 -- the places from `i` on, `n` of them
 abbrev pub places : ℕ → ℕ → List ℕ

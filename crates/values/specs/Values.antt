@@ -1,14 +1,16 @@
--- Values, their kinds and ranges, their exact equality, and their order in matching and predicates. `Site`, `Locality`, `Value` and `Order` are the
+-- Values, their kinds and ranges, their exact equality, and their order in matching and predicates. `Site`, `Locality` and `Value` are the
 -- code's own types.
-use Rattle.std.specs.Prelude.{ℕ, ◌/◌, ◌%◌, ◌-◌, ◌^◌, Bool, true, false, cond, ◌&&◌, List, [], ◌∷◌, map, eqb, leb, ltb, ℤ, pos, negsuc}
-use Rattle.std.specs.Int.Signed.{lt_z, le_z}
+use Rattle.std.specs.Prelude.{ℕ, ◌/◌, ◌%◌, ◌-◌, ◌^◌, Bool, false, cond, ◌&&◌, List, [], ◌∷◌, map, eqb, leb, ltb, ℤ, pos, negsuc, None, Some, Option}
+use Rattle.std.specs.declared.cmp.Ordering.{Ordering}
+use Rattle.std.specs.declared.cmp.Ordering.TheVariants.{Less, Equal, Greater}
+use Rattle.std.specs.Ordering.{nat_cmp, int_cmp}
+use Rattle.std.specs.Int.Signed.{le_z}
 use Rattle.values.specs.declared.Site.{Site}
 use Rattle.values.specs.declared.Locality.{Locality}
 use Rattle.values.specs.declared.Value.{Value}
 use Rattle.values.specs.declared.Value.TheVariants.{Int, Text, Loc}
-use Rattle.values.specs.declared.Order.{Order}
-use Rattle.values.specs.declared.Order.TheVariants.{Unlike, Before, Same, After}
-use Rattle.values.specs.Lists.{all, agree}
+use Rattle.values.specs.Lists.{agree}
+use Rattle.std.specs.List.{list_all}
 
 -- ── sites and localities ──
 
@@ -42,7 +44,7 @@ bytes_of t = t / 2 ^ 24 % 256 ∷ t / 2 ^ 16 % 256 ∷ t / 2 ^ 8 % 256 ∷ t % 2
 
 -- four bytes 0x20..0x7E: a text or a table's name
 abbrev pub is_text : ℕ → Bool
-is_text t = ltb t (2 ^ 32) && all (λ b. leb 0x20 b && leb b 0x7e) (bytes_of t)
+is_text t = ltb t (2 ^ 32) && list_all (λ b. leb 0x20 b && leb b 0x7e) (bytes_of t)
 
 -- a value in its range
 abbrev pub in_range : Value → Bool
@@ -75,33 +77,31 @@ same_row r s = agree same_value r s
 
 -- ── the order of matching and predicates ──
 
--- from the tests "less" and "greater"
-abbrev pub order_by : Bool → Bool → Order
-order_by true g = Before
-order_by false true = After
-order_by false false = Same
+-- how two values stand to each other; values of unlike kinds have no order
+abbrev pub Order : Type 0
+Order = Option Ordering
 
 abbrev pub number_order : ℕ → ℕ → Order
-number_order m n = order_by (ltb m n) (ltb n m)
+number_order m n = Some (nat_cmp m n)
 
 abbrev pub int_order : ℤ → ℤ → Order
-int_order i j = order_by (lt_z i j) (lt_z j i)
+int_order i j = Some (int_cmp i j)
 
 -- a..z read as A..Z
 abbrev pub upper : ℕ → ℕ
 upper b = cond (leb 0x61 b && leb b 0x7a) (b - 0x20) b
 
 abbrev pub or_next : Order → Order → Order
-or_next Unlike o = Unlike
-or_next Before o = Before
-or_next Same o = o
-or_next After o = After
+or_next None o = None
+or_next (Some Less) o = Some Less
+or_next (Some Equal) o = o
+or_next (Some Greater) o = Some Greater
 
 -- byte by byte, the first difference deciding
 abbrev pub bytes_order : List ℕ → List ℕ → Order
-bytes_order [] [] = Same
-bytes_order [] (b ∷ l) = Before
-bytes_order (a ∷ k) [] = After
+bytes_order [] [] = Some Equal
+bytes_order [] (b ∷ l) = Some Less
+bytes_order (a ∷ k) [] = Some Greater
 bytes_order (a ∷ k) (b ∷ l) = or_next (number_order a b) (bytes_order k l)
 
 unfoldable pub text_order : ℕ → ℕ → Order
@@ -110,11 +110,11 @@ text_order t u = bytes_order (map upper (bytes_of t)) (map upper (bytes_of u))
 -- Ints and Locs by number, Texts byte by byte
 abbrev pub order : Value → Value → Order
 order (Int i) (Int j) = int_order i j
-order (Int i) (Text u) = Unlike
-order (Int i) (Loc m) = Unlike
-order (Text t) (Int j) = Unlike
+order (Int i) (Text u) = None
+order (Int i) (Loc m) = None
+order (Text t) (Int j) = None
 order (Text t) (Text u) = text_order t u
-order (Text t) (Loc m) = Unlike
-order (Loc l) (Int j) = Unlike
-order (Loc l) (Text u) = Unlike
+order (Text t) (Loc m) = None
+order (Loc l) (Int j) = None
+order (Loc l) (Text u) = None
 order (Loc l) (Loc m) = number_order l.0 m.0

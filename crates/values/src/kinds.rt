@@ -3,7 +3,7 @@ ghost use Rattle.std.specs.Prelude.{◌≡◌};
 ghost use Rattle.values.specs.Values.{kind_of};
 ghost use Rattle.values.specs.Operands.{kind_in};
 
-use crate::{Got, Value};
+use crate::Value;
 
 pub const INT: u8 = 1;
 
@@ -22,11 +22,11 @@ pub fn kind_of(v: Value) -> u8
 }
 
 // The kind of what is there; 0, which is no kind, of nothing.
-pub fn kind_in(g: Got) -> u8
+pub fn kind_in(g: Option<Value>) -> u8
     ensures { result ≡ kind_in g }
 {
     match g {
-        Got::Nothing => 0,
-        Got::One(v) => kind_of(v),
+        None => 0,
+        Some(v) => kind_of(v),
     }
 }

@@ -3,8 +3,8 @@ use Prim.Native.Nat.{ℕ, ◌-◌}
 use mathlib.Core.Path.{◌≡◌, refl, sym, ap, ap₂, subst, ◌∙◌}
 use mathlib.Core.Bool.{Bool, true, false, cond}
 use mathlib.Core.List.{List, [], ◌∷◌, ◌++◌, map, append-nil}
-use mathlib.Core.Option.{Option, none, some}
-use lib.Dec.{T, leb}
+use Rattle.std.specs.Prelude.{Option, None, Some, Result, Ok, Err, OnErr}
+use lib.Dec.{leb}
 use lib.IntN.{ℤ}
 use lib.ListN.{length}
 use lib.Seq.{drop-nil}
@@ -14,10 +14,10 @@ use Rattle.window_rules.specs.Windows.{counted_int, width_ok, window_ok, begun, 
 use Rattle.window_rules.specs.Windows as rule
 use Rattle.window_rules.specs.Since.{counted_ints, window_after, answer_after, each_after}
 use Rattle.window.specs.declared.Window.{Window}
-use Rattle.window.specs.declared.WindowAnswer.{WindowAnswer}
-use Rattle.window.specs.declared.WindowAnswer.TheVariants.{Figures, BadWindow, BadRecord}
+use Rattle.window.specs.declared.figures.Figures.{Figures}
+use Rattle.window.specs.declared.Refused.{Refused}
 use Rattle.window.specs.declared.Taken.{Taken}
-use Rattle.window.specs.WindowCalls.{window_of, answer_of, is_refused}
+use Rattle.window.specs.WindowCalls.{window_of, answer_of}
 use Rattle.window.specs.SinceBeginning.{Series, ended, further, SinceBeginning, RefusedState}
 use Rattle.window.proofs.SlideLaws.{last-length, last_again}
 use Rattle.window.proofs.TakeLaws.{not-refused}
@@ -30,13 +30,13 @@ counted_more c [] r = refl
 counted_more c (b ∷ before) r = go (counted_int c b) (counted_more c before r)
   where
     go : (o : Option ℤ) → counted_ints c (before ++ (r ∷ [])) ≡ counted_ints c before ++ present (counted_int c r ∷ []) → present (o ∷ map (counted_int c) (before ++ (r ∷ []))) ≡ present (o ∷ map (counted_int c) before) ++ present (counted_int c r ∷ [])
-    go none h = h
-    go (some k) h = ap (k ∷◌) h
+    go None h = h
+    go (Some k) h = ap (k ∷◌) h
 
-counted_none : (c : ℕ) (before : List (List ℕ)) (r : List ℕ) → counted_int c r ≡ none → counted_ints c (before ++ (r ∷ [])) ≡ counted_ints c before
+counted_none : (c : ℕ) (before : List (List ℕ)) (r : List ℕ) → counted_int c r ≡ None → counted_ints c (before ++ (r ∷ [])) ≡ counted_ints c before
 counted_none c before r e = counted_more c before r ∙ ap (λ (o : Option ℤ). counted_ints c before ++ present (o ∷ [])) e ∙ append-nil (counted_ints c before)
 
-counted_some : (c : ℕ) (before : List (List ℕ)) (r : List ℕ) (k : ℤ) → counted_int c r ≡ some k → counted_ints c (before ++ (r ∷ [])) ≡ counted_ints c before ++ (k ∷ [])
+counted_some : (c : ℕ) (before : List (List ℕ)) (r : List ℕ) (k : ℤ) → counted_int c r ≡ Some k → counted_ints c (before ++ (r ∷ [])) ≡ counted_ints c before ++ (k ∷ [])
 counted_some c before r k e = counted_more c before r ∙ ap (λ (o : Option ℤ). counted_ints c before ++ present (o ∷ [])) e
 
 abbrev holding : ℕ → ℕ → List ℤ → rule.Window
@@ -61,7 +61,7 @@ module _ (w c : ℕ) (before : List (List ℕ)) (r : List ℕ) where
     unfolding taken
     step = rw (e, fits) refl
 
-    none-taken : counted_int c r ≡ none → Steps w c before r
+    none-taken : counted_int c r ≡ None → Steps w c before r
     unfolding answer_after
     none-taken o =
         let t = step ∙ ap (taken_int (window_after w c before)) o in
@@ -70,7 +70,7 @@ module _ (w c : ℕ) (before : List (List ℕ)) (r : List ℕ) where
           next = ap (λ (u : rule.Taken). u.next) t ∙ sym (ap (holding w c) (counted_none c before r o));
         }
 
-    some-taken : (k : ℤ) → counted_int c r ≡ some k → Steps w c before r
+    some-taken : (k : ℤ) → counted_int c r ≡ Some k → Steps w c before r
     unfolding answer_after slid
     some-taken k o =
         let t = step ∙ ap (taken_int (window_after w c before)) o in
@@ -85,8 +85,8 @@ module _ (w c : ℕ) (before : List (List ℕ)) (r : List ℕ) where
   steps = by_width (width_ok w) refl
     where
       by_record : width_ok w ≡ true → (o : Option ℤ) → counted_int c r ≡ o → Steps w c before r
-      by_record e none q = none-taken e q
-      by_record e (some k) q = some-taken e k q
+      by_record e None q = none-taken e q
+      by_record e (Some k) q = some-taken e k q
 
       by_width : (b : Bool) → width_ok w ≡ b → Steps w c before r
       by_width true e = by_record e (counted_int c r) refl
@@ -139,10 +139,9 @@ stays : (s : Window) (r : List ℕ) → window_ok (window_of s) ≡ false → ta
 unfolding taken
 stays s r e = rw e refl
 
-refused-kept : (a : WindowAnswer) (n : ℕ) → answer_of a ≡ refused n → T (is_refused a)
-refused-kept (Figures sum least largest) n e = absurd (not-refused e)
-refused-kept BadWindow n e = tt
-refused-kept BadRecord n e = tt
+kept-refused : (P : Type 0) (a : Result Figures Refused) (n : ℕ) → answer_of a ≡ refused n → OnErr a P → P
+kept-refused P (Ok f) n e h = absurd (not-refused e)
+kept-refused P (Err r) n e h = h
 
 pub refused_state : RefusedState
 refused_state s [] [] e ended = record { answers = refl; windows = refl }
@@ -151,6 +150,6 @@ refused_state s (r ∷ rs) [] e more = elim more [ ]
 refused_state s (r ∷ rs) (t ∷ ts) e (further h more) =
     let g = h.gives ∙ stays s r e in
     let a = ap (λ (u : rule.Taken). u.answer) g in
-    let k : t.window ≡ s = h.kept (refused-kept t.answer 23 a) in
+    let k : t.window ≡ s = kept-refused (t.window ≡ s) t.answer 23 a h.kept in
     let rest = refused_state s rs ts e (subst (λ (u : Window). Series u rs ts) k more) in
     record { answers = ap₂ ◌∷◌ a rest.answers; windows = ap₂ ◌∷◌ k rest.windows }

@@ -1,19 +1,15 @@
 -- The contracts of `begin` and `take`: the answer, and the window that comes back.
-use Rattle.std.specs.Prelude.{ℕ, ◌≡◌, Bool, true, false, List, T, ℤ, pos}
-use Rattle.std.proofs.Math.Option.{Option, none, some}
-use Rattle.values.specs.declared.Got.{Got}
-use Rattle.values.specs.declared.Got.TheVariants.{Nothing, One}
+use Rattle.std.specs.Prelude.{ℕ, ◌≡◌, List, ℤ, pos, Option, None, Some, Result, Ok, Err, OnErr, ⊤}
+use Rattle.values.specs.Operands.{Got}
 use Rattle.values.specs.Lists.{firsts}
 use Rattle.window_rules.specs.Windows.{value_int, begun, begin_number, figures, refused, taken}
 use Rattle.window_rules.specs.Windows as rule
 use Rattle.window.specs.declared.Window.{Window}
 use Rattle.window.specs.declared.Begun.{Begun}
-use Rattle.window.specs.declared.Beginning.{Beginning}
-use Rattle.window.specs.declared.Beginning.TheVariants.{Accepted, BadWidth}
-use Rattle.window.specs.declared.Reading.{Reading}
-use Rattle.window.specs.declared.Reading.TheVariants.{Found, Missing}
-use Rattle.window.specs.declared.WindowAnswer.{WindowAnswer}
-use Rattle.window.specs.declared.WindowAnswer.TheVariants.{Figures, BadWindow, BadRecord}
+use Rattle.window.specs.declared.BadWidth.{BadWidth}
+use Rattle.window.specs.declared.figures.Figures.{Figures}
+use Rattle.window.specs.declared.Refused.{Refused}
+use Rattle.window.specs.declared.Refused.TheVariants.{BadWindow, BadRecord}
 use Rattle.window.specs.declared.Taken.{Taken}
 
 -- ── what the code holds, as the rules have it ──
@@ -27,19 +23,20 @@ window_of s = record { width = s.width; column = s.column; ints = ints_of s.coun
 
 -- ── the paper's number of each case, and its values ──
 
-abbrev pub beginning_number : Beginning → ℕ
-beginning_number Accepted = 0
-beginning_number BadWidth = 23
+abbrev pub beginning_number : Result ⊤ BadWidth → ℕ
+beginning_number (Ok u) = 0
+beginning_number (Err e) = 23
 
-abbrev pub answer_of : WindowAnswer → rule.WindowAnswer
-answer_of (Figures sum least largest) = figures sum least largest
-answer_of BadWindow = refused 23
-answer_of BadRecord = refused 24
+abbrev pub refusal_number : Refused → ℕ
+refusal_number BadWindow = 23
+refusal_number BadRecord = 24
 
-abbrev pub is_refused : WindowAnswer → Bool
-is_refused (Figures sum least largest) = false
-is_refused BadWindow = true
-is_refused BadRecord = true
+abbrev pub figures_told : Figures → rule.WindowAnswer
+figures_told f = figures f.sum f.least f.largest
+
+abbrev pub answer_of : Result Figures Refused → rule.WindowAnswer
+answer_of (Ok f) = figures_told f
+answer_of (Err r) = refused (refusal_number r)
 
 abbrev pub taken_of : Taken → rule.Taken
 taken_of t = record { answer = answer_of t.answer; next = window_of t.window }
@@ -54,14 +51,10 @@ pub record BeginIs (w c : ℕ) (b : Begun) : Type 0 where
 pub record TakeIs (s : Window) (bytes : List ℕ) (t : Taken) : Type 0 where
   pub gives : taken_of t ≡ taken (window_of s) bytes
   -- a refused record gives the very struct back
-  pub kept : T (is_refused t.answer) → t.window ≡ s
+  pub kept : OnErr t.answer (t.window ≡ s)
 
--- ── inside: the Int of a record, and of a value that may be missing ──
-
-abbrev pub reading_of : Reading → Option ℤ
-reading_of (Found k) = some k
-reading_of Missing = none
+-- ── inside: the Int of a value that may be missing ──
 
 abbrev pub got_int : Got → Option ℤ
-got_int Nothing = none
-got_int (One v) = value_int v
+got_int None = None
+got_int (Some v) = value_int v

@@ -1,53 +1,31 @@
 // Sum, least and largest of the Ints in a window.
-ghost use Rattle.std.specs.Prelude.{◌≡◌, ◌≤◌, ◌+ℤ◌};
-ghost use Rattle.std.specs.Int.{w64};
-ghost use Rattle.std.proofs.Common.{SFits};
-ghost use Rattle.row_change.specs.Aggregates.{smaller, larger};
+ghost use Rattle.std.specs.Prelude.{◌≡◌, ◌≤◌, length};
 ghost use Rattle.window_rules.specs.Windows.{figures_of};
-ghost use Rattle.window.specs.WindowCalls.{ints_of, answer_of};
+ghost use Rattle.window.specs.WindowCalls.{figures_told};
 
-use crate::WindowAnswer;
-
-fn add(sum: i64, k: i32) -> i64
-    requires { SFits w64 (sum +ℤ k) }
-    ensures { result ≡ sum +ℤ k }
-{
-    sum + (k as i64)
-}
-
-fn smaller(j: i32, k: i32) -> i32
-    ensures { result ≡ smaller j k }
-{
-    if k < j {
-        return k;
-    }
-    j
-}
-
-fn larger(j: i32, k: i32) -> i32
-    ensures { result ≡ larger j k }
-{
-    if j < k {
-        return k;
-    }
-    j
+#[derive(Clone, Copy, PartialEq, Eq)]
+pub struct Figures {
+    pub sum: i64,
+    pub least: i32,
+    pub largest: i32,
 }
 
 // Sixteen Ints never leave 64 bits.
-pub fn figures_of(ints: [i32; 16], count: usize) -> WindowAnswer
-    requires { (1 ≤ count) × (count ≤ 16) }
-    ensures { answer_of result ≡ figures_of (ints_of count ints) }
+pub fn figures_of(ints: &[i32]) -> Figures
+    requires { (1 ≤ length ints.now) × (length ints.now ≤ 16) }
+    ensures { figures_told result ≡ figures_of ints.now }
 {
-    let mut sum: i64 = 0;
+    let mut sum = 0;
     let mut least = ints[0];
     let mut largest = ints[0];
-    let mut i: usize = 0;
-    while i < count {
-        let k = ints[i];
-        i += 1;
-        sum = add(sum, k);
-        least = smaller(least, k);
-        largest = larger(largest, k);
+    for &k in ints {
+        sum += i64::from(k);
+        least = least.min(k);
+        largest = k.max(largest);
     }
-    WindowAnswer::Figures(sum, least, largest)
+    Figures {
+        sum,
+        least,
+        largest,
+    }
 }

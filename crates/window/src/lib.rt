@@ -1,12 +1,11 @@
 // A moving window over a stream of row records: the state is handed in and comes back by value, so a stream may be of any length.
 #![tactic(auto)]
 
-ghost use Rattle.std.specs.Prelude.{◌≡◌, ◌-◌, ◌≤◌, length, drop};
-ghost use Rattle.std.proofs.Math.Option.{some};
-ghost use Rattle.window_rules.specs.Windows.{width_ok, begin_number, slid, taken_int};
-ghost use Rattle.window.specs.WindowCalls.{ints_of, window_of, taken_of, beginning_number, BeginIs, TakeIs};
+ghost use Rattle.std.specs.Prelude.{◌≡◌, ◌≤◌, Some};
+ghost use Rattle.window_rules.specs.Windows.{width_ok, window_ok, begin_number, slid, taken_int};
+ghost use Rattle.window.specs.WindowCalls.{window_of, taken_of, beginning_number, refusal_number, BeginIs, TakeIs};
 
-use crate::figures::figures_of;
+use crate::figures::{Figures, figures_of};
 use crate::readings::reading_in;
 
 pub mod figures;
@@ -18,39 +17,42 @@ pub struct Window {
     pub width: usize,
     pub column: usize,
     pub count: usize,
+    // Room for the widest window, since a state is of fixed memory.
     pub ints: [i32; 16],
 }
 
-#[derive(Clone, Copy)]
-pub enum Beginning {
-    Accepted,
-    BadWidth,
-}
+// A window of no rows or of more than sixteen: 23.
+#[derive(Clone, Copy, PartialEq, Eq)]
+pub struct BadWidth;
 
+// A refused beginning has its window too: every record is refused with it.
 #[derive(Clone, Copy)]
 pub struct Begun {
-    pub beginning: Beginning,
+    pub beginning: Result<(), BadWidth>,
     pub window: Window,
 }
 
-// The Int that a record brings into a window.
-#[derive(Clone, Copy)]
-pub enum Reading {
-    Found(i32),
-    Missing,
-}
-
-// Sum, least and largest, or what is refused.
-#[derive(Clone, Copy)]
-pub enum WindowAnswer {
-    Figures(i64, i32, i32),
+// Why a record is not taken.
+#[derive(Clone, Copy, PartialEq, Eq)]
+pub enum Refused {
     BadWindow,
     BadRecord,
 }
 
+impl Refused {
+    pub fn number(self) -> u8
+        ensures { result ≡ refusal_number self }
+    {
+        match self {
+            Refused::BadWindow => 23,
+            Refused::BadRecord => 24,
+        }
+    }
+}
+
 #[derive(Clone, Copy)]
 pub struct Taken {
-    pub answer: WindowAnswer,
+    pub answer: Result<Figures, Refused>,
     pub window: Window,
 }
 
@@ -62,16 +64,16 @@ pub fn width_ok(width: usize) -> bool
     (1 <= width) & (width <= 16)
 }
 
-fn beginning_of(width: usize) -> Beginning
+fn beginning_of(width: usize) -> Result<(), BadWidth>
     ensures { beginning_number result ≡ begin_number width }
 {
     if width_ok(width) {
-        return Beginning::Accepted;
+        Ok(())
+    } else {
+        Err(BadWidth)
     }
-    Beginning::BadWidth
 }
 
-// The window of a refused beginning has that width, so every record is refused with it.
 pub fn begin(width: usize, column: usize) -> Begun
     ensures { BeginIs width column result }
 {
@@ -88,76 +90,55 @@ pub fn begin(width: usize, column: usize) -> Begun
 
 // ---- a record taken
 
-// The Ints but for the first, each a place further to the front.
-fn shifted(ints: [i32; 16], count: usize) -> [i32; 16]
-    requires { (1 ≤ count) × (count ≤ 16) }
-    ensures { (ints_of (count - 1) result ≡ drop 1 (ints_of count ints)) × (length result ≡ 16) }
-{
-    let mut out = ints;
-    let mut i: usize = 1;
-    while i < count {
-        out[i - 1] = ints[i];
-        i += 1;
-    }
-    out
-}
-
 // One Int more; from a full window the oldest goes.
 fn with_int(window: Window, k: i32) -> Window
     requires { (1 ≤ window.width) × (window.width ≤ 16) × (window.count ≤ window.width) }
     ensures { (window_of result ≡ slid (window_of window) k) × (1 ≤ result.count) × (result.count ≤ 16) }
 {
-    let width = window.width;
-    let column = window.column;
+    let mut next = window;
     let count = window.count;
-    let mut ints = window.ints;
-    if count < width {
-        ints[count] = k;
-        return Window {
-            width,
-            column,
-            count: count + 1,
-            ints,
-        };
+    if count < window.width {
+        next.ints[count] = k;
+        next.count = count + 1;
+    } else {
+        next.ints.copy_within(1..count, 0);
+        next.ints[count - 1] = k;
     }
-    ints = shifted(ints, count);
-    ints[count - 1] = k;
-    Window {
-        width,
-        column,
-        count,
-        ints,
-    }
+    next
 }
 
 fn taken_int(window: Window, k: i32) -> Taken
     requires { (1 ≤ window.width) × (window.width ≤ 16) × (window.count ≤ window.width) }
-    ensures { taken_of result ≡ taken_int (window_of window) (some k) }
+    ensures { taken_of result ≡ taken_int (window_of window) (Some k) }
 {
     let next = with_int(window, k);
-    let ints = next.ints;
     Taken {
-        answer: figures_of(ints, next.count),
+        answer: Ok(figures_of(&next.ints[..next.count])),
         window: next,
     }
+}
+
+// Another program may hand in any state.
+fn window_ok(window: Window) -> bool
+    ensures { result ≡ window_ok (window_of window) }
+{
+    width_ok(window.width) && window.count <= window.width
 }
 
 // A refused record gives the very window back.
 pub fn take(window: Window, record: &[u8]) -> Taken
     ensures { TakeIs window «record».now result }
 {
-    let usable = width_ok(window.width) & (window.count <= window.width);
-    if !usable {
+    if !window_ok(window) {
         return Taken {
-            answer: WindowAnswer::BadWindow,
+            answer: Err(Refused::BadWindow),
             window,
         };
     }
-    let reading = reading_in(record, window.column);
-    match reading {
-        Reading::Found(k) => taken_int(window, k),
-        Reading::Missing => Taken {
-            answer: WindowAnswer::BadRecord,
+    match reading_in(record, window.column) {
+        Some(k) => taken_int(window, k),
+        None => Taken {
+            answer: Err(Refused::BadRecord),
             window,
         },
     }

@@ -1,64 +1,42 @@
 // The Int that a row record has in a column: check 24.
-ghost use Rattle.std.specs.Prelude.{◌≡◌, ◌≤◌, length, get_or};
-ghost use Rattle.values.specs.declared.Got.TheVariants.{Nothing};
+ghost use Rattle.std.specs.Prelude.{◌≡◌, ◌≤◌, length, get_or, None};
 ghost use Rattle.rows.specs.View.{draft_of};
 ghost use Rattle.window_rules.specs.Windows.{value_int, counted_int};
-ghost use Rattle.window.specs.WindowCalls.{reading_of, got_int};
+ghost use Rattle.window.specs.WindowCalls.{got_int};
 
-use crate::Reading;
 use record_bytes::RECORD;
 use record_nodes::tuples::row_read;
 use rows::Draft;
-use values::{Got, Value};
+use values::Value;
 
 // The kind of a row record.
 const ROW: u8 = 3;
 
-fn value_int(v: Value) -> Reading
-    ensures { reading_of result ≡ value_int v }
+fn value_int(v: Value) -> Option<i32>
+    ensures { result ≡ value_int v }
 {
     match v {
-        Value::Int(i) => Reading::Found(i),
-        Value::Text(_) => Reading::Missing,
-        Value::Loc(_) => Reading::Missing,
+        Value::Int(i) => Some(i),
+        Value::Text(_) | Value::Loc(_) => None,
     }
 }
 
-fn got_int(g: Got) -> Reading
-    ensures { reading_of result ≡ got_int g }
-{
-    match g {
-        Got::One(v) => value_int(v),
-        Got::Nothing => Reading::Missing,
-    }
-}
-
-fn draft_int(d: Draft, column: usize) -> Reading
+fn draft_int(d: Draft, column: usize) -> Option<i32>
     requires { d.count ≤ 4 }
-    ensures { reading_of result ≡ got_int (get_or (draft_of d) column Nothing) }
+    ensures { result ≡ got_int (get_or (draft_of d) column None) }
 {
-    if column >= d.count {
-        return Reading::Missing;
-    }
-    let s = d.slots[column];
-    let held = s.held;
-    got_int(held)
+    value_int((*d.slots[..d.count].get(column)?)?)
 }
 
-// Missing where the record is refused with 24. One of another kind is no row, whatever else is wrong with it.
-pub fn reading_in(record: &[u8], column: usize) -> Reading
-    ensures { reading_of result ≡ counted_int column «record».now }
+// None where the record is refused with 24. One of another kind is no row, whatever else is wrong with it.
+pub fn reading_in(record: &[u8], column: usize) -> Option<i32>
+    ensures { result ≡ counted_int column «record».now }
 {
     if record.len() != RECORD {
-        return Reading::Missing;
+        return None;
     }
     if record[0] != ROW {
-        return Reading::Missing;
+        return None;
     }
-    let read = row_read(record);
-    if read.right {
-        let d = read.draft;
-        return draft_int(d, column);
-    }
-    Reading::Missing
+    draft_int(row_read(record)?, column)
 }

@@ -4,13 +4,10 @@ use native.Mathlib.Omega.{arith}
 use mathlib.Core.Path.{◌≡◌, refl, sym, ap, subst, ◌∙◌}
 use mathlib.Core.Bool.{Bool, true, false, cond, ◌&&◌}
 use mathlib.Core.List.{List, [], ◌∷◌, ◌++◌}
-use mathlib.Core.Option.{Option, none, some}
+use Rattle.std.specs.Prelude.{Option, None, Some}
 use lib.Dec.{T, leb, leb→le}
 use lib.IntN.{ℤ, pos}
 use lib.ListN.{length, drop, length-map}
-use mir.Syntax.{w32, w64}
-use mir.Val.{SFits, of_z, to_z}
-use Rattle.values.proofs.Ints.{back}
 use Rattle.values.proofs.Bools.{and_l, and_r, T_of}
 use Rattle.values.proofs.Firsts.{length-firsts}
 use Rattle.record_bytes.specs.Bytes.{parts, zeros}
@@ -68,16 +65,12 @@ unfolding taken slid
 taken-short s r w l = go (window_ok s) (counted_int s.column r)
   where
     of_record : (o : Option ℤ) → length (taken_int s o).next.ints ≤ 16
-    of_record none = l
-    of_record (some k) = omega (arith, last-length s.width (s.ints ++ (k ∷ [])), w)
+    of_record None = l
+    of_record (Some k) = omega (arith, last-length s.width (s.ints ++ (k ∷ [])), w)
 
     go : (t : Bool) (o : Option ℤ) → length (cond t (taken_int s o) (not_taken 23 s)).next.ints ≤ 16
     go true o = of_record o
     go false o = l
-
--- the figures as they are handed on
-pub figures_told : (i j k : ℤ) → SFits w64 i → SFits w32 j → SFits w32 k → figures (to_z w64 (of_z w64 i)) (to_z w32 (of_z w32 j)) (to_z w32 (of_z w32 k)) ≡ figures i j k
-figures_told i j k p q r = rw (back w64 i p, back w32 j q, back w32 k r) refl
 
 module _ (before : List ℕ) (e : true ≡ is_state before) where
   fits : T (width_ok (width_in before) && leb (rows_in before) (width_in before))

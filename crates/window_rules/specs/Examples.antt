@@ -1,6 +1,5 @@
 -- Worked windows, by computation.
-use Rattle.std.specs.Prelude.{ℕ, ◌≡◌, refl, true, false, List, [], ◌∷◌, ◌++◌, ℤ, pos, negsuc, replicate, set, take}
-use Rattle.std.proofs.Math.Option.{none, some}
+use Rattle.std.specs.Prelude.{ℕ, ◌≡◌, refl, true, false, List, [], ◌∷◌, ◌++◌, ℤ, pos, negsuc, replicate, set, take, None, Some}
 use Rattle.values.specs.declared.Site.{Site}
 use Rattle.values.specs.declared.Value.TheVariants.{Int, Text, Loc}
 use Rattle.value_bytes.specs.Bytes.{eight_bytes}
@@ -170,110 +169,110 @@ pub column-four : (taken (begun 1 4) (card (Int (pos 1) ∷ Int (pos 2) ∷ Int 
 unfolding opened
 column-four = refl
 
-pub column-three : counted_int 3 (card (Int (pos 1) ∷ Int (pos 2) ∷ Int (pos 3) ∷ Int (pos 4) ∷ [])) ≡ some (pos 4)
+pub column-three : counted_int 3 (card (Int (pos 1) ∷ Int (pos 2) ∷ Int (pos 3) ∷ Int (pos 4) ∷ [])) ≡ Some (pos 4)
 unfolding opened
 column-three = refl
 
 -- columns count from 0
-pub column-zero : counted_int 0 (card (Int (pos 1) ∷ Int (pos 2) ∷ [])) ≡ some (pos 1)
+pub column-zero : counted_int 0 (card (Int (pos 1) ∷ Int (pos 2) ∷ [])) ≡ Some (pos 1)
 unfolding opened
 column-zero = refl
 
 -- a column that the row does not have, though it has Ints
-pub column_absent : counted_int 2 (card (Int (pos 1) ∷ Int (pos 2) ∷ [])) ≡ none
+pub column_absent : counted_int 2 (card (Int (pos 1) ∷ Int (pos 2) ∷ [])) ≡ None
 unfolding opened
 column_absent = refl
 
-pub text_there : counted_int 1 (card (Int (pos 1) ∷ Text RIG1 ∷ [])) ≡ none
+pub text_there : counted_int 1 (card (Int (pos 1) ∷ Text RIG1 ∷ [])) ≡ None
 unfolding opened
 text_there = refl
 
-pub loc_there : counted_int 1 (card (Int (pos 1) ∷ Loc (record { 0 = 3 }) ∷ [])) ≡ none
+pub loc_there : counted_int 1 (card (Int (pos 1) ∷ Loc (record { 0 = 3 }) ∷ [])) ≡ None
 unfolding opened
 loc_there = refl
 
 -- 103 bytes, 105, and two records at once
-pub too_short : counted_int 0 (take 103 (reading (pos 1))) ≡ none
+pub too_short : counted_int 0 (take 103 (reading (pos 1))) ≡ None
 unfolding opened
 too_short = refl
 
-pub too_long : counted_int 0 (reading (pos 1) ++ (0 ∷ [])) ≡ none
+pub too_long : counted_int 0 (reading (pos 1) ++ (0 ∷ [])) ≡ None
 unfolding opened
 too_long = refl
 
-pub two_at_once : counted_int 0 (reading (pos 1) ++ reading (pos 2)) ≡ none
+pub two_at_once : counted_int 0 (reading (pos 1) ++ reading (pos 2)) ≡ None
 unfolding opened
 two_at_once = refl
 
 -- check 3: an unknown kind
-pub unknown_kind : counted_int 0 (set (reading (pos 1)) 0 4) ≡ none
+pub unknown_kind : counted_int 0 (set (reading (pos 1)) 0 4) ≡ None
 unfolding opened
 unknown_kind = refl
 
 -- check 4: a site above 7, a byte of no name, and every stretch of unused bytes
-pub wrong_site : counted_int 0 (set (reading (pos 1)) 1 8) ≡ none
+pub wrong_site : counted_int 0 (set (reading (pos 1)) 1 8) ≡ None
 unfolding opened
 wrong_site = refl
 
-pub wrong_name : counted_int 0 (set (reading (pos 1)) 4 0x1f) ≡ none
+pub wrong_name : counted_int 0 (set (reading (pos 1)) 4 0x1f) ≡ None
 unfolding opened
 wrong_name = refl
 
-pub behind_the_site : counted_int 0 (set (reading (pos 1)) 2 1) ≡ none
+pub behind_the_site : counted_int 0 (set (reading (pos 1)) 2 1) ≡ None
 unfolding opened
 behind_the_site = refl
 
-pub behind_the_name : counted_int 0 (set (reading (pos 1)) 8 1) ≡ none
+pub behind_the_name : counted_int 0 (set (reading (pos 1)) 8 1) ≡ None
 unfolding opened
 behind_the_name = refl
 
-pub before_the_row : counted_int 0 (set (reading (pos 1)) 55 1) ≡ none
+pub before_the_row : counted_int 0 (set (reading (pos 1)) 55 1) ≡ None
 unfolding opened
 before_the_row = refl
 
-pub in_the_value : counted_int 0 (set (reading (pos 1)) 57 1) ≡ none
+pub in_the_value : counted_int 0 (set (reading (pos 1)) 57 1) ≡ None
 unfolding opened
 in_the_value = refl
 
-pub behind_the_row : counted_int 0 (set (reading (pos 1)) 88 1) ≡ none
+pub behind_the_row : counted_int 0 (set (reading (pos 1)) 88 1) ≡ None
 unfolding opened
 behind_the_row = refl
 
-pub last_byte : counted_int 0 (set (reading (pos 1)) 103 1) ≡ none
+pub last_byte : counted_int 0 (set (reading (pos 1)) 103 1) ≡ None
 unfolding opened
 last_byte = refl
 
 -- and what is wrong in another column: a gap, a variable, a Loc of 8, a byte of no text
-pub gap : counted_int 0 (set (card (Int (pos 1) ∷ Int (pos 0) ∷ Int (pos 3) ∷ [])) 64 0) ≡ none
+pub gap : counted_int 0 (set (card (Int (pos 1) ∷ Int (pos 0) ∷ Int (pos 3) ∷ [])) 64 0) ≡ None
 unfolding opened
 gap = refl
 
-pub variable : counted_int 0 (set (card (Int (pos 1) ∷ Int (pos 0) ∷ [])) 64 4) ≡ none
+pub variable : counted_int 0 (set (card (Int (pos 1) ∷ Int (pos 0) ∷ [])) 64 4) ≡ None
 unfolding opened
 variable = refl
 
-pub wrong_loc : counted_int 0 (card (Int (pos 1) ∷ Loc (record { 0 = 8 }) ∷ [])) ≡ none
+pub wrong_loc : counted_int 0 (card (Int (pos 1) ∷ Loc (record { 0 = 8 }) ∷ [])) ≡ None
 unfolding opened
 wrong_loc = refl
 
-pub wrong_text : counted_int 0 (set (card (Int (pos 1) ∷ Text RIG1 ∷ [])) 68 0x1f) ≡ none
+pub wrong_text : counted_int 0 (set (card (Int (pos 1) ∷ Text RIG1 ∷ [])) 68 0x1f) ≡ None
 unfolding opened
 wrong_text = refl
 
 -- no row, though nothing breaks a check: an insert of 1 whose next is node 1, at Loc 0; a table of CARD; a start; a pick
-pub insert : counted_int 0 (set (set (reading (pos 1)) 0 16) 16 3) ≡ none
+pub insert : counted_int 0 (set (set (reading (pos 1)) 0 16) 16 3) ≡ None
 unfolding opened
 insert = refl
 
-pub table : counted_int 0 (table_bytes (record { site = site 1; name = 0x43415244; content = record { columns = 1 ∷ []; rows = [] } })) ≡ none
+pub table : counted_int 0 (table_bytes (record { site = site 1; name = 0x43415244; content = record { columns = 1 ∷ []; rows = [] } })) ≡ None
 unfolding opened
 table = refl
 
-pub start : counted_int 0 (32 ∷ 1 ∷ replicate 102 0) ≡ none
+pub start : counted_int 0 (32 ∷ 1 ∷ replicate 102 0) ≡ None
 unfolding opened
 start = refl
 
-pub pick : counted_int 0 (33 ∷ replicate 103 0) ≡ none
+pub pick : counted_int 0 (33 ∷ replicate 103 0) ≡ None
 unfolding opened
 pick = refl
 

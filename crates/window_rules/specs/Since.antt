@@ -1,6 +1,5 @@
 -- What the records taken since a beginning come to, said of their whole list and without any state.
-use Rattle.std.specs.Prelude.{ℕ, cond, List, [], ◌∷◌, ◌++◌, map, ℤ}
-use Rattle.std.proofs.Math.Option.{Option, none, some}
+use Rattle.std.specs.Prelude.{ℕ, cond, List, [], ◌∷◌, ◌++◌, map, ℤ, Option, None, Some}
 use Rattle.values.specs.Lists.{present}
 use Rattle.window_rules.specs.Windows.{counted_int, Window, width_ok, WindowAnswer, refused, figures_of, last_of}
 
@@ -14,8 +13,8 @@ window_after w c rs = record { width = w; column = c; ints = cond (width_ok w) (
 
 -- the answer to a record with this Int or none, where these are the last Ints up to and with it
 abbrev pub answer_to : Option ℤ → List ℤ → WindowAnswer
-answer_to none last = refused 24
-answer_to (some k) last = figures_of last
+answer_to None last = refused 24
+answer_to (Some k) last = figures_of last
 
 -- the answer to a record that comes after others. With a w that is refused it is 23 for every record
 unfoldable pub answer_after : ℕ → ℕ → List (List ℕ) → List ℕ → WindowAnswer

@@ -1,6 +1,5 @@
 -- A moving window: row records come one after another, and each that counts is answered with sum, least and largest of one Int column over the last w that count.
-use Rattle.std.specs.Prelude.{ℕ, zero, suc, ◌-◌, Bool, cond, ◌&&◌, List, [], ◌∷◌, ◌++◌, eqb, leb, ℤ, length, drop}
-use Rattle.std.proofs.Math.Option.{Option, none, some}
+use Rattle.std.specs.Prelude.{ℕ, zero, suc, ◌-◌, Bool, cond, ◌&&◌, List, [], ◌∷◌, ◌++◌, eqb, leb, ℤ, length, drop, Option, None, Some}
 use Rattle.values.specs.declared.Value.{Value}
 use Rattle.values.specs.declared.Value.TheVariants.{Int, Text, Loc}
 use Rattle.values.specs.Operands.{value_in}
@@ -11,33 +10,33 @@ use Rattle.record_bytes.specs.Decoding.{Record, alias_record, table_record, row_
 -- ── the Int of a record in a column ──
 
 abbrev pub value_int : Value → Option ℤ
-value_int (Int i) = some i
-value_int (Text t) = none
-value_int (Loc l) = none
+value_int (Int i) = Some i
+value_int (Text t) = None
+value_int (Loc l) = None
 
 -- none where the row has no such column, or another kind there
 abbrev pub column_int : ℕ → Row → Option ℤ
-column_int c [] = none
+column_int c [] = None
 column_int zero (v ∷ r) = value_int v
 column_int (suc c) (v ∷ r) = column_int c r
 
 -- none of a record that is no row
 abbrev pub record_int : ℕ → Record → Option ℤ
-record_int c (alias_record a) = none
-record_int c (table_record s n ks) = none
+record_int c (alias_record a) = None
+record_int c (table_record s n ks) = None
 record_int c (row_record s n r) = column_int c r
-record_int c (node_record d) = none
-record_int c (start_record s i) = none
-record_int c (pick_record p) = none
+record_int c (node_record d) = None
+record_int c (start_record s i) = None
+record_int c (pick_record p) = None
 
 -- none of one that breaks check 3 or 4
 abbrev pub decoded_int : ℕ → Decoded → Option ℤ
 decoded_int c (good x) = record_int c x
-decoded_int c (bad k) = none
+decoded_int c (bad k) = None
 
 -- none where there are not just 104 bytes. A record with none is refused with 24; one that has an Int counts
 unfoldable pub counted_int : ℕ → List ℕ → Option ℤ
-counted_int c bytes = cond (eqb (length bytes) 104) (decoded_int c (record_in bytes)) none
+counted_int c bytes = cond (eqb (length bytes) 104) (decoded_int c (record_in bytes)) None
 
 -- ── a window ──
 
@@ -100,8 +99,8 @@ abbrev pub not_taken : ℕ → Window → Taken
 not_taken n s = record { answer = refused n; next = s }
 
 abbrev pub taken_int : Window → Option ℤ → Taken
-taken_int s none = not_taken 24 s
-taken_int s (some k) = record { answer = figures_of (slid s k).ints; next = slid s k }
+taken_int s None = not_taken 24 s
+taken_int s (Some k) = record { answer = figures_of (slid s k).ints; next = slid s k }
 
 -- 23 is judged before 24
 unfoldable pub taken : Window → List ℕ → Taken

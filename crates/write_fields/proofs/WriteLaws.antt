@@ -10,7 +10,6 @@ use Rattle.values.specs.declared.Value.{Value}
 use Rattle.values.specs.declared.Value.TheVariants.{Int, Text, Loc}
 use Rattle.values.specs.Lists.{firsts}
 use Rattle.values.proofs.Firsts.{length-firsts, map-firsts}
-use Rattle.rows.specs.declared.Cell.{Cell}
 use Rattle.rows.specs.declared.Row as Code
 use Rattle.rows.specs.View.{no_cell, values_of}
 use Rattle.nets.specs.Nets.{Table}
@@ -18,11 +17,15 @@ use Rattle.record_bytes.specs.Encoding.{operand_bytes, tuple_bytes, start_bytes,
 use Rattle.value_bytes.specs.Bytes.{end_to_end}
 use Rattle.value_bytes.proofs.Stores.{zero-parts, ends-append, ends-length, three-parts, four-parts}
 
-abbrev pub cell_bytes : Cell → List ℕ
-cell_bytes c = operand_bytes c.value
+-- what std says of a part filled with zeros, by the part's length
+pub zeros : (k : ℕ) (old ys : List ℕ) → length old ≡ k → ys ≡ replicate (length old) 0 → ys ≡ replicate k 0
+zeros k old ys l e = rw (e, l)
 
-pub cell-length : (c : Cell) → length (cell_bytes c) ≡ 8
-cell-length c = go c.value
+abbrev pub cell_bytes : Value → List ℕ
+cell_bytes c = operand_bytes c
+
+pub cell-length : (c : Value) → length (cell_bytes c) ≡ 8
+cell-length c = go c
   where
     go : (v : Value) → length (operand_bytes v) ≡ 8
     go (Int i) = refl
@@ -33,9 +36,9 @@ cell-length c = go c.value
 pub tuple_is : (n : ℕ) (r : Code.Row) → n ≤ 4 → tuple_bytes (values_of n r) ≡ end_to_end (firsts cell_bytes no_cell n r.cells) ++ replicate (32 - n * 8) 0
 unfolding tuple_bytes
 tuple_is n r h =
-    let l : length (values_of n r) ≡ n = length-firsts (λ (c : Cell). c.value) no_cell n r.cells in
+    let l : length (values_of n r) ≡ n = length-firsts (λ (v : Value). v) no_cell n r.cells in
     let e : (4 - n) * 8 ≡ 32 - n * 8 = omega arith in
-    rw (ends-append, l, zero-parts (4 - n) 8, e, map-firsts operand_bytes (λ (c : Cell). c.value) no_cell n r.cells)
+    rw (ends-append, l, zero-parts (4 - n) 8, e, map-firsts operand_bytes (λ (v : Value). v) no_cell n r.cells)
 
 module _ (n : ℕ) (r : Code.Row) (h : n ≤ 4) where
   pub tuple-length : length (tuple_bytes (values_of n r)) ≡ 32

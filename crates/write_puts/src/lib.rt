@@ -9,7 +9,7 @@ ghost use Rattle.value_bytes.specs.Bytes.{end_to_end};
 use record_bytes::{KINDS, KINDS_END, LEFT, RECORD, TUPLE};
 use rows::{Relation, Row};
 use values::Site;
-use write_fields::{clear, put_columns, put_start, put_tuple};
+use write_fields::{put_columns, put_start, put_tuple};
 
 // A row record.
 fn put_row(out: &mut [u8], site: Site, name: u32, row: Row, columns: usize)
@@ -17,9 +17,9 @@ fn put_row(out: &mut [u8], site: Site, name: u32, row: Row, columns: usize)
     ensures { out.new ≡ row_bytes site name (values_of columns row) }
 {
     put_start(&mut out[0..KINDS], 3, site, name);
-    clear(&mut out[KINDS..TUPLE], TUPLE - KINDS);
+    out[KINDS..TUPLE].fill(0);
     put_tuple(&mut out[TUPLE..LEFT], row, columns);
-    clear(&mut out[LEFT..RECORD], RECORD - LEFT);
+    out[LEFT..RECORD].fill(0);
 }
 
 // A table record, of the table's site, name and content.
@@ -27,10 +27,9 @@ pub fn put_table(out: &mut [u8], site: Site, name: u32, content: Relation)
     requires { length out.old ≡ 104 }
     ensures { out.new ≡ table_bytes (record { site = site; name = name; content = relation_of content }) }
 {
-    let kinds = content.kinds;
     put_start(&mut out[0..KINDS], 2, site, name);
-    put_columns(&mut out[KINDS..KINDS_END], content.columns, kinds);
-    clear(&mut out[KINDS_END..RECORD], RECORD - KINDS_END);
+    put_columns(&mut out[KINDS..KINDS_END], content.columns, content.kinds);
+    out[KINDS_END..RECORD].fill(0);
 }
 
 // The row records of a table.
@@ -38,9 +37,7 @@ pub fn put_rows(out: &mut [u8], site: Site, name: u32, content: Relation)
     requires { (content.count ≤ 16) × (content.columns ≤ 4) × (length out.old ≡ content.count * 104) }
     ensures { out.new ≡ end_to_end (map (row_bytes site name) (relation_of content).rows) }
 {
-    let n = content.count;
-    let mut i = 0;
-    while i < n {
+    for i in 0..content.count {
         put_row(
             &mut out[i * RECORD..i * RECORD + RECORD],
             site,
@@ -48,6 +45,5 @@ pub fn put_rows(out: &mut [u8], site: Site, name: u32, content: Relation)
             content.rows[i],
             content.columns,
         );
-        i += 1;
     }
 }

@@ -10,5 +10,5 @@ use Rattle.call_run.proofs.run_picks.Goals as goal
 
 pub returns : goal.returns
 returns c =
-    let g = c.carry_out-g.ensures.0 in
+    let g = c.carry_out.ensures.0 in
     subst (λ (n : Net). (view n ≡ after (view c.args.start) (picks_in c.args.picks.now)) × T (sound (view n))) (sym c.left_by.ensures) (g.left, g.sound c.requires)

@@ -13,6 +13,3 @@ invariant-loop-i l =
       full : length l.out ≡ l.count * 24;
       filled : l.out ≡ along (bytes_at l.threads) l.i ++ drop (l.i * 24) l.initial.out;
     }
-
-abbrev pub decreases-loop-i : goal.decreases-loop-i
-decreases-loop-i l = l.count - l.i

@@ -15,6 +15,3 @@ invariant-loop-i l =
       was : length l.initial.out ≡ 16;
       filled : l.out ≡ visited (to_visit (entry_alone l.f)) l.i ++ drop l.i l.initial.out;
     }
-
-abbrev pub decreases-loop-i : goal.decreases-loop-i
-decreases-loop-i l = 16 - l.i

@@ -30,7 +30,6 @@ loop-i-init c =
     let ps = picks_in c.args.picks.now in
     record {
       within = omega arith;
-      counted = refl;
       sound = c.requires.0;
       full = same;
       low = omega (arith, same, room);
@@ -69,7 +68,6 @@ loop-i-preserved c =
     let turned = one-after (view l.net) next bs l.i (omega arith) c.run_picks-net.ensures.0 in
     record {
       within = omega arith;
-      counted = l.invariant.counted;
       sound = c.run_picks-net.ensures.1;
       full = kept ∙ l.invariant.full;
       low = omega (arith, kept, room);
@@ -83,5 +81,5 @@ returns c =
     let bs = c.args.picks.now in
     let ps = picks_in bs in
     let few = picks-length bs in
-    let q = none_left (view l.net) ps l.i (length l.out - l.at) _ (take l.at l.out) (omega (arith, few.0, few.1, l.invariant.counted)) l.invariant.put in
+    let q = none_left (view l.net) ps l.i (length l.out - l.at) _ (take l.at l.out) (omega (arith, few.0, few.1)) l.invariant.put in
     ended c.args.out.now l.out (trace_put (view c.args.start) ps (length c.args.out.now)) l.at l.invariant.low q l.invariant.left

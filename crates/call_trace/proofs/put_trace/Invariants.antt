@@ -13,14 +13,10 @@ use Rattle.call_trace.proofs.put_trace.Given as goal
 abbrev pub invariant-loop-i : goal.invariant-loop-i
 invariant-loop-i l =
     record {
-      within : l.i ≤ l.count;
-      counted : l.count ≡ length l.picks / 2;
+      within : l.i ≤ length l.picks / 2;
       sound : T (sound (view l.net));
       full : length l.out ≡ length l.fn.out;
       low : l.at ≤ length l.out;
       left : drop l.at l.out ≡ drop l.at l.fn.out;
       put : trace_put (view l.initial.net) (picks_in l.picks) (length l.fn.out) ≡ take l.at l.out ++ in_room (length l.out - l.at) (later (view l.net) (drop l.i (picks_in l.picks)));
     }
-
-abbrev pub decreases-loop-i : goal.decreases-loop-i
-decreases-loop-i l = l.count - l.i

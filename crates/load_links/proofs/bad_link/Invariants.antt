@@ -7,6 +7,3 @@ use Rattle.load_links.proofs.bad_link.Given as goal
 
 abbrev pub invariant-loop-i : goal.invariant-loop-i
 invariant-loop-i l = (l.i ≤ whole_records l.file) × (l.j ≤ l.i) × (first_bad_link l.n 0 0 (records_in l.file) ≡ first_bad_link l.n l.i l.j (drop l.i (records_in l.file)))
-
-abbrev pub decreases-loop-i : goal.decreases-loop-i
-decreases-loop-i l = whole_records l.file - l.i

@@ -3,4 +3,4 @@ use Rattle.files.proofs.EngineLaws.{loaded-sound}
 use Rattle.netpage.proofs.print_file.Goals as goal
 
 pub print_run-requires : goal.print_run-requires
-print_run-requires g c = loaded-sound _ _ c.load-loaded.ensures c.in-Accepted.is
+print_run-requires g c = loaded-sound _ _ c.load-loaded.ensures c.in-Ok.is

@@ -2,5 +2,5 @@
 use Rattle.nets.proofs.ShapeLaws.{shaped-at, rows-ok-at}
 use Rattle.netpage.proofs.put_tables.Goals as goal
 
-pub put_table-requires : goal.put_table-requires
-put_table-requires g c = (search shaped-at, search rows-ok-at)
+pub put_table_page-requires : goal.put_table_page-requires
+put_table_page-requires g c = (search shaped-at, search rows-ok-at)

@@ -5,7 +5,7 @@ use mathlib.Core.Bool.{Bool, true, false}
 use mathlib.Core.List.{List, []}
 use lib.Dec.{T}
 use Rattle.values.specs.declared.Site.{Site}
-use Rattle.values.specs.Lists.{all}
+use Rattle.std.specs.List.{list_all}
 use Rattle.values.proofs.Bools.{T_of}
 use Rattle.nets.specs.declared.Net.{Net}
 use Rattle.nets.specs.Nets as M
@@ -15,7 +15,8 @@ use Rattle.nets.specs.View.{tables_of, view}
 use Rattle.nets.proofs.ShapeLaws.{tables_of_lem, few-tables, tables-ok}
 use Rattle.page_rules.specs.Pages.{PageOutcome, page_refused, page_for, page, page_answer, buffer_after}
 use Rattle.page_lines.proofs.OutcomeLaws.{by_sound}
-use Rattle.page.specs.declared.Paged.{Paged}
+use Rattle.std.specs.Prelude.{Result}
+use Rattle.page.specs.declared.NotPaged.{NotPaged}
 use Rattle.page.specs.PageCall.{answer_of}
 use Rattle.page.proofs.page.Goals as goal
 
@@ -23,7 +24,7 @@ module _ (net : Net) (b : Bool) (e : b ≡ sound (view net)) where
   few : b ≡ true → net.tablecount ≤ 8
   few h = few-tables net (T_of (sound (view net)) (sym e ∙ h))
 
-  ranged : b ≡ true → T (all table_ok (tables_of net.tablecount net.tables))
+  ranged : b ≡ true → T (list_all table_ok (tables_of net.tablecount net.tables))
   ranged h = tables-ok net (T_of (sound (view net)) (sym e ∙ h))
 
   module _ (s : Site) (n : ℕ) (o : List ℕ) where
@@ -33,7 +34,7 @@ module _ (net : Net) (b : Bool) (e : b ≡ sound (view net)) where
     is-outcome : b ≡ true → page (view net) s n o ≡ outcome
     is-outcome h = by_sound (view net) s n o true (sym h ∙ e) ∙ ap (λ (ts : List M.Table). page_for (table_at s n ts) o) (tables_of_lem net)
 
-    sound-answer : (r : Paged) → b ≡ true → answer_of r ≡ page_answer outcome → answer_of r ≡ page_answer (page (view net) s n o)
+    sound-answer : (r : Result ℕ NotPaged) → b ≡ true → answer_of r ≡ page_answer outcome → answer_of r ≡ page_answer (page (view net) s n o)
     sound-answer r h k = k ∙ sym (ap page_answer (is-outcome h))
 
     sound-buffer : (out : List ℕ) → b ≡ true → out ≡ buffer_after o outcome → out ≡ buffer_after o (page (view net) s n o)
@@ -48,8 +49,8 @@ module _ (net : Net) (b : Bool) (e : b ≡ sound (view net)) where
 pub page_tables-requires : goal.page_tables-requires
 page_tables-requires c = (search few, search ranged)
 
-pub returns-then-sound_net : goal.returns-then-sound_net
-returns-then-sound_net c = record { answer = search sound-answer; buffer = search sound-buffer }
+pub returns-then-not-sound_net : goal.returns-then-not-sound_net
+returns-then-not-sound_net c = record { answer = search unsound-answer; buffer = search unsound-buffer }
 
 pub returns : goal.returns
-returns c = record { answer = search unsound-answer; buffer = search unsound-buffer }
+returns c = record { answer = search sound-answer; buffer = search sound-buffer }

@@ -1,8 +1,8 @@
 -- Each arm gives what the definition gives at its variant.
 use Rattle.std.proofs.Common.{◌≡◌, ℕ, List, T, ℤ, pos, sym, ap, subst, ◌∙◌, rules, w64}
 use Rattle.values.specs.declared.Value.TheVariants.{Int}
-use Rattle.values.specs.declared.Got.{Got}
-use Rattle.values.specs.declared.Got.TheVariants.{One}
+use Rattle.values.specs.Operands.{Got}
+use Rattle.std.specs.Prelude.{Some}
 use Rattle.values.specs.Values.{in32}
 use Rattle.values.specs.Operands.{fitting}
 use Rattle.rows.specs.declared.Function.{Function}
@@ -42,7 +42,7 @@ unfolding aggregated
 returns-in-Count c =
     let a = c.args in
     gives _ c.in-Count.is _
-    (c.count_of.ensures ∙ ap (λ (n : ℕ). One (Int (pos n))) (sym (length-firsts (values_of a.r.columns) no_row a.r.count a.r.rows)))
+    (c.count_of.ensures ∙ ap (λ (n : ℕ). Some (Int (pos n))) (sym (length-firsts (values_of a.r.columns) no_row a.r.count a.r.rows)))
 
 pub returns-in-Sum : goal.returns-in-Sum
 unfolding aggregated

@@ -10,12 +10,10 @@ loop-i-preserved c =
     let s = c.args in
     let r = s.r in
     let l = c.loop-i in
-    let x = to_z w32 l.a-bits in record {
-      within = omega arith;
-      left = fold_more (cond s.largest larger smaller) x _ l.invariant.left (column_cons s.at r.columns r.count r.rows l.i (omega arith))
-          (better_next s.largest x c.int_at-k.result c.better-a.result (search rules) (search rules) c.better-a.ensures
-          ∙ ap ((cond s.largest larger smaller) x) c.int_at-k.ensures);
-    }
+    let x = to_z w32 l.a-bits in
+    fold_more (cond s.largest larger smaller) x _ l.invariant (column_cons s.at r.columns r.count r.rows l.i (omega arith))
+    (better_next s.largest x c.int_at-k.result c.better-a.result (search rules) (search rules) c.better-a.ensures
+    ∙ ap ((cond s.largest larger smaller) x) c.int_at-k.ensures)
 
 pub returns : goal.returns
 returns c =
@@ -23,4 +21,4 @@ returns c =
     let r = s.r in
     let l = c.loop-i in
     best-is (cond s.largest larger smaller) _ (column_cons s.at r.columns r.count r.rows 0 (omega arith))
-    (fold_ends (cond s.largest larger smaller) (to_z w32 l.a-bits) _ l.invariant.left (column_end s.at r.columns r.count r.rows l.i (omega arith)))
+    (fold_ends (cond s.largest larger smaller) (to_z w32 l.a-bits) _ l.invariant (column_end s.at r.columns r.count r.rows l.i (omega arith)))

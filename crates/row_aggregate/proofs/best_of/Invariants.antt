@@ -7,11 +7,6 @@ use Rattle.row_change.specs.Aggregates.{int_at, column, larger, smaller}
 use Rattle.row_aggregate.proofs.best_of.Given as goal
 
 abbrev pub invariant-loop-i : goal.invariant-loop-i
-invariant-loop-i l = record {
-  within : l.i ≤ l.count;
-  left : foldl (cond l.largest larger smaller) l.a (drop l.i (column l.at (rows_of l.columns l.count l.r.rows)))
-      ≡ foldl (cond l.largest larger smaller) (int_at l.at (values_of l.columns (get_or l.r.rows 0 no_row))) (drop 1 (column l.at (rows_of l.columns l.count l.r.rows)));
-}
-
-abbrev pub decreases-loop-i : goal.decreases-loop-i
-decreases-loop-i l = l.count - l.i
+invariant-loop-i l =
+    foldl (cond l.largest larger smaller) l.a (drop l.i (column l.at (rows_of l.r.columns l.r.count l.r.rows)))
+    ≡ foldl (cond l.largest larger smaller) (int_at l.at (values_of l.r.columns (get_or l.r.rows 0 no_row))) (drop 1 (column l.at (rows_of l.r.columns l.r.count l.r.rows)))

@@ -13,7 +13,6 @@ loop-i-preserved c =
     let z = c.int_at-k.result in
     let p : SFits w32 z = search rules in
     let n = sum-next x z c.add_wide-a.result p (search rules) c.add_wide-a.ensures in record {
-      within = omega arith;
       small = subst (λ (v : ℤ). mag v ≤ (l.i + 1) * 2147483648) (sym n) (sum-stays x z l.i l.invariant.small p.sfits);
       left = fold_more ◌+ℤ◌ x _ l.invariant.left (column_cons c.args.at r.columns r.count r.rows l.i (omega arith))
           (n ∙ ap (λ (y : ℤ). x +ℤ y) c.int_at-k.ensures);

@@ -9,10 +9,6 @@ use Rattle.row_aggregate.proofs.total_of.Given as goal
 
 abbrev pub invariant-loop-i : goal.invariant-loop-i
 invariant-loop-i l = record {
-  within : l.i ≤ l.count;
   small : mag l.a ≤ l.i * 2147483648;
-  left : foldl ◌+ℤ◌ l.a (drop l.i (column l.at (rows_of l.columns l.count l.r.rows))) ≡ total (column l.at (rows_of l.columns l.count l.r.rows));
+  left : foldl ◌+ℤ◌ l.a (drop l.i (column l.at (rows_of l.r.columns l.r.count l.r.rows))) ≡ total (column l.at (rows_of l.r.columns l.r.count l.r.rows));
 }
-
-abbrev pub decreases-loop-i : goal.decreases-loop-i
-decreases-loop-i l = l.count - l.i

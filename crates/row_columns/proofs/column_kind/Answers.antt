@@ -2,9 +2,9 @@
 use Rattle.std.proofs.Common.{◌≡◌, sym, ap, ◌∙◌, length, rules}
 use Rattle.std.proofs.Math.ListN.{length-map}
 use Rattle.values.proofs.Firsts.{length-firsts}
-use Rattle.values.specs.declared.Slot.{Slot}
-use Rattle.values.specs.Operands.{vars_of, bind}
-use Rattle.rows.specs.declared.Field.{Field}
+use Rattle.values.specs.Operands.{Got}
+use Rattle.values.specs.Operands.{bind}
+use Rattle.values.specs.declared.Operand.{Operand}
 use Rattle.rows.specs.declared.Origin.{Origin}
 use Rattle.rows.specs.View.{no_field, operands_of, columns_of}
 use Rattle.rows.specs.Plans.{origin_kind}
@@ -18,6 +18,6 @@ returns-in-Var c =
     let sixteen : length a.vars ≡ 16 = search rules in
     c.origin_kind.ensures
     ∙ ap (λ (x : Origin). origin_kind x a.kinds) c.variable_origin.ensures
-    ∙ origin_kind_lem (vars_of a.vars) (operands_of a.template) a.template.count (length-map a.vars (λ (x : Slot). x.held) ∙ sixteen) c.requires.count
-    (length-firsts (λ (f : Field). f.operand) no_field a.template.count a.template.fields) a.kinds c.in-Var.i
-    ∙ sym (ap (column_for (bind (operands_of a.template) (columns_of a.template.count a.kinds) (kinds_of (vars_of a.vars)))) c.in-Var.is)
+    ∙ origin_kind_lem a.vars (operands_of a.template) a.template.count sixteen c.requires.count
+    (length-firsts (λ (o : Operand). o) no_field a.template.count a.template.fields) a.kinds c.in-Var.i
+    ∙ sym (ap (column_for (bind (operands_of a.template) (columns_of a.template.count a.kinds) (kinds_of a.vars))) c.in-Var.is)

@@ -1,7 +1,7 @@
 -- The row is matched first, and the test judges what the two terms give.
 use Rattle.std.proofs.Common.{◌≡◌, sym, ap, ap₂, ◌∙◌, Bool, true, false, ◌||◌}
-use Rattle.values.specs.declared.Got.{Got}
-use Rattle.values.specs.declared.Order.{Order}
+use Rattle.values.specs.Operands.{Got}
+use Rattle.values.specs.Values.{Order}
 use Rattle.values.specs.Operands.{compared}
 use Rattle.rows.specs.declared.Plan.{Plan}
 use Rattle.rows.specs.declared.Row.{Row}
@@ -15,14 +15,14 @@ module _ (p : Plan) (row : Row) {m : Bool} (is : m ≡ (p.free || wants_met p.wa
   unfolding plan_hits
   plan_judges h el er eo eb = eb ∙ ap (agrees p.test) (eo ∙ ap₂ compared el er) ∙ rw (sym is ∙ h)
 
-  plan_fails : m ≡ false → false ≡ plan_hits p row
+  plan_fails : m ≡ false → m ≡ plan_hits p row
   unfolding plan_hits
-  plan_fails h = rw (sym is ∙ h)
+  plan_fails h = rw (h, sym is ∙ h)
 
 pub returns-then-row_meets : goal.returns-then-row_meets
 returns-then-row_meets c =
     plan_judges c.args.p c.args.row c.row_meets.ensures c.if-row_meets.true c.term_got.ensures c.term_got-then-row_meets.ensures c.got_order.ensures
     c.test_holds.ensures
 
-pub returns : goal.returns
-returns c = plan_fails c.args.p c.args.row c.row_meets.ensures c.if-row_meets.false
+pub returns-else-row_meets : goal.returns-else-row_meets
+returns-else-row_meets c = plan_fails c.args.p c.args.row c.row_meets.ensures c.if-row_meets.false

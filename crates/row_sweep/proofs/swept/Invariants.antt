@@ -1,6 +1,6 @@
 -- After `i` rows, each is marked and replaced by what `judge` gives for the row as it stood before.
 use Rattle.std.proofs.Common.{◌-◌, ◌≤◌}
-use Rattle.values.specs.Lists.{all}
+use Rattle.std.specs.List.{list_all}
 use Rattle.values.specs.Operands.{is_got, values_in}
 use Rattle.rows.specs.declared.Row.{Row}
 use Rattle.rows.specs.View.{no_row, values_of}
@@ -10,10 +10,6 @@ use Rattle.row_sweep.proofs.swept.Given as goal
 
 abbrev pub invariant-loop-i : goal.invariant-loop-i
 invariant-loop-i l = record {
-  within : l.i ≤ l.n;
-  sweep : Sweep (sweeps l.plan l.drafts l.any l.terms l.columns l.kinds) (λ (r : Row). all is_got (given_by l.terms r)) l.drafts (values_of l.terms.count)
+  sweep : Sweep (sweeps l.plan l.drafts l.any l.terms l.columns l.kinds) (λ (r : Row). list_all is_got (given_by l.terms r)) l.drafts (values_of l.terms.count)
       (λ (r : Row). values_in (given_by l.terms r)) no_row l.initial.rows l.i l.rows l.flags;
 }
-
-abbrev pub decreases-loop-i : goal.decreases-loop-i
-decreases-loop-i l = l.n - l.i

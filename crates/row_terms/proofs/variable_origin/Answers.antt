@@ -1,4 +1,4 @@
--- The tests are those of the definition, and a place below 4 fits a byte.
+-- The tests are those of the definition.
 use Rattle.std.proofs.Common.{arith}
 use Rattle.rows.specs.Plans.{origin_of}
 use Rattle.row_terms.proofs.variable_origin.Goals as goal
@@ -7,10 +7,10 @@ pub returns-then-i-ge16 : goal.returns-then-i-ge16
 unfolding origin_of
 returns-then-i-ge16 c = grind arith
 
-pub returns-then-at-lt4 : goal.returns-then-at-lt4
+pub returns-in-Some : goal.returns-in-Some
 unfolding origin_of
-returns-then-at-lt4 c = grind arith
+returns-in-Some c = grind arith
 
-pub returns : goal.returns
+pub returns-in-None : goal.returns-in-None
 unfolding origin_of
-returns c = grind arith
+returns-in-None c = grind arith

@@ -14,7 +14,7 @@ use Rattle.step_meets.specs.MeetContracts.{Meets, Known, Flagged}
 use Rattle.step_meets.proofs.SituationLaws.{fine-template, fine-tuple, fine-step, flagged-known, flagged_12, known_12}
 use Rattle.step_meets.proofs.DecideLaws.{refused-is, refuses_12, refuses_13, refuses_14, refuses_15, tested_13, tested_14, tested_15, loop-no-step}
 use Rattle.step_decide.proofs.decide.Goals as goal
-use Rattle.step_decide.proofs.decide.Goals.{After-is_loop, After-reads_ok, Else-has_locality-is_located, Else-is_create-found, Else-needs_table-found, Else-not-reads_ok, Start}
+use Rattle.step_decide.proofs.decide.Goals.{After-is_loop, After-reads_ok, Else-has_locality-is_none, Else-is_create-found, Else-needs_table-found, Else-not-reads_ok, Start}
 
 abbrev meant : Start → Rest → Situation
 meant s w = let a = s.args in situation (whole a.vars a.depth w) w.saved a.frame a.node a.content a.s
@@ -37,21 +37,21 @@ known c w flagged =
 twelve : (c : Else-not-reads_ok) (w : Rest) → Flagged w (flags_of c) → (n : Scene) → Meets (met c w) n → check12 n ≡ true
 twelve c w flagged n m = known_12 (met c w) n m (known c w flagged)
 
-thirteen : (c : Else-has_locality-is_located) (w : Rest) (n : Scene) → Meets (met c.before.before.before w) n → check13 n ≡ true
-thirteen c w n m = tested_13 (met c.before.before.before w) n m c.has_locality.ensures c.is_located.ensures ∙ ap not c.if-has_locality-is_located.false
+thirteen : (c : Else-has_locality-is_none) (w : Rest) (n : Scene) → Meets (met c.before.before.before.before w) n → check13 n ≡ true
+thirteen c w n m = tested_13 (met c.before.before.before.before w) n m c.is_none.result c.has_locality.ensures c.is_none.ensures ∙ ap not c.if-has_locality-is_none.false
 
-fourteen : (c : Else-needs_table-found) (w : Rest) (n : Scene) → Meets (met c.before.before.before.before.before w) n → check14 n ≡ true
-fourteen c w n m = tested_14 (met c.before.before.before.before.before w) n m c.needs_table.ensures ∙ ap not c.if-needs_table-found.false
+fourteen : (c : Else-needs_table-found) (w : Rest) (n : Scene) → Meets (met c.before.before.before.before.before.before w) n → check14 n ≡ true
+fourteen c w n m = tested_14 (met c.before.before.before.before.before.before w) n m c.needs_table.ensures ∙ ap not c.if-needs_table-found.false
 
 -- check 15, by the code's test
 create-there : (s : Situation) (n : Scene) → Meets s n → {p : Bool} → p ≡ is_create (kind_at s.node.kind) → check15 n ≡ not (p && s.found)
 create-there s n m e = tested_15 s n m ∙ ap (λ (b : Bool). not (b && s.found)) (kind-is s.node.kind 23 tt ∙ sym e)
 
-fifteen : (c : Else-is_create-found) (w : Rest) (n : Scene) → Meets (met c.before.before.before.before.before.before.before w) n → check15 n ≡ true
-fifteen c w n m = create-there (met c.before.before.before.before.before.before.before w) n m c.is_create.ensures ∙ ap not c.if-is_create-found.false
+fifteen : (c : Else-is_create-found) (w : Rest) (n : Scene) → Meets (met c.before.before.before.before.before.before.before.before w) n → check15 n ≡ true
+fifteen c w n m = create-there (met c.before.before.before.before.before.before.before.before w) n m c.is_create.ensures ∙ ap not c.if-is_create-found.false
 
 abbrev passed : After-is_loop → Else-not-reads_ok
-passed c = c.before.before.before.before.before.before.before.before
+passed c = c.before.before.before.before.before.before.before.before.before
 
 -- ── the answers ──
 
@@ -68,25 +68,25 @@ returns-then-not-reads_ok c w fine flagged source =
     refused-is (meant s w) s.args.source c.refuses.result Unbound c.refuses.ensures.0
     (λ n m. refuses_12 n (sym (flagged_12 (meant s w) s.args.bound flagged.bound c.reads_ok.ensures n m) ∙ c.if-not-reads_ok.true))
 
-pub returns-then-has_locality-is_located : goal.returns-then-has_locality-is_located
-returns-then-has_locality-is_located c w fine flagged source =
-    let p = c.before.before.before.before in
-    refused-is (met p w) (start c.before.before.before.before.before).args.source c.refuses-then-has_locality-is_located.result NoSite c.refuses-then-has_locality-is_located.ensures.0
-    (λ n m. refuses_13 n (twelve p w flagged n m) (tested_13 (met p w) n m c.has_locality.ensures c.is_located.ensures ∙ ap not c.if-has_locality-is_located.true))
+pub returns-then-has_locality-is_none : goal.returns-then-has_locality-is_none
+returns-then-has_locality-is_none c w fine flagged source =
+    let p = c.before.before.before.before.before in
+    refused-is (met p w) (start c.before.before.before.before.before.before).args.source c.refuses-then-has_locality-is_none.result NoSite c.refuses-then-has_locality-is_none.ensures.0
+    (λ n m. refuses_13 n (twelve p w flagged n m) (tested_13 (met p w) n m c.is_none.result c.has_locality.ensures c.is_none.ensures ∙ ap not c.if-has_locality-is_none.true))
 
 pub returns-then-needs_table-found : goal.returns-then-needs_table-found
 returns-then-needs_table-found c w fine flagged source =
     let q = c.before.before.before in
-    let p = c.before.before.before.before.before.before in
-    refused-is (met p w) (start c.before.before.before.before.before.before.before).args.source c.refuses-then-needs_table-found.result NoTable c.refuses-then-needs_table-found.ensures.0
+    let p = c.before.before.before.before.before.before.before in
+    refused-is (met p w) (start c.before.before.before.before.before.before.before.before).args.source c.refuses-then-needs_table-found.result NoTable c.refuses-then-needs_table-found.ensures.0
     (λ n m. refuses_14 n (twelve p w flagged n m) (thirteen q w n m) (tested_14 (met p w) n m c.needs_table.ensures ∙ ap not c.if-needs_table-found.true))
 
 pub returns-then-is_create-found : goal.returns-then-is_create-found
 returns-then-is_create-found c w fine flagged source =
     let r = c.before.before.before in
     let q = c.before.before.before.before.before in
-    let p = c.before.before.before.before.before.before.before.before in
-    refused-is (met p w) (start c.before.before.before.before.before.before.before.before.before).args.source c.refuses-then-is_create-found.result TableThere c.refuses-then-is_create-found.ensures.0
+    let p = c.before.before.before.before.before.before.before.before.before in
+    refused-is (met p w) (start c.before.before.before.before.before.before.before.before.before.before).args.source c.refuses-then-is_create-found.result TableThere c.refuses-then-is_create-found.ensures.0
     (λ n m. refuses_15 n (twelve p w flagged n m) (thirteen q w n m) (fourteen r w n m) (create-there (met p w) n m c.is_create.ensures ∙ ap not c.if-is_create-found.true))
 
 pub decide_loop-requires : goal.decide_loop-requires
@@ -120,7 +120,7 @@ returns c w fine flagged source =
     let t = c.before.before.before in
     let u = c.before.before.before.before.before in
     let q = c.before.before.before.before.before.before.before in
-    let p = c.before.before.before.before.before.before.before.before.before.before in
+    let p = c.before.before.before.before.before.before.before.before.before.before.before in
     record {
       at = λ n m. c.decide_step.ensures.0 w fine (known p w flagged) (source.source (known p w flagged)) n m (thirteen q w n m) (fourteen u w n m) (fifteen t w n m);
       known = λ h. known p w flagged;

@@ -1,7 +1,10 @@
 -- `step_decide::decide_loop` meets its contract: the round's answer is the step's, and a done one changes the threads as the step does. Assumes nothing.
 use Prim.Native.Nat.{◌<◌}
-use mathlib.Core.Path.{refl, ap, sym, ◌∙◌}
+use mathlib.Core.Path.{◌≡◌, refl, ap, sym, ◌∙◌}
 use mathlib.Core.Bool.{Bool, cond}
+use Rattle.std.specs.Prelude.{Option, None, Some, Ok}
+use Rattle.step_thread.specs.declared.Opened.{Opened}
+use Rattle.step_thread.specs.ThreadContracts.{RoundAnswer}
 use lib.Dec.{ltb}
 use borrow.Author.Tests.{ltb-true}
 use Rattle.nets.specs.Scenes.{Scene}
@@ -15,13 +18,17 @@ use Rattle.step_decide.proofs.decide_loop.Goals as goal
 use Rattle.step_decide.proofs.decide_loop.Goals.{After-round-r, Start}
 
 abbrev start : After-round-r → Start
-start r = r.before.before.before.before.before
+start r = r.before.before.before.before
 
 abbrev meant : Start → Rest → Situation
 meant s w = let a = s.args in situation (whole a.vars a.depth w) w.saved a.frame a.node a.content a.s
 
 abbrev met : After-round-r → Rest → Situation
 met r w = meant (start r) w
+
+-- what a round comes to, from its two patterns
+answered : {o : RoundAnswer} {u v : Option Opened} → o ≡ Ok u → u ≡ v → o ≡ Ok v
+answered h k = h ∙ ap Ok k
 
 round-at : (r : After-round-r) (w : Rest) → Known (met r w) → SourceIs (met r w) (start r).args.source → (n : Scene) → Meets (met r w) n → RoundAt (met r w) n r.round-r.result
 round-at r w known source n m =
@@ -39,7 +46,7 @@ round-at r w known source n m =
 
 pub round-r-requires : goal.round-r-requires
 round-r-requires c =
-    let s = c.before.before.before.before in
+    let s = c.before.before.before in
     let w = c.requires.1.rest in
     let f = c.requires.1.facts in
     (f.2.shaped, fine-template (meant s w) f.0, visits-there (meant s w) c.args.source f.2 f.0 c.requires.0)
@@ -52,29 +59,29 @@ pub returns-then-parallel : goal.returns-then-parallel
 returns-then-parallel c w fine known source n m =
     let r = c.before.before.before.before.before.before in
     let s = start r in
-    forks-at (met r w) s.args.source n c.round-r.result (round-at r w known source n m) fine.stacked w.long _ refl c.in-Opened.is c.is_run-saves.ensures c.node_of.ensures refl (λ b. refl) (sym c.is_parallel-parallel.ensures ∙ c.if-parallel.true) refl refl refl refl
+    forks-at (met r w) s.args.source n c.round-r.result (round-at r w known source n m) fine.stacked w.long _ refl c.in-Ok-Some.opened (answered c.in-Ok-Some.is (rw c.in-Ok-Some.is at c.in-Ok-Some.field-0-is)) c.is_run-saves.ensures c.node_of.ensures refl (λ b. refl) (sym c.is_parallel-parallel.ensures ∙ c.if-parallel.true) refl refl refl refl
 
 -- refused
-pub returns-in-Stopped : goal.returns-in-Stopped
-returns-in-Stopped c w fine known source n m =
+pub returns-in-Err : goal.returns-in-Err
+returns-in-Err c w fine known source n m =
     let r = c.before.before in
-    refused-at n (met r w) (start r).args.source c.refuses.result c.in-Stopped.why c.refuses.ensures.0 (round_stops (met r w) n c.round-r.result (round-at r w known source n m) c.in-Stopped.why c.in-Stopped.is)
+    refused-at n (met r w) (start r).args.source c.refuses.result c.in-Err.why c.refuses.ensures.0 (round_stops (met r w) n c.round-r.result (round-at r w known source n m) c.in-Err.why c.in-Err.is)
 
 -- over
-pub returns-in-Over : goal.returns-in-Over
-returns-in-Over c w fine known source n m =
+pub returns-in-Ok-None : goal.returns-in-Ok-None
+returns-in-Ok-None c w fine known source n m =
     let r = c.before.before in
     let s = start r in
     let o = c.onward in
-    over-at (met r w) s.args.source n c.round-r.result (round-at r w known source n m) fine.stacked w.long o.result o.ensures.0 c.in-Over.is o.ensures.1 o.ensures.2 o.ensures.3
+    over-at (met r w) s.args.source n c.round-r.result (round-at r w known source n m) fine.stacked w.long o.result o.ensures.0 (answered c.in-Ok-None.is (rw c.in-Ok-None.is at c.in-Ok-None.field-0-is)) o.ensures.1 o.ensures.2 o.ensures.3
 
 -- a round in the thread
 pub returns-else-parallel : goal.returns-else-parallel
 returns-else-parallel c w fine known source n m =
     let r = c.before.before.before.before.before.before in
     let s = start r in
-    let e = c.in-Opened.is in
+    let e = answered c.in-Ok-Some.is (rw c.in-Ok-Some.is at c.in-Ok-Some.field-0-is) in
     let deep : s.args.depth < 8 =
     ltb-true s.args.depth 8
     (sym (ap (λ (b : Bool). cond b (ltb s.args.s.threads 8) (ltb s.args.depth 8)) c.if-parallel.false) ∙ sym c.room_for_round-room.ensures ∙ round_room_lem c.round-r.ensures e) in
-    runs-at (met r w) s.args.source n c.round-r.result (round-at r w known source n m) fine.stacked w.long _ refl e c.is_run-saves.ensures c.node_of.ensures refl (λ b. refl) (sym c.is_parallel-parallel.ensures ∙ c.if-parallel.false) deep refl refl refl
+    runs-at (met r w) s.args.source n c.round-r.result (round-at r w known source n m) fine.stacked w.long _ refl c.in-Ok-Some.opened e c.is_run-saves.ensures c.node_of.ensures refl (λ b. refl) (sym c.is_parallel-parallel.ensures ∙ c.if-parallel.false) deep refl refl refl

@@ -5,6 +5,3 @@ use Rattle.step_loop.proofs.all_places.Given as goal
 
 abbrev pub invariant-loop-i : goal.invariant-loop-i
 invariant-loop-i l = Flagged (λ (k : ℕ). true) 16 l.i l.visit × (l.i ≤ l.n)
-
-abbrev pub decreases-loop-i : goal.decreases-loop-i
-decreases-loop-i l = l.n - l.i

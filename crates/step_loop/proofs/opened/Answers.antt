@@ -1,7 +1,6 @@
 -- `step_loop::opened` meets its contract: the row's flag is cleared, and T's formals bind to the row.
 use mathlib.Core.Path.{refl, ap, ◌∙◌}
 use native.Mathlib.Omega.{arith}
-use Rattle.values.specs.Operands.{vars_of}
 use Rattle.rows.specs.Matching.{row_vars}
 use Rattle.rows.specs.View.{operands_of}
 use Rattle.step_loop.proofs.MarkLaws.{marked_clear}
@@ -12,7 +11,6 @@ pub returns : goal.returns
 returns c =
     let a = c.args in
     record {
-      answer = refl;
       visit = marked_clear a.visit 0 a.row a.row (omega arith);
-      vars = c.bind_row-next.ensures ∙ ap (row_vars (vars_of a.vars) (operands_of a.template)) (row_at a.source c.requires.2 c.requires.3);
+      vars = c.bind_row.ensures ∙ ap (row_vars a.vars (operands_of a.template)) (row_at a.source c.requires.2 c.requires.3);
     }

@@ -7,7 +7,6 @@ use borrow.Author.Rules.{rules}
 use borrow.Author.Tests.{ltb-true}
 use lib.Dec.{ltb}
 use lib.ListN.{get_or}
-use Rattle.values.specs.Operands.{vars_of}
 use Rattle.rows.specs.Matching.{matches}
 use Rattle.rows.specs.View.{no_row, operands_of}
 use Rattle.rows.specs.Plans.{wants_met}
@@ -38,4 +37,4 @@ returns c i =
     (λ e.
     let h = ltb-true i r.count e in
     c.wants_of-wants.ensures.matching (get_or r.rows i no_row) (cells-long r _ c.well_formed.1.0 i (omega (arith, h, few)))
-    ∙ ap (matches (vars_of c.args.vars) (operands_of c.args.template)) (row_at r c.requires.2 h))
+    ∙ ap (matches c.args.vars (operands_of c.args.template)) (row_at r c.requires.2 h))

@@ -10,6 +10,3 @@ use Rattle.step_loop.proofs.ready_places.Given as goal
 abbrev pub invariant-loop-i : goal.invariant-loop-i
 invariant-loop-i l =
     Flagged (λ (k : ℕ). flag_at l.visit k && wants_met l.wants (get_or l.source.rows k no_row).cells) 16 l.i l.ready × (l.i ≤ l.source.count)
-
-abbrev pub decreases-loop-i : goal.decreases-loop-i
-decreases-loop-i l = l.source.count - l.i

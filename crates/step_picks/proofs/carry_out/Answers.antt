@@ -4,7 +4,7 @@ use Prim.Native.Nat.{ℕ, ◌+◌, ◌-◌, ◌*◌, ◌/◌, ◌%◌, ◌<◌, 
 use mathlib.Core.Path.{◌≡◌, refl, sym, ap, ap₂, subst, ◌∙◌}
 use mathlib.Core.Bool.{Bool, true, false, not, cond, ◌&&◌}
 use mathlib.Core.List.{List, [], ◌∷◌, ◌++◌, map}
-use mathlib.Core.Option.{some}
+use Rattle.std.specs.Prelude.{Some, Ok}
 use native.Mathlib.Omega.{arith}
 use borrow.Author.Rules.{rules}
 use borrow.Author.Tests.{ne_eqb, lt-ltb, ltb-true}
@@ -13,15 +13,14 @@ use lib.ListN.{length, get_or, set, length-set, length-map}
 use lib.Seq.{take_all, get_or-set_other}
 use Rattle.value_bytes.specs.Bytes.{put_at}
 use Rattle.values.specs.declared.Site.{Site}
-use Rattle.values.specs.Lists.{any}
+use Rattle.std.specs.List.{list_any}
 use Rattle.values.proofs.Arrays.{long}
 use Rattle.rows.specs.declared.Relation.{Relation}
 use Rattle.rows.specs.View.{relation_of}
 use Rattle.nets.specs.declared.Pick.{Pick}
 use Rattle.nets.specs.declared.Net.{Net}
-use Rattle.nets.specs.declared.Answer.{Answer}
-use Rattle.nets.specs.declared.Answer.TheVariants.{Done}
-use Rattle.nets.specs.declared.TableVariable.{TableVariable}
+use Rattle.nets.specs.Answers.{Answer}
+use Rattle.nets.specs.View.{TableVariable}
 use Rattle.nets.specs.declared.Saved.{Saved}
 use Rattle.nets.specs.declared.Table.{Table}
 use Rattle.nets.specs.declared.Thread.{Thread}
@@ -70,7 +69,7 @@ use Rattle.step_picks.proofs.AgreeTies.{sees_bound, agrees-below}
 use Rattle.step_picks.proofs.carry_out.Lts.View as View
 use Rattle.step_picks.proofs.Behind.{Sized, Behind, with_tables, with_threads, with_saved}
 use Rattle.step_picks.proofs.carry_out.Goals as goal
-use Rattle.step_picks.proofs.carry_out.Goals.{After-add_count-taken, After-binds_relation-binds, After-bound_tables-bound_flags, After-content_after-content_put, After-decide-decided, After-ends_round, After-find_table-at, After-forked, After-loop-gap-then-decided-eq0, After-loop-i, After-node_of-outer_number, After-pick_at-pick, After-place_or_first-slot, After-run_frame, After-shown-content, After-site_of-located, After-site_or_any-site, After-source_of-source, After-struct_known-in-loop-i-2-1, At-loop-i, Else-decided-eq0, Else-threadcount-thread_place, In-23, In-24, In-Done, In-loop-gap, In-loop-gap-then-decided-eq0, In-loop-hole, In-loop-level, Joined-binds, Joined-binds-2, Joined-decided, Joined-decided-depth, Joined-kind, Then-decided, Then-decided-depth, Then-decided-eq0, Then-ends_round, Then-puts_rows, Then-threadcount-thread_place, then-binds+else-loop-level-test, else-binds, then-binds-2, else-binds-2, in-23, in-24+else-loop-gap-test, in_default-kind+then-puts_rows, in_default-kind+else-puts_rows, then-decided, else-decided, then-decided-depth+then-ends_round, then-decided-depth+else-ends_round, else-decided-depth, then-hole-net, else-hole-net}
+use Rattle.step_picks.proofs.carry_out.Goals.{After-add_count-taken, After-binds_relation-binds, After-bound_tables-bound_flags, After-content_after-content_put, After-decide-decided, After-ends_round, After-find_table-at, After-forked, After-loop-gap-then-decided-eq0, After-loop-i, After-node_of-outer_number, After-pick_at-pick, After-place_or_first-slot, After-run_frame, After-shown-content, After-site_of-located, After-site_or_any-site, After-source_of-source, After-struct_known-in-loop-i-2-1, At-loop-i, Else-decided-eq0, Else-threadcount-thread_place, In-23, In-24, In-Ok, In-loop-gap, In-loop-gap-then-decided-eq0, In-loop-hole, In-loop-level, Joined-binds, Joined-binds-2, Joined-decided, Joined-decided-depth, Joined-kind, Then-decided, Then-decided-depth, Then-decided-eq0, Then-ends_round, Then-puts_rows, Then-threadcount-thread_place, then-binds+else-loop-level-test, else-binds, then-binds-2, else-binds-2, in-23, in-24+else-loop-gap-test, in_default-kind+then-puts_rows, in_default-kind+else-puts_rows, then-decided, else-decided, then-decided-depth+then-ends_round, then-decided-depth+else-ends_round, else-decided-depth, then-hole-net, else-hole-net}
 
 -- ── invariants ──
 
@@ -181,17 +180,10 @@ more e {n} {x} {u} {v} {out} t o z =
       sized = z;
     }
 
--- fewer picks are left
-less : {i next n : ℕ} → i < n → i < next → n - next < n - i
-less h k = omega (arith, h, k)
-
 -- ── no such thread ──
 
 pub put_answer_at-requires : goal.put_answer_at-requires
 put_answer_at-requires c = within (goal.at.put_answer_at-requires c).After-pick_at-pick
-
-pub loop-i-smaller-then-threadcount-thread_place : goal.loop-i-smaller-then-threadcount-thread_place
-loop-i-smaller-then-threadcount-thread_place c = less c.loop-i-test.true (omega arith)
 
 pub loop-i-preserved-then-threadcount-thread_place : goal.loop-i-preserved-then-threadcount-thread_place
 loop-i-preserved-then-threadcount-thread_place c =
@@ -272,12 +264,6 @@ offset_bounds-thread-level c = record { fits = let h = frame-few c in omega (ari
 pub bounds-thread-level : goal.bounds-thread-level
 bounds-thread-level c = frame-few c
 
-pub overflow_add-level : goal.overflow_add-level
-overflow_add-level c = record { fits = let h = frame-few (goal.at.overflow_add-level c).In-loop-level in omega (arith, h) }
-
-pub loop-level-smaller-in-Run : goal.loop-level-smaller-in-Run
-loop-level-smaller-in-Run c = let h = c.loop-level-test.true in omega (arith, h)
-
 pub loop-level-preserved-in-Run : goal.loop-level-preserved-in-Run
 loop-level-preserved-in-Run c =
     let i = (goal.at.loop-level-preserved-in-Run c).In-loop-level in
@@ -299,9 +285,6 @@ bounds-net-n c =
     let e = there_of (goal.at.bounds-net-n c).After-binds_relation-binds in
     omega (arith, node-there i c.in-Loop.is, few-nodes (net_of e) (okay e))
 
-pub loop-level-smaller : goal.loop-level-smaller
-loop-level-smaller c = let h = c.loop-level-test.true in omega (arith, h)
-
 pub loop-level-preserved : goal.loop-level-preserved
 loop-level-preserved c =
     let i = (goal.at.loop-level-preserved c).In-loop-level in
@@ -321,7 +304,7 @@ held_at :
     (j : Held) →
     T (binds_relation (kind_at (node_read (net_of (there_of (binds_of j))) (number_at (binds_of j))).kind)) →
     j.if-binds.held
-    ≡ any (holds (nodes_of (net_of (there_of (binds_of j))).nodecount (net_of (there_of (binds_of j))).nodes) (node_read (net_of (there_of (binds_of j))) (number_at (binds_of j))).bound)
+    ≡ list_any (holds (nodes_of (net_of (there_of (binds_of j))).nodecount (net_of (there_of (binds_of j))).nodes) (node_read (net_of (there_of (binds_of j))) (number_at (binds_of j))).bound)
     (thread_seen (net_of (there_of (binds_of j))) (pick_at (there_of (binds_of j))).thread).stack
 held_at j h =
     let e = there_of (binds_of j) in
@@ -331,7 +314,7 @@ held_at j h =
       | then-binds+else-loop-level-test w ↦
           let same : w.loop-level.level ≡ t.depth = omega (arith, w.loop-level.invariant.0, w.loop-level-test.false) in
           w.held-is
-          ∙ subst (λ (q : ℕ). w.loop-level.held ≡ any (holds (nodes_of n.nodecount n.nodes) (node_read n (number_at (binds_of j))).bound) (stack_of (saved_in n (pick_at e).thread) q t.stack)) same w.loop-level.invariant.1
+          ∙ subst (λ (q : ℕ). w.loop-level.held ≡ list_any (holds (nodes_of n.nodecount n.nodes) (node_read n (number_at (binds_of j))).bound) (stack_of (saved_in n (pick_at e).thread) q t.stack)) same w.loop-level.invariant.1
       | else-binds w ↦ absurd (subst T (sym j.binds_relation-binds.ensures ∙ w.if-binds.false) h)
     ]
 
@@ -450,9 +433,6 @@ put_answer_at-requires-in-loop-i c = within (picked_in (goal.at.put_answer_at-re
 
 -- ── refused ──
 
-pub loop-i-smaller-in_default : goal.loop-i-smaller-in_default
-loop-i-smaller-in_default c = less (picked_in (goal.at.loop-i-smaller-in_default c).After-decide-decided).loop-i-test.true (omega arith)
-
 pub loop-i-preserved-in_default : goal.loop-i-preserved-in_default
 loop-i-preserved-in_default c =
     let o = (goal.at.loop-i-preserved-in_default c).After-decide-decided in
@@ -466,7 +446,7 @@ loop-i-preserved-in_default c =
 -- ── a done step ──
 
 abbrev Told : Type 0
-Told = In-Done
+Told = In-Ok
 
 abbrev decides_in : Told → Decides
 decides_in c = (goal.at.add_count-added-requires c).After-decide-decided
@@ -474,8 +454,8 @@ decides_in c = (goal.at.add_count-added-requires c).After-decide-decided
 abbrev shown_in : Told → Shown
 shown_in c = shown_of (decides_in c)
 
-says-done : (c : Told) → (decides_in c).decide-decided.result.answer ≡ Done c.in-Done.rows_added c.in-Done.rows_taken
-says-done c = c.in-Done.is
+says-done : (c : Told) → (decides_in c).decide-decided.result.answer ≡ Ok c.in-Ok.done
+says-done c = c.in-Ok.is
 
 does : (c : Told) → T (is_doing (said_of (decides_in c).decide-decided.result.answer))
 does c = subst (λ (x : Answer). T (is_doing (said_of x))) (sym (says-done c)) tt
@@ -494,7 +474,7 @@ pub add_count-added-requires : goal.add_count-added-requires
 add_count-added-requires c = (room c).0
 
 pub add_count-taken-requires : goal.add_count-taken-requires
-add_count-taken-requires c = (room (goal.at.add_count-taken-requires c).In-Done).1
+add_count-taken-requires c = (room (goal.at.add_count-taken-requires c).In-Ok).1
 
 -- what the functions that make tables and relations ask
 ready : (c : Told) → StepReady (situation_at (shown_in c)).node (situation_at (shown_in c)).content (source_of (decides_in c)) (situation_at (shown_in c)).thread.vars
@@ -510,7 +490,7 @@ abbrev Runs : Type 0
 Runs = After-run_frame
 
 abbrev told_of : Runs → Told
-told_of c = (goal.at.offset_bounds-thread-above c).In-Done
+told_of c = (goal.at.offset_bounds-thread-above c).In-Ok
 
 stacked : (c : Told) → Stacked (situation_at (shown_in c)).thread
 stacked c = (fine (shown_in c)).stacked
@@ -585,7 +565,7 @@ abbrev BoundIs : Moved → Type 0
 BoundIs j =
     map variable_of j.if-binds-2.thread.relations
     ≡ cond (binds_relation (kind_at (situation_by j).node.kind))
-    (set (map variable_of (situation_by j).thread.relations) (situation_by j).node.bound (some (bound_by (kind_at (situation_by j).node.kind) (parts_in (situation_by j) (source_of (decides_by j))))))
+    (set (map variable_of (situation_by j).thread.relations) (situation_by j).node.bound (Some (bound_by (kind_at (situation_by j).node.kind) (parts_in (situation_by j) (source_of (decides_by j))))))
     (map variable_of (situation_by j).thread.relations)
 
 bound-is : (j : Moved) → BoundIs j
@@ -679,9 +659,6 @@ offset_bounds-net-gap c = record { fits = let h = moves-table (goal.at.offset_bo
 
 pub bounds-net-gap : goal.bounds-net-gap
 bounds-net-gap c = let h = moves-table (goal.at.bounds-net-gap c).In-loop-gap in omega (arith, h)
-
-pub loop-gap-smaller : goal.loop-gap-smaller
-loop-gap-smaller c = let h = c.loop-gap-test.true in omega (arith, h)
 
 pub loop-gap-preserved : goal.loop-gap-preserved
 loop-gap-preserved c =
@@ -842,7 +819,7 @@ again :
     (from_of (at_of (picked_of (there_by (moved_of c))))) (moved_of c).put_answer_at-in-loop-i.new.out
     (record {
       net = n;
-      answer = Done (told_by (moved_of c)).in-Done.rows_added (told_by (moved_of c)).in-Done.rows_taken;
+      answer = Ok (told_by (moved_of c)).in-Ok.done;
       added = (summed (moved_of c)).add_count-added.result;
       taken = (summed (moved_of c)).add_count-taken.result;
     })
@@ -1327,9 +1304,6 @@ offset_bounds-net-gap-in-loop-gap-then-decided-eq0 c = record { fits = let h = m
 pub bounds-net-gap-in-loop-gap-then-decided-eq0 : goal.bounds-net-gap-in-loop-gap-then-decided-eq0
 bounds-net-gap-in-loop-gap-then-decided-eq0 c = let h = moves-thread (goal.at.bounds-net-gap-in-loop-gap-then-decided-eq0 c).In-loop-gap-then-decided-eq0 in omega (arith, h)
 
-pub loop-gap-then-decided-eq0-smaller : goal.loop-gap-then-decided-eq0-smaller
-loop-gap-then-decided-eq0-smaller c = let h = c.loop-gap-then-decided-eq0-test.true in omega (arith, h)
-
 pub loop-gap-then-decided-eq0-preserved : goal.loop-gap-then-decided-eq0-preserved
 loop-gap-then-decided-eq0-preserved c =
     let i = (goal.at.loop-gap-then-decided-eq0-preserved c).In-loop-gap-then-decided-eq0 in
@@ -1354,8 +1328,8 @@ last-low c = let h = few-running (tabled_of (carried_of c)) in omega (arith, h)
 pub overflow_mul-end : goal.overflow_mul-end
 overflow_mul-end c = record { fits = let h = last-low c in omega (arith, h) }
 
-pub overflow_mul-hole : goal.overflow_mul-hole
-overflow_mul-hole c = record { fits = let h = thread-low (tabled_of (carried_of c)) in omega (arith, h) }
+pub overflow_mul-first : goal.overflow_mul-first
+overflow_mul-first c = record { fits = let h = thread-low (tabled_of (carried_of c)) in omega (arith, h) }
 
 pub loop-hole-init : goal.loop-hole-init
 loop-hole-init c =
@@ -1394,12 +1368,6 @@ offset_bounds-net-hole-then-hole-net c = record { fits = let h = hole-low (goal.
 
 pub bounds-net-hole-then-hole-net : goal.bounds-net-hole-then-hole-net
 bounds-net-hole-then-hole-net c = let h = hole-low (goal.at.bounds-net-hole-then-hole-net c).In-loop-hole in omega (arith, h)
-
-pub overflow_add-hole : goal.overflow_add-hole
-overflow_add-hole c = record { fits = let h = hole-low (goal.at.overflow_add-hole c).In-loop-hole in omega (arith, h) }
-
-pub loop-hole-smaller : goal.loop-hole-smaller
-loop-hole-smaller c = let h = c.loop-hole-test.true in omega (arith, h)
 
 -- what is saved, before any of it moves
 closed-long : (c : Closed) → length c.loop-gap-then-decided-eq0.net.saved ≡ 64
@@ -1444,9 +1412,6 @@ loop-hole-preserved c =
             omega (arith, h),
           )
     ]
-
-pub loop-i-smaller-then-decided-eq0 : goal.loop-i-smaller-then-decided-eq0
-loop-i-smaller-then-decided-eq0 c = less (picked_of (there_by (moved_of (tabled_of (carried_of (goal.at.loop-i-smaller-then-decided-eq0 c).After-loop-gap-then-decided-eq0))))).loop-i-test.true (omega arith)
 
 pub loop-i-preserved-then-decided-eq0 : goal.loop-i-preserved-then-decided-eq0
 loop-i-preserved-then-decided-eq0 c =
@@ -1505,9 +1470,6 @@ put-net b hs k =
     ap (λ (n : Net). net_with n n.tables n.tablecount (hs n.threads) k q.if-decided.net.saved) (holds-5 q).rest
     ∙ ap (λ (n : Net). net_with n t.match-kind.net.tables t.match-kind.net.tablecount (hs n.threads) k q.if-decided.net.saved) (left t).stored.rest
 
-pub loop-i-smaller : goal.loop-i-smaller
-loop-i-smaller c = less (picked_of (there_by (moved_of (tabled_in (goal.at.loop-i-smaller c).Else-decided-eq0)))).loop-i-test.true (omega arith)
-
 pub loop-i-preserved : goal.loop-i-preserved
 loop-i-preserved c =
     let b = backs_in (goal.at.loop-i-preserved c).Else-decided-eq0 in
@@ -1547,9 +1509,6 @@ bounds-net-threadcount c = let h = fork-few c in omega (arith, h)
 
 pub overflow_add-net-then-decided-2 : goal.overflow_add-net-then-decided-2
 overflow_add-net-then-decided-2 c = record { fits = let h = fork-few c in omega (arith, h) }
-
-pub loop-i-smaller-then-decided-2 : goal.loop-i-smaller-then-decided-2
-loop-i-smaller-then-decided-2 c = less (picked_of (there_by (moved_of (tabled_in (stays_of c))))).loop-i-test.true (omega arith)
 
 pub loop-i-preserved-then-decided-2 : goal.loop-i-preserved-then-decided-2
 loop-i-preserved-then-decided-2 c =

@@ -1,6 +1,6 @@
 use Prim.Native.Nat.{◌-◌, ◌≤◌}
 use mathlib.Core.Path.{◌≡◌}
-use Rattle.values.specs.Lists.{any}
+use Rattle.std.specs.List.{list_any}
 use Rattle.nets.specs.Steps.{holds}
 use Rattle.nets.specs.View.{no_table, no_thread, nodes_of, stack_of, saved_at}
 use Rattle.values.proofs.RemoveLaws.{Closing}
@@ -11,38 +11,23 @@ use Rattle.step_picks.proofs.carry_out.Given as goal
 -- of the frames below `level` one holds the table variable
 abbrev pub invariant-loop-level : goal.invariant-loop-level
 invariant-loop-level l =
-    (l.level ≤ l.depth) × (l.held ≡ any (holds (nodes_of l.net.nodecount l.net.nodes) l.node.bound) (stack_of (saved_at (nodes_of l.net.nodecount l.net.nodes) l.net.saved l.thread_place l.thread) l.level l.thread.stack))
-
-abbrev pub decreases-loop-level : goal.decreases-loop-level
-decreases-loop-level l = l.depth - l.level
+    (l.level ≤ l.depth) × (l.held ≡ list_any (holds (nodes_of l.net.nodecount l.net.nodes) l.node.bound) (stack_of (saved_at (nodes_of l.net.nodecount l.net.nodes) l.net.saved l.thread_place l.thread) l.level l.thread.stack))
 
 -- the tables behind the one removed have moved, up to `gap`
 abbrev pub invariant-loop-gap : goal.invariant-loop-gap
 invariant-loop-gap l =
     (l.gap ≤ l.last) × Closing no_table l.initial.net.tables l.at l.gap l.net.tables × (l.net ≡ with_tables l.initial.net l.net.tables)
 
-abbrev pub decreases-loop-gap : goal.decreases-loop-gap
-decreases-loop-gap l = l.last - l.gap
-
 -- the threads behind the one removed have moved, up to `gap`
 abbrev pub invariant-loop-gap-then-decided-eq0 : goal.invariant-loop-gap-then-decided-eq0
 invariant-loop-gap-then-decided-eq0 l =
     (l.gap ≤ l.last) × Closing no_thread l.initial.net.threads l.thread_place l.gap l.net.threads × (l.net ≡ with_threads l.initial.net l.net.threads)
-
-abbrev pub decreases-loop-gap-then-decided-eq0 : goal.decreases-loop-gap-then-decided-eq0
-decreases-loop-gap-then-decided-eq0 l = l.last - l.gap
 
 -- what is saved for the threads behind it has moved, up to `hole`
 abbrev pub invariant-loop-hole : goal.invariant-loop-hole
 invariant-loop-hole l =
     Shifting l.initial.net.threads l.initial.net.saved l.thread_place l.hole l.net.saved × (l.net ≡ with_saved l.initial.net l.net.saved) × (l.hole ≤ l.end)
 
-abbrev pub decreases-loop-hole : goal.decreases-loop-hole
-decreases-loop-hole l = l.end - l.hole
-
 abbrev pub invariant-loop-i : goal.invariant-loop-i
 invariant-loop-i l =
     Behind l.picks l.initial.out l.count l.room l.initial.net l.out (record { net = l.net; answer = l.answer; added = l.added; taken = l.taken }) l.i
-
-abbrev pub decreases-loop-i : goal.decreases-loop-i
-decreases-loop-i l = l.count - l.i

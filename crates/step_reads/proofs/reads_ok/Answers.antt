@@ -1,24 +1,21 @@
--- `step_reads::reads_ok` meets its contract: twelve operands and the table variable. Assumes nothing.
+-- `step_reads::reads_ok` meets its contract: L and T', T, the predicate, t, and the table variable. Assumes nothing.
 use Prim.Native.Nat.{ℕ, ◌≤◌}
-use mathlib.Core.Path.{subst, sym}
-use lib.ListN.{length}
-use Rattle.values.specs.Operands.{vars_of}
-use Rattle.values.proofs.Firsts.{length-firsts}
-use Rattle.rows.specs.declared.Field.{Field}
-use Rattle.rows.specs.declared.Operands.{Operands}
-use Rattle.rows.specs.View.{no_field, operands_of}
+use mathlib.Core.Path.{◌≡◌}
+use native.Mathlib.Omega.{arith}
+use borrow.Author.Rules.{rules}
+use Rattle.values.proofs.Arrays.{long}
 use Rattle.nets.specs.Steps.{is_bound}
 use Rattle.nets.specs.View.{node_of}
 use Rattle.step_reads.specs.ReadContracts.{flag_at}
-use Rattle.step_reads.proofs.ReadingLaws.{reads_ok_lem}
+use Rattle.step_reads.proofs.ReadingLaws.{operands_taken, reads_are}
 use Rattle.step_reads.proofs.reads_ok.Goals as goal
 
-few : (t : Operands) → t.count ≤ 4 → length (operands_of t) ≤ 4
-few t h = subst (λ (n : ℕ). n ≤ 4) (sym (length-firsts (λ (f : Field). f.operand) no_field t.count t.fields)) h
+few : {m n : ℕ} → n ≡ 4 → m ≤ 4 → m ≤ n
+few e h = omega arith
 
 pub returns : goal.returns
 returns c =
-    reads_ok_lem (is_bound (vars_of c.args.vars)) (flag_at c.args.tables) (node_of c.args.node) (few c.args.node.selector.template c.requires.0.count) (few c.args.node.tuple c.requires.1.count)
-    c.field_in.ensures c.field_in-2.ensures c.field_in-3.ensures c.field_in-4.ensures
-    c.field_in-5.ensures c.field_in-6.ensures c.field_in-7.ensures c.field_in-8.ensures
-    c.all_known.ensures c.reads_relation.ensures c.bound_table_in.ensures
+    let n = c.args.node in
+    reads_are (is_bound c.args.vars) (flag_at c.args.tables) (node_of n)
+    (operands_taken n.selector.template (few (search (long, rules)) c.requires.0.count)) (operands_taken n.tuple (few (search (long, rules)) c.requires.1.count))
+    c.all_known.ensures c.all_known-2.ensures c.all_known_or_formal.ensures c.all_known_or_formal-2.ensures c.reads_relation.ensures c.flag_in.ensures

@@ -6,7 +6,7 @@ use mathlib.Core.List.{List}
 use mathlib.Core.Logic.{◌⊎◌, inl, inr}
 use lib.Dec.{T}
 use Rattle.values.proofs.Bools.{T_of}
-use Rattle.values.specs.declared.Slot.{Slot}
+use Rattle.values.specs.Operands.{Got}
 use Rattle.rows.specs.declared.Relation as Code
 use Rattle.nets.specs.declared.Node.{Node}
 use Rattle.nets.specs.Nets.{has_test, is_select}
@@ -16,7 +16,7 @@ use Rattle.step_effect.specs.declared.Judged.{Judged}
 use Rattle.step_effect.specs.EffectContracts.{JudgeReady, JudgedIs}
 use Rattle.step_rows.proofs.judged.Goals as goal
 
-module _ (d : Node) (q : Code.Relation) (vs : List Slot) (j : Judged) (ready : JudgeReady d q) (same : j.columns ≡ q.columns) (none : has_test (kind_at d.kind) ≡ false) where
+module _ (d : Node) (q : Code.Relation) (vs : List Got) (j : Judged) (ready : JudgeReady d q) (same : j.columns ≡ q.columns) (none : has_test (kind_at d.kind) ≡ false) where
   -- no kind with a predicate
   not_tested : {A : Type 0} → has_test (kind_at d.kind) ≡ true → A
   not_tested e = absurd (subst T (sym e ∙ none) tt)

@@ -4,7 +4,7 @@ use mathlib.Core.Path.{◌≡◌, sym, ap, subst, ◌∙◌}
 use native.Mathlib.Omega.{arith}
 use lib.Dec.{T}
 use lib.ListN.{length}
-use Rattle.values.specs.declared.Got.TheVariants.{Nothing}
+use Rattle.std.specs.Prelude.{None}
 use Rattle.values.proofs.Arrays.{long}
 use Rattle.rows.specs.View.{columns_of}
 use Rattle.nets.specs.Nets.{is_aggregate}
@@ -62,5 +62,5 @@ returns-else-is_aggregate c =
     let all-rows : Long a.node a.source → c.if-template-source.n ≡ a.source.count =
     λ l. elim c.if-template-source.branch [ then-template-source w ↦ w.n-is | else-template-source w ↦ absurd (w.if-template-source.false l) ] in
     judged-is a.node a.source a.vars vars-long c.requires c.well_formed.1.0 shape c.plan_of-plan.result c.plan_of-plan.ensures c.terms_of-terms.result
-    c.terms_of-terms.ensures.0 c.terms_of-terms.ensures.1 all-rows c.is_select-select.ensures c.is_update.ensures c.swept-s.result c.swept-s.ensures Nothing
+    c.terms_of-terms.ensures.0 c.terms_of-terms.ensures.1 all-rows c.is_select-select.ensures c.is_update.ensures c.swept-s.result c.swept-s.ensures None
     (λ k. absurd (subst T (ap (λ (b : ℕ). is_aggregate (kind_at b)) (sym k) ∙ sym c.is_aggregate.ensures ∙ c.if-is_aggregate.false) tt))

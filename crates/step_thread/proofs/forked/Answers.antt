@@ -14,10 +14,10 @@ use Rattle.step_thread.proofs.forked.Goals as goal
 pub returns : goal.returns
 returns c =
     let t = c.args.t in
-    let f = c.run_frame-f.result in
+    let f = c.run_frame.result in
     let n : length t.stack ≡ 8 = search (long, rules) in (
       λ bs.
           ap (λ (s : List M.Entry). record { site = t.site; bindings = bindings_of c.args.vars t.relations; stack = s })
-          (stack_push bs 0 t.stack f (omega (arith, n)) ∙ ap (λ (e : Entry). entry_with (bs 0) f.visit e ∷ []) c.run_frame-f.ensures),
+          (stack_push bs 0 t.stack f (omega (arith, n)) ∙ ap (λ (e : Entry). entry_with (bs 0) f.visit e ∷ []) c.run_frame.ensures),
       refl,
     )

@@ -4,14 +4,15 @@ use mathlib.Core.Path.{◌≡◌, sym, ◌∙◌}
 use mathlib.Core.Bool.{Bool, true, false}
 use mathlib.Core.List.{List}
 use lib.Dec.{T}
-use Rattle.values.specs.Lists.{all}
+use Rattle.std.specs.List.{list_all}
 use Rattle.values.proofs.Bools.{T_of}
 use Rattle.nets.specs.declared.Net.{Net}
 use Rattle.nets.specs.Nets as M
 use Rattle.nets.specs.Sound.{table_ok, sound}
 use Rattle.nets.specs.View.{tables_of, view}
 use Rattle.nets.proofs.ShapeLaws.{tables_of_lem, few-tables, tables-ok}
-use Rattle.files.specs.declared.Written.{Written}
+use Rattle.std.specs.Prelude.{Result}
+use Rattle.files.specs.declared.NotWritten.{NotWritten}
 use Rattle.files.specs.Writing.{not_written, refusing, write, written, written_answer, buffer_after}
 use Rattle.files.specs.Engine.{said_written}
 use Rattle.write.specs.WriteCall.{if_room}
@@ -29,10 +30,10 @@ module _ (net : Net) (b : Bool) (e : b ≡ sound (view net)) where
   few : b ≡ true → net.tablecount ≤ 8
   few h = few-tables net (T_of (sound (view net)) (sym e ∙ h))
 
-  ranged : b ≡ true → T (all table_ok (tables_of net.tablecount net.tables))
+  ranged : b ≡ true → T (list_all table_ok (tables_of net.tablecount net.tables))
   ranged h = tables-ok net (T_of (sound (view net)) (sym e ∙ h))
 
-  sound-answer : (o : List ℕ) (r : Written) → b ≡ true → said_written r ≡ written_answer (if_room (written (tables_of net.tablecount net.tables)) o) → said_written r ≡ written_answer (write (view net) o)
+  sound-answer : (o : List ℕ) (r : Result ℕ NotWritten) → b ≡ true → said_written r ≡ written_answer (if_room (written (tables_of net.tablecount net.tables)) o) → said_written r ≡ written_answer (write (view net) o)
   sound-answer o r h k = rw (write-sound (view net) o (sym e ∙ h), tables_of_lem net) k
 
   sound-buffer : (o out : List ℕ) → b ≡ true → out ≡ buffer_after o (if_room (written (tables_of net.tablecount net.tables)) o) → out ≡ buffer_after o (write (view net) o)
@@ -47,8 +48,8 @@ module _ (net : Net) (b : Bool) (e : b ≡ sound (view net)) where
 pub write_tables-requires : goal.write_tables-requires
 write_tables-requires c = (search few, search ranged)
 
-pub returns-then-sound_net : goal.returns-then-sound_net
-returns-then-sound_net c = record { answer = search sound-answer; buffer = search sound-buffer }
+pub returns-then-not-sound_net : goal.returns-then-not-sound_net
+returns-then-not-sound_net c = record { answer = search unsound-answer; buffer = search unsound-buffer }
 
 pub returns : goal.returns
-returns c = record { answer = search unsound-answer; buffer = search unsound-buffer }
+returns c = record { answer = search sound-answer; buffer = search sound-buffer }

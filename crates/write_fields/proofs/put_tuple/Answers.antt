@@ -1,6 +1,6 @@
 -- `write_fields::put_tuple` meets its contract: the operands of the cells passed, then zeros.
 use Prim.Native.Nat.{ℕ, ◌+◌, ◌-◌, ◌*◌, ◌≤◌}
-use mathlib.Core.Path.{◌≡◌}
+use mathlib.Core.Path.{◌≡◌, ◌∙◌}
 use mathlib.Core.List.{List, ◌++◌}
 use lib.ListN.{get_or, drop, replicate}
 use native.Mathlib.Omega.{arith}
@@ -14,7 +14,7 @@ use Rattle.value_bytes.proofs.Stores.{kept-length, drop-replicate, ends_more}
 use Rattle.write_fields.proofs.WriteLaws.{cell_bytes, cell-length, tuple_is}
 use Rattle.write_fields.proofs.put_tuple.Goals as goal
 
-one_more : (r : Row) (i : ℕ) (o out ys : List ℕ) → out ≡ end_to_end (firsts cell_bytes no_cell i r.cells) ++ drop (i * 8) o → ys ≡ operand_bytes (get_or r.cells i no_cell).value →
+one_more : (r : Row) (i : ℕ) (o out ys : List ℕ) → out ≡ end_to_end (firsts cell_bytes no_cell i r.cells) ++ drop (i * 8) o → ys ≡ operand_bytes (get_or r.cells i no_cell) →
     put_mid (i * 8) (i * 8 + 8 - i * 8) out ys ≡ end_to_end (firsts cell_bytes no_cell (i + 1) r.cells) ++ drop ((i + 1) * 8) o
 one_more r i o out ys e q = ends_more cell_bytes no_cell 8 cell-length r.cells i o out ys e q
 
@@ -24,7 +24,7 @@ ended r n i o out small a b z e =
     rw (e, z, drop-replicate, tuple_is n r small, q)
 
 pub loop-i-preserved : goal.loop-i-preserved
-loop-i-preserved c = record { within = omega arith; few = omega arith; full = search kept-length; cleared = c.loop-i.invariant.cleared; filled = search one_more }
+loop-i-preserved c = record { within = omega arith; few = omega arith; full = search kept-length; cleared = c.loop-i.invariant.cleared; filled = one_more c.args.row c.loop-i.i _ _ _ c.loop-i.invariant.filled (c.copy_from_slice.ensures.after ∙ c.operand_of.ensures) }
 
 pub returns : goal.returns
 returns c = search ended

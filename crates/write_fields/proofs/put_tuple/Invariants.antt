@@ -17,6 +17,3 @@ invariant-loop-i l =
       cleared : l.initial.out ≡ replicate 32 0;
       filled : l.out ≡ end_to_end (firsts cell_bytes no_cell l.i l.row.cells) ++ drop (l.i * 8) l.initial.out;
     }
-
-abbrev pub decreases-loop-i : goal.decreases-loop-i
-decreases-loop-i l = l.columns - l.i

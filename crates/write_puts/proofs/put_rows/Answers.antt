@@ -28,10 +28,7 @@ ended s m r i o out a b l e =
     ∙ ap end_to_end (sym (map-firsts (row_bytes s m) (values_of r.columns) no_row r.count r.rows))
 
 pub loop-i-preserved : goal.loop-i-preserved
-loop-i-preserved c = record { within = omega arith; all_rows = c.loop-i.invariant.all_rows; full = search kept-length; filled = search one_more }
+loop-i-preserved c = record { within = omega arith; full = search kept-length; filled = search one_more }
 
 pub returns : goal.returns
-returns c =
-    let h : c.args.content.count ≤ c.loop-i.i = omega (arith, c.loop-i.invariant.all_rows) in
-    let k : c.loop-i.i ≤ c.args.content.count = omega (arith, c.loop-i.invariant.all_rows) in
-    search ended
+returns c = search ended

@@ -14,20 +14,49 @@ use Rattle.nets.specs.Sound.{sound}
 use Rattle.nets.specs.Accounts.{after}
 use Rattle.nets.specs.View.{tables_of, view}
 use Rattle.nets.proofs.ShapeLaws.{tables_of_lem, few-tables, tables-ok}
-use Rattle.page_rules.specs.Pages.{PageOutcome, no_page, a_page, page_for, page, page_answer, buffer_after}
+use Rattle.page_rules.specs.Pages.{PageOutcome, no_page, a_page, page_for, page, PageAnswer, page_refused, page_length, page_answer, buffer_after}
 use Rattle.page_lines.proofs.OutcomeLaws.{by_sound}
-use Rattle.page.specs.declared.Paged.{Paged}
+use Rattle.std.specs.Prelude.{Result, Ok, Err}
+use Rattle.std.specs.Result.{MatchResult, IsErrAnd}
+use Rattle.std.proofs.lemmas.Result.{err_from_is_err_and}
+use lib.ListN.{get_or}
+use Rattle.page.specs.declared.NotPaged.{NotPaged}
+use Rattle.page.specs.declared.NotPaged.TheVariants.{Unsound, NoTable, Short}
+use Rattle.call_each.specs.PageRefusals.{refused_page}
 use Rattle.page.specs.PageCall.{answer_of}
-use Rattle.call_rules.specs.declared.Reply.{Reply}
+use Rattle.call_rules.specs.declared.Refused.{Refused}
 use Rattle.call_rules.specs.TablePages.{page_reply, paged}
-use Rattle.call_rules.specs.Openings.{answer_reply}
-use Rattle.call_rules.specs.Calls.{Gives}
+use Rattle.call_rules.specs.Openings.{number_told, place_told, Told}
 use Rattle.call_each.proofs.table_page.page_left.Goals as goal
 
--- number, place and buffer of an outcome
-gives-outcome : (p : PageOutcome) (o : List ℕ) → Gives (page_reply p) o (buffer_after o p) (answer_reply (page_answer p)).number (answer_reply (page_answer p)).place
-gives-outcome (no_page n vs) o = record { number = refl; place = refl; buffer = refl }
-gives-outcome (a_page bs) o = record { number = refl; place = refl; buffer = refl }
+-- what is told of a page's answer
+abbrev reply_of : Result ℕ NotPaged → Result ℕ Refused
+reply_of (Ok n) = Ok n
+reply_of (Err why) = Err (refused_page why)
+
+abbrev number_for : PageAnswer → ℕ
+number_for (page_refused n vs) = n
+number_for (page_length n) = 0
+
+abbrev place_for : PageAnswer → ℕ
+place_for (page_refused n vs) = get_or vs 0 0
+place_for (page_length n) = n
+
+number-is : (r : Result ℕ NotPaged) → number_told (reply_of r) ≡ number_for (answer_of r)
+number-is (Ok n) = refl
+number-is (Err Unsound) = refl
+number-is (Err NoTable) = refl
+number-is (Err (Short n)) = refl
+
+place-is : (r : Result ℕ NotPaged) → place_told (reply_of r) ≡ place_for (answer_of r)
+place-is (Ok n) = refl
+place-is (Err Unsound) = refl
+place-is (Err NoTable) = refl
+place-is (Err (Short n)) = refl
+
+told-outcome : (p : PageOutcome) (o : List ℕ) (r : Result ℕ NotPaged) → answer_of r ≡ page_answer p → Told (page_reply p) o (buffer_after o p) (reply_of r)
+told-outcome (no_page n vs) o r e = record { number = number-is r ∙ ap number_for e; place = place-is r ∙ ap place_for e; buffer = refl }
+told-outcome (a_page bs) o r e = record { number = number-is r ∙ ap number_for e; place = place-is r ∙ ap place_for e; buffer = refl }
 
 module _ (m : Net) (ps : List Pick) (net : Code.Net) (left : view net ≡ after m ps) (ok : T (sound (view net))) (site : Site) (name : ℕ) (o : List ℕ) where
   abbrev outcome : PageOutcome
@@ -36,12 +65,20 @@ module _ (m : Net) (ps : List Pick) (net : Code.Net) (left : view net ≡ after 
   outcome-is : page (after m ps) site name o ≡ outcome
   outcome-is = ap (λ (n : Net). page n site name o) (sym left) ∙ by_sound (view net) site name o true (sym (is_true (sound (view net)) ok)) ∙ ap (λ (ts : List Table). page_for (table_at site name ts) o) (tables_of_lem net)
 
-  given : (r : Paged) (out : List ℕ) (reply : Reply) → answer_of r ≡ page_answer outcome → out ≡ buffer_after o outcome → reply ≡ answer_reply (answer_of r) → Gives (paged site name m ps o) o out reply.number reply.place
+  given : (r : Result ℕ NotPaged) (out : List ℕ) (reply : Result ℕ Refused) → answer_of r ≡ page_answer outcome → out ≡ buffer_after o outcome → reply ≡ reply_of r → Told (paged site name m ps o) o out reply
   unfolding paged
-  given r out reply a b q = rw (q, a, b, outcome-is) (gives-outcome outcome o)
+  given r out reply a b q = rw (q, b, outcome-is) (told-outcome outcome o r a)
 
 pub page_tables-requires : goal.page_tables-requires
 page_tables-requires c = (search few-tables, search tables-ok)
 
+-- what `map_err` gives of it
+maps : (Q : NotPaged → Refused → Type 0) (r : Result ℕ NotPaged) (s : Result ℕ Refused) → ((why : NotPaged) (told : Refused) → Q why told → told ≡ refused_page why) → MatchResult r (λ n. s ≡ Ok n) (λ why. IsErrAnd s (Q why)) → s ≡ reply_of r
+maps Q (Ok n) s f h = h
+maps Q (Err why) s f h = let y = err_from_is_err_and s h in y.1 ∙ ap Err (f why y.0 y.2)
+
 pub returns : goal.returns
-returns c = search given
+returns c =
+    let run = c.run_picks-left.ensures in
+    let paged = c.page_tables.ensures in
+    given _ _ _ run.0 run.1 _ _ _ c.page_tables.result _ c.map_err.result paged.0 paged.1 (maps _ c.page_tables.result c.map_err.result (λ why told e. search) c.map_err.ensures.cases)

@@ -5,9 +5,8 @@ use mathlib.Core.List.{List, ◌++◌}
 use native.Mathlib.Omega.{arith}
 use lib.ListN.{length, get_or, drop}
 use borrow.Rule.Slice.PartMut.{put_mid}
-use Rattle.values.specs.declared.Slot.{Slot}
-use Rattle.values.specs.Operands.{vars_of}
-use Rattle.nets.specs.declared.TableVariable.{TableVariable}
+use Rattle.values.specs.Operands.{Got}
+use Rattle.nets.specs.View.{TableVariable}
 use Rattle.nets.specs.View.{no_variable, variable_of, bindings_of}
 use Rattle.value_bytes.specs.Bytes.{end_to_end}
 use Rattle.value_bytes.proofs.Stores.{part-size, ends-append}
@@ -17,8 +16,8 @@ use Rattle.value_bytes.proofs.Parts.{three_fill}
 use Rattle.call_hold.proofs.HoldLaws.{bindings_are, variables_long, relation-long}
 use Rattle.call_hold.proofs.bindings.put_bindings.Goals as goal
 
-module _ (vs : List Slot) (rs : List TableVariable) (k : RelationsShaped rs) (o : List ℕ) (l : length o ≡ records_given rs * 104) (a b : ℕ) (ea : a ≡ rows_given (get_or rs 0 no_variable)) (eb : b ≡ rows_given (get_or rs 1 no_variable)) where
-  put_all : (x y z : List ℕ) → x ≡ end_to_end (variable_records (vars_of vs)) → y ≡ end_to_end (relation_records 0 (variable_of (get_or rs 0 no_variable))) → z ≡ end_to_end (relation_records 1 (variable_of (get_or rs 1 no_variable))) →
+module _ (vs : List Got) (rs : List TableVariable) (k : RelationsShaped rs) (o : List ℕ) (l : length o ≡ records_given rs * 104) (a b : ℕ) (ea : a ≡ rows_given (get_or rs 0 no_variable)) (eb : b ≡ rows_given (get_or rs 1 no_variable)) where
+  put_all : (x y z : List ℕ) → x ≡ end_to_end (variable_records vs) → y ≡ end_to_end (relation_records 0 (variable_of (get_or rs 0 no_variable))) → z ≡ end_to_end (relation_records 1 (variable_of (get_or rs 1 no_variable))) →
       put_mid (1664 + (1 + a) * 104) (1664 + (1 + a) * 104 + (1 + b) * 104 - (1664 + (1 + a) * 104)) (put_mid 1664 (1664 + (1 + a) * 104 - 1664) (x ++ drop 1664 o) y) z
       ≡ end_to_end (bindings_records (bindings_of vs rs))
   put_all x y z hx hy hz =

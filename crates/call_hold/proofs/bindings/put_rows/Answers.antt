@@ -27,7 +27,7 @@ ended m r i o out a b l e =
     ∙ ap end_to_end (sym (map-firsts (values_record 68 m) (values_of r.columns) no_row r.count r.rows))
 
 pub loop-i-preserved : goal.loop-i-preserved
-loop-i-preserved c = record { within = omega arith; all_rows = refl; full = search kept-length; filled = search one_more }
+loop-i-preserved c = record { within = omega arith; full = search kept-length; filled = search one_more }
 
 pub returns : goal.returns
 returns c = search ended

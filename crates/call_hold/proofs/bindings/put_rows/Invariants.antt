@@ -17,11 +17,7 @@ record_of i r x = values_record 68 i (values_of r.columns x)
 abbrev pub invariant-loop-i : goal.invariant-loop-i
 invariant-loop-i l =
     record {
-      within : l.i ≤ l.n;
-      all_rows : l.n ≡ l.content.count;
-      full : length l.out ≡ l.n * 104;
+      within : l.i ≤ l.content.count;
+      full : length l.out ≡ l.content.count * 104;
       filled : l.out ≡ end_to_end (firsts (record_of l.number l.content) no_row l.i l.content.rows) ++ drop (l.i * 104) l.initial.out;
     }
-
-abbrev pub decreases-loop-i : goal.decreases-loop-i
-decreases-loop-i l = l.n - l.i

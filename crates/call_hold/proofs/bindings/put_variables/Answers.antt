@@ -5,9 +5,8 @@ use mathlib.Core.List.{List, [], ◌∷◌, ◌++◌}
 use native.Mathlib.Omega.{arith}
 use lib.ListN.{length, get_or, drop, get_or-map}
 use borrow.Rule.Slice.PartMut.{put_mid}
-use Rattle.values.specs.declared.Got.{Got}
-use Rattle.values.specs.declared.Slot.{Slot}
-use Rattle.values.specs.Operands.{values_in, vars_of}
+use Rattle.values.specs.Operands.{Got}
+use Rattle.values.specs.Operands.{values_in}
 use Rattle.rows.specs.View.{no_slot}
 use Rattle.value_bytes.specs.Bytes.{end_to_end}
 use Rattle.value_bytes.proofs.Stores.{kept-length}
@@ -17,15 +16,15 @@ use Rattle.call_hold.proofs.HoldLaws.{variable-length}
 use Rattle.call_hold.proofs.bindings.put_variables.Invariants.{passed}
 use Rattle.call_hold.proofs.bindings.put_variables.Goals as goal
 
-one_more : (vs : List Slot) (i : ℕ) (o out ys : List ℕ) → out ≡ passed vs i ++ drop (i * 104) o → ys ≡ values_record 66 i (values_in ((get_or vs i no_slot).held ∷ [])) →
+one_more : (vs : List Got) (i : ℕ) (o out ys : List ℕ) → out ≡ passed vs i ++ drop (i * 104) o → ys ≡ values_record 66 i (values_in ((get_or vs i no_slot) ∷ [])) →
     put_mid (i * 104) (i * 104 + 104 - i * 104) out ys ≡ passed vs (i + 1) ++ drop ((i + 1) * 104) o
 one_more vs i o out ys e q =
-    let h = ap (λ (g : Got). values_record 66 i (values_in (g ∷ []))) (sym (get_or-map (λ (s : Slot). s.held) vs i no_slot)) in
-    along-more (variable_record (vars_of vs)) 104 (variable-length (vars_of vs)) i o out ys e (q ∙ h)
+    let h = ap (λ (g : Got). values_record 66 i (values_in (g ∷ []))) refl in
+    along-more (variable_record vs) 104 (variable-length vs) i o out ys e (q ∙ h)
 
-ended : (vs : List Slot) (i : ℕ) (o out : List ℕ) → i ≤ 16 → 16 ≤ i → length o ≡ 1664 → out ≡ passed vs i ++ drop (i * 104) o → out ≡ end_to_end (variable_records (vars_of vs))
+ended : (vs : List Got) (i : ℕ) (o out : List ℕ) → i ≤ 16 → 16 ≤ i → length o ≡ 1664 → out ≡ passed vs i ++ drop (i * 104) o → out ≡ end_to_end (variable_records vs)
 unfolding variable_records
-ended vs i o out a b l e = along-all (variable_record (vars_of vs)) 104 16 i o out a b l e
+ended vs i o out a b l e = along-all (variable_record vs) 104 16 i o out a b l e
 
 pub loop-i-init : goal.loop-i-init
 unfolding along

@@ -5,7 +5,7 @@ use mathlib.Core.List.{List}
 use native.Mathlib.Omega.{arith}
 use lib.ListN.{length}
 use Rattle.nets.specs.declared.Saved.{Saved}
-use Rattle.nets.specs.declared.TableVariable.{TableVariable}
+use Rattle.nets.specs.View.{TableVariable}
 use Rattle.call_hold.specs.Holdings.{records_given, pair_held, held_given}
 use Rattle.call_hold.proofs.HoldLaws.{pair_ok, none-given, held-count}
 use borrow.Author.Rules.{rules}

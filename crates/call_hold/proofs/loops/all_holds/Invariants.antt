@@ -19,6 +19,3 @@ invariant-loop-i l =
       within : l.i ≤ l.count;
       said : Said l.nodes l.i l.holds;
     }
-
-abbrev pub decreases-loop-i : goal.decreases-loop-i
-decreases-loop-i l = l.count - l.i

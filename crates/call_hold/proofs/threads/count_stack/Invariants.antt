@@ -11,6 +11,3 @@ invariant-loop-i l =
       counted : l.total ≡ length (stack_given l.holds l.saved l.t l.i);
       few : l.total ≤ 51 * l.i;
     }
-
-abbrev pub decreases-loop-i : goal.decreases-loop-i
-decreases-loop-i l = l.t.depth - l.i

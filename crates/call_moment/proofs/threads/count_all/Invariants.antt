@@ -19,6 +19,3 @@ invariant-loop-i l =
       counted : l.total ≡ length (records_to l.net l.i);
       low : l.total ≤ 459 * l.i;
     }
-
-abbrev pub decreases-loop-i : goal.decreases-loop-i
-decreases-loop-i l = l.net.threadcount - l.i

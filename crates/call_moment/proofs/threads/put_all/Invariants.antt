@@ -23,6 +23,3 @@ invariant-loop-i l =
       at : l.at ≡ length (records_to l.net l.i) * 104;
       filled : l.out ≡ end_to_end (records_to l.net l.i) ++ drop l.at l.initial.out;
     }
-
-abbrev pub decreases-loop-i : goal.decreases-loop-i
-decreases-loop-i l = l.net.threadcount - l.i

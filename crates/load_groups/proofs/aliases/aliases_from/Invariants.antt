@@ -3,7 +3,7 @@ use mathlib.Core.Path.{◌≡◌}
 use mathlib.Core.List.{List, []}
 use lib.ListN.{length}
 use lib.Dec.{T}
-use Rattle.values.specs.Lists.{all}
+use Rattle.std.specs.List.{list_all}
 use Rattle.record_bytes.specs.Decoding.{whole_records}
 use Rattle.load_walk.specs.Walking.{Leads, Going, put_aliases}
 use Rattle.nets.specs.declared.Alias.{Alias}
@@ -14,7 +14,7 @@ use Rattle.load_groups.proofs.aliases.aliases_from.Given as goal
 -- no two of the first `c` aliases are alike, and each is in its ranges
 pub record Different (c : ℕ) (ls : List Alias) : Type 0 where
   pub few : c ≤ 56
-  pub ranged : T (all alias_ok (aliases_of c ls))
+  pub ranged : T (list_all alias_ok (aliases_of c ls))
   pub differ : T (aliases_differ (aliases_of c ls))
 
 abbrev pub invariant-loop-r : goal.invariant-loop-r

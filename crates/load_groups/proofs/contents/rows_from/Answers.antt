@@ -3,24 +3,29 @@ use Prim.Native.Nat.{ℕ, ◌≤◌, ◌<◌}
 use mathlib.Core.Path.{◌≡◌, refl, sym, ap, subst, ◌∙◌}
 use mathlib.Core.List.{List, [], ◌∷◌, ◌++◌, append-nil}
 use native.Mathlib.Omega.{arith}
-use lib.ListN.{length, set, length-set}
+use Rattle.std.specs.Prelude.{Option, Ok, Err, None, Some, IfOk}
+use Rattle.std.specs.Result.{result_err}
+use borrow.Author.Rules.{rules}
+use lib.ListN.{length, get_or, set, length-set}
 use borrow.Author.Tests.{le-leb}
 use Rattle.values.specs.declared.Site.{Site}
+use Rattle.rows.specs.View.{relation_of, Shaped}
 use Rattle.rows.specs.Relations.{Row}
 use Rattle.nets.specs.declared.Table.{Table}
 use Rattle.nets.specs.Nets as M
-use Rattle.nets.specs.Tables.{change}
-use Rattle.nets.specs.View.{tables_of}
+use Rattle.nets.specs.Tables.{with_rows, change}
+use Rattle.nets.specs.View.{no_table, table_of, tables_of}
 use Rattle.record_bytes.specs.Bytes.{part}
 use Rattle.record_bytes.specs.Decoding.{row_record, site_at, name_in, row_in, row_form}
 use Rattle.load_walk.specs.declared.Reach.{Reach}
-use Rattle.load_walk.specs.declared.TablesRead.{TablesRead}
+use Rattle.nets.specs.Steps.{check}
+use Rattle.files.specs.declared.Fault.{Fault}
 use Rattle.files.specs.Loading.{Progress, load_checks, failing, put, advance}
-use Rattle.load_walk.specs.Walking.{record_at, put_tables, Leads, group_next, Going, form_then}
+use Rattle.load_walk.specs.Walking.{record_at, put_tables, Leads, Stops, group_next, Going, first_fault}
 use Rattle.load_walk.proofs.PlaceTies.{other-shaped}
 use Rattle.load_groups.proofs.RowTies as at_place
 use Rattle.load_groups.proofs.RowTies.{row_checks}
-use Rattle.load_walk.proofs.WalkLaws.{with_group, past, stop, leads_trans, leads_on, leads_off, next_in, went_on, went_off}
+use Rattle.load_walk.proofs.WalkLaws.{with_group, past, leads_trans, leads-stop, leads_on, leads_off, next_in, went_on}
 use Rattle.load_groups.proofs.contents.rows_from.Goals as goal
 
 pos : 1 ≤ 3
@@ -42,26 +47,24 @@ module _ (g : ℕ) (ts : List M.Table) (s : Site) (n : ℕ) (x : Row) (l : Progr
 abbrev row : List ℕ → Row
 row bs = row_in (part 56 88 bs)
 
-module _ (file : List ℕ) (from r : Reach) (n : ℕ) (e : n ≡ group_next file r) (e' : n ≡ 3) (g : Going file 3 r) (c : ℕ) (p : Progress → Progress) (ts : List Table) (bs : List ℕ) (eb : bs ≡ record_at file r.place) (f : ℕ)
-    (z : f ≡ form_then (row_form bs) (row_checks (tables_of c ts) (site_at 1 bs) (name_in bs) (row bs))) (h : Leads file from r p (put_tables (tables_of c ts))) where
-  fault : f ≡ form_then (row_form (record_at file r.place)) (row_checks (tables_of c ts) (site_at 1 (record_at file r.place)) (name_in (record_at file r.place)) (row (record_at file r.place)))
-  fault = z ∙ ap (λ (x : List ℕ). form_then (row_form x) (row_checks (tables_of c ts) (site_at 1 x) (name_in x) (row x))) eb
+-- the table at a place with the row behind its rows
+abbrev Taken : List Table → ℕ → Row → Table → Type 0
+Taken ts i x o = (table_of o ≡ with_rows ((relation_of (get_or ts i no_table).content).rows ++ (x ∷ [])) (table_of (get_or ts i no_table))) × Shaped o.content
 
-  off : (f ≡ 0 → ⊥) → c ≤ 8 → (o : TablesRead) → o ≡ record { tables = ts; count = c; reach = stop r 3 f } →
-      Leads file from o.reach p (put_tables (tables_of o.count o.tables)) × Going file 4 o.reach × (o.count ≤ 8)
-  off k few o same =
-      subst (λ (v : TablesRead). Leads file from v.reach p (put_tables (tables_of v.count v.tables)) × Going file 4 v.reach × (v.count ≤ 8)) (sym same) (
-        leads_trans file from r (stop r 3 f) _ _ _ h
-            (leads_off 3 pos file r n e e' g (put_tables (tables_of c ts)) _ _ _ refl (λ l. same-checks r.group (tables_of c ts) _ _ _ l g.group) _ f fault k),
-        went_off 3 pos file r n e e' g f k,
-        few,
-      )
+module _ (file : List ℕ) (from r : Reach) (n : ℕ) (e : n ≡ group_next file r) (e' : n ≡ 3) (g : Going file 3 r) (c : ℕ) (p : Progress → Progress) (ts : List Table) (bs : List ℕ) (eb : bs ≡ record_at file r.place) (o : Option Fault)
+    (z : o ≡ first_fault r.place (check 4 (row_form bs) ∷ row_checks (tables_of c ts) (site_at 1 bs) (name_in bs) (row bs))) (h : Leads file from r p (put_tables (tables_of c ts))) where
+  fault : o ≡ first_fault r.place (check 4 (row_form (record_at file r.place)) ∷ row_checks (tables_of c ts) (site_at 1 (record_at file r.place)) (name_in (record_at file r.place)) (row (record_at file r.place)))
+  fault = z ∙ ap (λ (x : List ℕ). first_fault r.place (check 4 (row_form x) ∷ row_checks (tables_of c ts) (site_at 1 x) (name_in x) (row x))) eb
 
-  on : (vs : List Table) → f ≡ 0 → tables_of c vs ≡ change (site_at 1 bs) (name_in bs) (λ rs. rs ++ (row bs ∷ [])) (tables_of c ts) → Leads file from (past r 3) p (put_tables (tables_of c vs))
+  off : (f : Fault) → Some f ≡ o → Stops file from f p
+  off f k =
+      leads-stop file from r f _ _ h (leads_off 3 pos file r n e e' g (put_tables (tables_of c ts)) _ _ (row_checks (tables_of c ts) (site_at 1 (record_at file r.place)) (name_in (record_at file r.place)) (row (record_at file r.place))) refl (λ l. same-checks r.group (tables_of c ts) _ _ _ l g.group) f (k ∙ fault))
+
+  on : (vs : List Table) → None ≡ o → tables_of c vs ≡ change (site_at 1 bs) (name_in bs) (λ rs. rs ++ (row bs ∷ [])) (tables_of c ts) → Leads file from (past r 3) p (put_tables (tables_of c vs))
   on vs y q =
       let q' = q ∙ ap (λ (x : List ℕ). change (site_at 1 x) (name_in x) (λ rs. rs ++ (row x ∷ [])) (tables_of c ts)) eb in
       leads_trans file from r (past r 3) _ _ _ h
-      (leads_on 3 pos file r n e e' g (put_tables (tables_of c ts)) _ _ _ refl (λ l. same-checks r.group (tables_of c ts) _ _ _ l g.group) _ tt (sym y ∙ fault)
+      (leads_on 3 pos file r n e e' g (put_tables (tables_of c ts)) _ _ (row_checks (tables_of c ts) (site_at 1 (record_at file r.place)) (name_in (record_at file r.place)) (row (record_at file r.place))) refl (λ l. same-checks r.group (tables_of c ts) _ _ _ l g.group) _ (y ∙ fault)
       (λ l. added r.group (tables_of c ts) _ _ _ l ∙ ap (λ (k : List M.Table). with_group 3 (put_tables k l)) (sym q')))
 
 pub record_at-r-requires : goal.record_at-r-requires
@@ -72,30 +75,32 @@ returns-then-count-place c =
     let l = c.loop-r in
     let a = c.args in
     off _ _ _ _ c.next_group.ensures c.loop-r-test.true l.invariant.3 a.read.count _ l.tables _ c.record_at-r.ensures.0 _
-    (at_place.missing l.tables _ _ _ _ c.row_place-place.ensures _ (row c.record_at-r.result.now) _ c.if-count-place.true c.lost_fault-fault.ensures)
-    l.invariant.2 (at_place.lost_stops _ _ c.lost_fault-fault.ensures) l.invariant.1.0 _ c.halted.ensures
+    (at_place.missing l.tables _ _ _ _ c.row_place-place.ensures _ _ (row c.record_at-r.result.now) _ c.if-count-place.true c.lost_fault.ensures)
+    l.invariant.2 _ refl
 
-pub returns-then-taken-ne0 : goal.returns-then-taken-ne0
-returns-then-taken-ne0 c =
-    let k = c.row_taken-taken in
+pub returns-in_err-tables : goal.returns-in_err-tables
+returns-in_err-tables c =
     let l = c.loop-r in
     let a = c.args in
-    off _ _ _ _ c.next_group.ensures c.loop-r-test.true l.invariant.3 a.read.count _ l.tables _ c.record_at-r.ensures.0 _
-    (at_place.found l.tables _ _ _ _ c.row_place-place.ensures c.if-count-place.false _ (row c.record_at-r.result.now) _ k.ensures.0)
-    l.invariant.2 c.if-taken-ne0.true l.invariant.1.0 _ c.halted-then-taken-ne0.ensures
+    let q : c.from_residual.result ≡ Err c.in_err-tables.field-0.0 = search rules in
+    let z : c.row_taken.result ≡ Err c.in_err-tables.field-0.0 = c.in_err-tables.was in
+    rw q (off _ _ _ _ c.next_group.ensures c.loop-r-test.true l.invariant.3 a.read.count _ l.tables _ c.record_at-r.ensures.0 _
+    (at_place.found l.tables _ _ _ _ c.row_place-place.ensures c.if-count-place.false _ _ (row c.record_at-r.result.now) _ c.row_taken.ensures.fault)
+    l.invariant.2 _ (ap result_err (sym z)))
 
 pub loop-r-preserved : goal.loop-r-preserved
 loop-r-preserved c =
-    let k = c.row_taken-taken in
     let l = c.loop-r in
     let a = c.args in
     let x = row c.record_at-r.result.now in
-    let y = c.if-taken-ne0.false in
+    let z : c.row_taken.result ≡ Ok c.in_ok-tables.field-0 = c.in_ok-tables.was in
+    let f : None ≡ result_err c.row_taken.result = ap result_err (sym z) in
+    let k = subst (λ o. IfOk o (Taken (l.tables) c.row_place-place.result x)) z c.row_taken.ensures.table in
     let r : c.row_place-place.result < length l.tables = omega (arith, l.invariant.0, l.invariant.1.0, c.if-count-place.false) in (
       search length-set,
-      other-shaped l.tables _ k.result.table r k.ensures.2 _ l.invariant.1,
+      other-shaped l.tables _ c.in_ok-tables.field-0 r k.1 _ l.invariant.1,
       on _ _ _ _ c.next_group.ensures c.loop-r-test.true l.invariant.3 a.read.count _ l.tables _ c.record_at-r.ensures.0 _
-          (at_place.found l.tables _ _ _ _ c.row_place-place.ensures c.if-count-place.false _ x _ k.ensures.0)
-          l.invariant.2 (set l.tables c.row_place-place.result k.result.table) y (at_place.added l.tables _ _ _ _ c.row_place-place.ensures c.if-count-place.false x k.result.table r (k.ensures.1 y)),
+          (at_place.found l.tables _ _ _ _ c.row_place-place.ensures c.if-count-place.false _ _ x _ c.row_taken.ensures.fault)
+          l.invariant.2 (set l.tables c.row_place-place.result c.in_ok-tables.field-0) f (at_place.added l.tables _ _ _ _ c.row_place-place.ensures c.if-count-place.false x c.in_ok-tables.field-0 r k.0),
       search (went_on 3 pos),
     )

@@ -1,18 +1,22 @@
 -- `load_groups::nodes::nodes_from` meets its contract: record by record, while they are nodes.
-use Prim.Native.Nat.{ℕ, ◌≤◌}
-use mathlib.Core.Path.{◌≡◌, refl}
+use Prim.Native.Nat.{ℕ, ◌≤◌, ◌<◌}
+use mathlib.Core.Path.{◌≡◌, refl, sym, ap, subst, ◌∙◌}
 use mathlib.Core.Bool.{true}
 use mathlib.Core.List.{List, [], ◌∷◌, ◌++◌, append-nil}
 use native.Mathlib.Omega.{arith}
+use Rattle.std.specs.Prelude.{Ok, Err, None, IfSome}
+use Rattle.std.specs.Result.{result_err}
+use borrow.Author.Rules.{rules}
 use lib.ListN.{length, length-set}
 use borrow.Author.Tests.{le-leb}
 use lib.Dec.{ltb}
 use Rattle.record_bytes.specs.Decoding.{Record, node_record, node_in, node_form}
 use Rattle.files.specs.Loading.{Progress, load_checks, failing, put, advance}
 use Rattle.load_walk.specs.Walking.{put_nodes}
+use Rattle.nets.specs.declared.Node.{Node}
 use Rattle.nets.specs.Nets as M
 use Rattle.nets.specs.View.{no_node, node_of}
-use Rattle.load_walk.proofs.WalkLaws.{Group, with_group, list_checks, list_stops, list_grows, next_in, went_on, went_off, room-left, room_after}
+use Rattle.load_walk.proofs.WalkLaws.{Group, with_group, list_checks, list_stops, list_grows, next_in, went_on, room-left, room_after}
 use Rattle.load_groups.proofs.nodes.nodes_from.Goals as goal
 
 pos : 1 ≤ 4
@@ -47,23 +51,32 @@ group =
       added = added;
     }
 
-pub record_at-r-requires : goal.record_at-r-requires
-record_at-r-requires c = search (next_in 4 pos)
+pub record_at-requires : goal.record_at-requires
+record_at-requires c = search (next_in 4 pos)
 
-pub returns-then-fault-ne0 : goal.returns-then-fault-ne0
-returns-then-fault-ne0 c = search (list_stops group node_of no_node, went_off 4 pos)
+pub returns-in_err-first_fault : goal.returns-in_err-first_fault
+returns-in_err-first_fault c =
+    let l = c.loop-node in
+    let q : c.from_residual.result ≡ Err c.in_err-first_fault.field-0.0 = search rules in
+    let z : c.first_fault.result ≡ Err c.in_err-first_fault.field-0.0 = c.in_err-first_fault.was in
+    rw q (list_stops group node_of no_node _ _ _ _ c.next_group.ensures l.count l.nodes l.invariant.2 l.invariant.3 c.loop-node-test.true _ c.record_at.ensures.0 _ _
+    (c.is_some.ensures ∙ c.node_read-node.ensures.0) refl _ c.first_fault.ensures _ (ap result_err (sym z)))
 
 pub bounds-nodes-count : goal.bounds-nodes-count
-bounds-nodes-count c = search room-left
+bounds-nodes-count c =
+    let z : c.first_fault.result ≡ Ok tt = c.in_ok-first_fault.was in
+    let f : None ≡ result_err c.first_fault.result = ap result_err (sym z) in
+    room-left c.loop-node.at.place _ true c.loop-node.count 128 (f ∙ c.first_fault.ensures)
 
-pub loop-r-preserved : goal.loop-r-preserved
-loop-r-preserved c =
-    let f = c.first_fault-fault in
-    let d = c.node_read-read in
-    let l = c.loop-r in (
+pub loop-node-preserved : goal.loop-node-preserved
+loop-node-preserved c =
+    let l = c.loop-node in
+    let z : c.first_fault.result ≡ Ok tt = c.in_ok-first_fault.was in
+    let f : None ≡ result_err c.first_fault.result = ap result_err (sym z) in
+    let room : l.count < 128 = room-left c.loop-node.at.place _ true c.loop-node.count 128 (f ∙ c.first_fault.ensures) in (
       search length-set,
-      search room_after,
-      list_grows group node_of no_node _ _ _ _ c.next_group.ensures l.count l.nodes l.invariant.2 l.invariant.3 c.loop-r-test.true _ c.record_at-r.ensures.0 _ _ d.ensures.0 refl _ f.ensures _ _ c.if-fault-ne0.false l.invariant.0
-          (room-left _ _ _ _ _ c.if-fault-ne0.false f.ensures) d.ensures.1,
+      room_after c.loop-node.at.place _ true c.loop-node.count 128 (f ∙ c.first_fault.ensures),
+      list_grows group node_of no_node _ _ _ _ c.next_group.ensures l.count l.nodes l.invariant.2 l.invariant.3 c.loop-node-test.true _ c.record_at.ensures.0 _ _
+          (c.is_some.ensures ∙ c.node_read-node.ensures.0) refl _ c.first_fault.ensures _ _ f l.invariant.0 room (subst (λ o. IfSome o (λ (d : Node). node_of d ≡ node_in c.record_at.result.now)) c.unwrap.ensures c.node_read-node.ensures.1),
       search (went_on 4 pos),
     )

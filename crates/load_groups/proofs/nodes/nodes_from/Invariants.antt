@@ -7,8 +7,8 @@ use Rattle.load_walk.specs.Walking.{Leads, Going, put_nodes}
 use Rattle.nets.specs.View.{nodes_of}
 use Rattle.load_groups.proofs.nodes.nodes_from.Given as goal
 
-abbrev pub invariant-loop-r : goal.invariant-loop-r
-invariant-loop-r l = (length l.nodes ≡ 128) × (l.count ≤ 128) × Leads l.file l.initial.at l.at (put_nodes []) (put_nodes (nodes_of l.count l.nodes)) × Going l.file 4 l.at
+abbrev pub invariant-loop-node : goal.invariant-loop-node
+invariant-loop-node l = (length l.nodes ≡ 128) × (l.count ≤ 128) × Leads l.file l.initial.at l.at (put_nodes []) (put_nodes (nodes_of l.count l.nodes)) × Going l.file 4 l.at
 
-abbrev pub decreases-loop-r : goal.decreases-loop-r
-decreases-loop-r l = whole_records l.file - l.at.place
+abbrev pub decreases-loop-node : goal.decreases-loop-node
+decreases-loop-node l = whole_records l.file - l.at.place

@@ -1,9 +1,12 @@
 -- `load_groups::picks::picks_from` meets its contract: record by record, while they are picks.
 use Prim.Native.Nat.{ℕ, ◌≤◌, ◌<◌}
-use mathlib.Core.Path.{◌≡◌, refl}
+use mathlib.Core.Path.{◌≡◌, refl, sym, ap}
 use mathlib.Core.Bool.{true}
 use mathlib.Core.List.{List, [], ◌∷◌, ◌++◌}
 use native.Mathlib.Omega.{arith}
+use Rattle.std.specs.Prelude.{Ok, Err, None}
+use Rattle.std.specs.Result.{result_err}
+use borrow.Author.Rules.{rules}
 use lib.ListN.{length, length-set}
 use borrow.Author.Tests.{le-leb}
 use Rattle.record_bytes.specs.Decoding.{Record, pick_record, pick_in, pick_form}
@@ -12,7 +15,7 @@ use Rattle.load_walk.specs.declared.Reach.{Reach}
 use Rattle.load_walk.specs.Walking.{group_next, Going, put_picks}
 use Rattle.nets.specs.declared.Pick.{Pick}
 use Rattle.nets.specs.View.{no_pick}
-use Rattle.load_walk.proofs.WalkLaws.{Group, with_group, list_checks, list_stops, list_grows, next_in, went_on, went_off}
+use Rattle.load_walk.proofs.WalkLaws.{Group, with_group, list_checks, list_stops, list_grows, next_in, went_on}
 use Rattle.load_groups.proofs.picks.picks_from.Goals as goal
 
 pos : 1 ≤ 6
@@ -54,16 +57,23 @@ below-256 file r n c e e' g h = omega (arith, next_in 6 pos file r n e e' g, g.w
 pub record_at-r-requires : goal.record_at-r-requires
 record_at-r-requires c = search (next_in 6 pos)
 
-pub returns-then-fault-ne0 : goal.returns-then-fault-ne0
-returns-then-fault-ne0 c = search (list_stops group (λ (p : Pick). p) no_pick, went_off 6 pos)
+pub returns-in_err-first_fault : goal.returns-in_err-first_fault
+returns-in_err-first_fault c =
+    let l = c.loop-r in
+    let q : c.from_residual.result ≡ Err c.in_err-first_fault.field-0.0 = search rules in
+    let z : c.first_fault.result ≡ Err c.in_err-first_fault.field-0.0 = c.in_err-first_fault.was in
+    rw q (list_stops group (λ (p : Pick). p) no_pick _ _ _ _ c.next_group.ensures l.count l.picks l.invariant.2 l.invariant.3 c.loop-r-test.true _ c.record_at-r.ensures.0 _ _
+    c.pick_form.ensures refl _ c.first_fault.ensures _ (ap result_err (sym z)))
 
 pub loop-r-preserved : goal.loop-r-preserved
 loop-r-preserved c =
-    let f = c.first_fault-fault in
-    let l = c.loop-r in (
+    let l = c.loop-r in
+    let z : c.first_fault.result ≡ Ok tt = c.in_ok-first_fault.was in
+    let f : None ≡ result_err c.first_fault.result = ap result_err (sym z) in
+    let room : l.count < 256 = below-256 _ _ _ _ c.next_group.ensures c.loop-r-test.true l.invariant.3 l.invariant.1 in (
       search length-set,
       omega (arith, l.invariant.1),
-      list_grows group (λ (p : Pick). p) no_pick _ _ _ _ c.next_group.ensures l.count l.picks l.invariant.2 l.invariant.3 c.loop-r-test.true _ c.record_at-r.ensures.0 _ _ c.pick_form.ensures refl _ f.ensures _ _ c.if-fault-ne0.false l.invariant.0
-          (below-256 _ _ _ _ c.next_group.ensures c.loop-r-test.true l.invariant.3 l.invariant.1) c.pick_in.ensures,
+      list_grows group (λ (p : Pick). p) no_pick _ _ _ _ c.next_group.ensures l.count l.picks l.invariant.2 l.invariant.3 c.loop-r-test.true _ c.record_at-r.ensures.0 _ _
+          c.pick_form.ensures refl _ c.first_fault.ensures _ _ f l.invariant.0 room c.pick_in.ensures,
       search (went_on 6 pos),
     )

@@ -1,13 +1,16 @@
 -- `load_walk::tables::tables_from` meets its contract: record by record, while they are tables.
+use Rattle.std.specs.Prelude.{is_some}
 use Prim.Native.Nat.{ℕ, ◌≤◌, ◌<◌}
-use mathlib.Core.Path.{◌≡◌, refl}
+use mathlib.Core.Path.{◌≡◌, refl, sym, ap, ◌∙◌}
 use mathlib.Core.Bool.{Bool, not}
 use mathlib.Core.List.{List, [], ◌∷◌, ◌++◌, append-nil}
 use native.Mathlib.Omega.{arith}
 use lib.Dec.{ltb}
+use Rattle.std.specs.Prelude.{Ok, Err, None}
+use Rattle.std.specs.Result.{result_err}
+use borrow.Author.Rules.{rules}
 use lib.ListN.{length, length-set}
 use borrow.Author.Tests.{le-leb}
-use Rattle.values.specs.Lists.{is_some}
 use Rattle.nets.specs.Nets as M
 use Rattle.nets.specs.Tables.{table_at}
 use Rattle.nets.specs.View.{no_table, table_of}
@@ -16,7 +19,7 @@ use Rattle.record_bytes.specs.Decoding.{Record, table_record, site_at, name_in, 
 use Rattle.files.specs.Loading.{Progress, load_checks, failing, bare, put, advance}
 use Rattle.load_walk.specs.Walking.{put_tables}
 use Rattle.load_walk.proofs.PlaceTies.{more-shaped}
-use Rattle.load_walk.proofs.WalkLaws.{Group, with_group, list_checks, list_stops, list_grows, next_in, went_on, went_off, room-left}
+use Rattle.load_walk.proofs.WalkLaws.{Group, with_group, list_checks, list_stops, list_grows, next_in, went_on, room-left}
 use Rattle.load_walk.proofs.tables.tables_from.Goals as goal
 
 pos : 1 ≤ 2
@@ -58,20 +61,28 @@ tables =
 pub record_at-r-requires : goal.record_at-r-requires
 record_at-r-requires c = search (next_in 2 pos)
 
-pub returns-then-fault-ne0 : goal.returns-then-fault-ne0
-returns-then-fault-ne0 c = search (list_stops tables table_of no_table, went_off 2 pos)
+pub returns-in_err-first_fault : goal.returns-in_err-first_fault
+returns-in_err-first_fault c =
+    let l = c.loop-r in
+    let q : c.from_residual.result ≡ Err c.in_err-first_fault.field-0.0 = search rules in
+    let z : c.first_fault.result ≡ Err c.in_err-first_fault.field-0.0 = c.in_err-first_fault.was in
+    rw q (list_stops tables table_of no_table _ _ _ _ c.next_group.ensures l.count l.tables l.invariant.2 l.invariant.3 c.loop-r-test.true _ c.record_at-r.ensures.0 _ _
+    c.table_form.ensures c.table_new.ensures _ c.first_fault.ensures _ (ap result_err (sym z)))
 
 pub bounds-tables-count : goal.bounds-tables-count
-bounds-tables-count c = search room-left
+bounds-tables-count c =
+    let z : c.first_fault.result ≡ Ok tt = c.in_ok-first_fault.was in
+    room-left _ _ _ _ _ (ap result_err (sym z) ∙ c.first_fault.ensures)
 
 pub loop-r-preserved : goal.loop-r-preserved
 loop-r-preserved c =
-    let f = c.first_fault-fault in
     let l = c.loop-r in
-    let room : l.count < 8 = room-left _ _ _ _ _ c.if-fault-ne0.false f.ensures in (
+    let z : c.first_fault.result ≡ Ok tt = c.in_ok-first_fault.was in
+    let f : None ≡ result_err c.first_fault.result = ap result_err (sym z) in
+    let room : l.count < 8 = room-left _ _ _ _ _ (f ∙ c.first_fault.ensures) in (
       search length-set,
       more-shaped l.tables l.count _ (omega (arith, l.invariant.0, room)) c.table_in.ensures.1 room l.invariant.1,
       list_grows tables table_of no_table _ _ _ _ c.next_group.ensures l.count l.tables l.invariant.2 l.invariant.3 c.loop-r-test.true _ c.record_at-r.ensures.0 _ _
-          c.table_form.ensures c.table_new.ensures _ f.ensures _ _ c.if-fault-ne0.false l.invariant.0 room c.table_in.ensures.0,
+          c.table_form.ensures c.table_new.ensures _ c.first_fault.ensures _ _ f l.invariant.0 room c.table_in.ensures.0,
       search (went_on 2 pos),
     )

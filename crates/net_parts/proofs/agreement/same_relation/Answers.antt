@@ -20,4 +20,4 @@ equally-many m n ks js e h =
     ∙ columns-count n js
 
 pub same_rows-requires : goal.same_rows-requires
-same_rows-requires c = (search rules, search rules, equally-many _ _ _ _ c.same_columns.ensures c.if-same_columns.true)
+same_rows-requires c = (search rules, search rules, equally-many _ _ _ _ (rw (c.column_kinds.ensures, c.column_kinds-2.ensures) at c.same_columns.ensures) c.if-same_columns.true)

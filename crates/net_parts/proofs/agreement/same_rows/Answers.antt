@@ -23,16 +23,16 @@ loop-i-preserved c =
     let l = c.loop-i in (
       search rules,
       agree-more same_row _ l.invariant.1 (firsts_cons (values_of a.columns) no_row a.count a.rows l.i (search rules)) (firsts_cons (values_of b.columns) no_row b.count b.rows l.i (search rules))
-          (c.same_row.ensures ∙ ap (λ (w : ℕ). same_row (values_of a.columns (get_or a.rows l.i no_row)) (values_of w (get_or b.rows l.i no_row))) c.requires.2) c.if-same_row.true,
+          (c.same_row.ensures ∙ ap (λ (w : ℕ). same_row (values_of a.columns (get_or a.rows l.i no_row)) (values_of w (get_or b.rows l.i no_row))) c.requires.2) c.if-not-same_row.false,
     )
 
-pub returns-else-same_row : goal.returns-else-same_row
-returns-else-same_row c =
+pub returns-then-not-same_row : goal.returns-then-not-same_row
+returns-then-not-same_row c =
     let a = c.args.a in
     let b = c.args.b in
     let l = c.loop-i in
     agree-fails same_row _ l.invariant.1 (firsts_cons (values_of a.columns) no_row a.count a.rows l.i (search rules)) (firsts_cons (values_of b.columns) no_row b.count b.rows l.i (search rules))
-    (c.same_row.ensures ∙ ap (λ (w : ℕ). same_row (values_of a.columns (get_or a.rows l.i no_row)) (values_of w (get_or b.rows l.i no_row))) c.requires.2) c.if-same_row.false
+    (c.same_row.ensures ∙ ap (λ (w : ℕ). same_row (values_of a.columns (get_or a.rows l.i no_row)) (values_of w (get_or b.rows l.i no_row))) c.requires.2) c.if-not-same_row.true
 
 pub returns : goal.returns
 returns c =

@@ -1,4 +1,4 @@
-use Prim.Native.Nat.{◌-◌, ◌≤◌}
+use Prim.Native.Nat.{◌≤◌}
 use mathlib.Core.Path.{◌≡◌}
 use lib.ListN.{drop}
 use Rattle.values.specs.Lists.{agree}
@@ -9,6 +9,3 @@ use Rattle.net_parts.proofs.agreement.same_rows.Given as goal
 abbrev pub invariant-loop-i : goal.invariant-loop-i
 invariant-loop-i l = (l.i ≤ l.count)
     × (agree same_row (drop l.i (relation_of l.a).rows) (drop l.i (relation_of l.b).rows) ≡ agree same_row (relation_of l.a).rows (relation_of l.b).rows)
-
-abbrev pub decreases-loop-i : goal.decreases-loop-i
-decreases-loop-i l = l.count - l.i

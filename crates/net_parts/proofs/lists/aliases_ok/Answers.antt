@@ -5,7 +5,7 @@ use mathlib.Core.Bool.{Bool, true, false, ◌&&◌}
 use mathlib.Core.List.{List, ◌∷◌}
 use native.Mathlib.Omega.{arith}
 use lib.ListN.{drop, get_or, set, replicate}
-use Rattle.values.specs.Lists.{all}
+use Rattle.std.specs.List.{list_all}
 use Rattle.values.proofs.Firsts.{firsts_end}
 use Rattle.values.proofs.PairLaws.{tails}
 use Rattle.nets.specs.declared.Alias.{Alias}
@@ -21,11 +21,11 @@ start : (l : List Alias) (n : ℕ) → Passed (replicate 64 false) (drop n (alia
 start l n = subst (Passed (replicate 64 false)) (sym (firsts_end (λ (a : Alias). a) no_alias n l n (omega arith))) none_passed
 
 module _ (l : List Alias) (n i : ℕ) (h : 0 < i) (k : i ≤ n) {t : Bool} (q : t ≡ alias_ok (get_or l (i - 1) no_alias)) where
-  wrong : t ≡ false → false ≡ (all alias_ok (aliases_of n l) && aliases_differ (aliases_of n l))
+  wrong : t ≡ false → false ≡ (list_all alias_ok (aliases_of n l) && aliases_differ (aliases_of n l))
   wrong y = alias-fails l n i h k (rw (sym q ∙ y))
 
   module _ {seen : List Bool} (p : Passed seen (drop i (aliases_of n l))) (y : t ≡ true) {at : ℕ} (e : at ≡ alias_place (get_or l (i - 1) no_alias)) where
-    twice : get_or seen at false ≡ true → false ≡ (all alias_ok (aliases_of n l) && aliases_differ (aliases_of n l))
+    twice : get_or seen at false ≡ true → false ≡ (list_all alias_ok (aliases_of n l) && aliases_differ (aliases_of n l))
     twice z = alias-fails l n i h k (one-twice p (get_or l (i - 1) no_alias) (sym q ∙ y) (ap (λ (j : ℕ). get_or seen j false) (sym e) ∙ z))
 
     more : get_or seen at false ≡ false → Passed (set seen at true) (drop (i - 1) (aliases_of n l))
@@ -34,7 +34,7 @@ module _ (l : List Alias) (n i : ℕ) (h : 0 < i) (k : i ≤ n) {t : Bool} (q : 
         (subst (λ (j : ℕ). Passed (set seen j true) (get_or l (i - 1) no_alias ∷ drop i (aliases_of n l))) (sym e)
         (one-passed p (get_or l (i - 1) no_alias) (sym q ∙ y) (ap (λ (j : ℕ). get_or seen j false) (sym e) ∙ z)))
 
-done : (l : List Alias) (n i : ℕ) {seen : List Bool} → i ≤ 0 → Passed seen (drop i (aliases_of n l)) → true ≡ (all alias_ok (aliases_of n l) && aliases_differ (aliases_of n l))
+done : (l : List Alias) (n i : ℕ) {seen : List Bool} → i ≤ 0 → Passed seen (drop i (aliases_of n l)) → true ≡ (list_all alias_ok (aliases_of n l) && aliases_differ (aliases_of n l))
 done l n i h p =
     let z : i ≡ 0 = omega arith in
     sym (ap (λ (j : ℕ). tails alias_test (drop j (aliases_of n l))) (sym z) ∙ p.right) ∙ aliases_are (aliases_of n l)

@@ -28,17 +28,17 @@ loop-i-preserved c =
     (firsts_cons table_of no_table a.count a.tables l.i (search rules))
     (ap₂ ◌&&◌ c.table_ok.ensures
     (label_tested a.tables c.labels_of-labels.result a.count (search rules) c.labels_of-labels.ensures (table_of (get_or a.tables l.i no_table)) (l.i + 1) c.label_of-a.ensures c.label_new.ensures))
-    c.if-table_ok-label_new.true
+    c.if-not-table_ok-label_new.false
 
-pub returns-else-table_ok-label_new : goal.returns-else-table_ok-label_new
-returns-else-table_ok-label_new c =
+pub returns-then-not-table_ok-label_new : goal.returns-then-not-table_ok-label_new
+returns-then-not-table_ok-label_new c =
     let a = c.args in
     let l = c.loop-i in
     tails-fails table_test _ l.invariant
     (firsts_cons table_of no_table a.count a.tables l.i (search rules))
     (ap₂ ◌&&◌ c.table_ok.ensures
     (label_tested a.tables c.labels_of-labels.result a.count (search rules) c.labels_of-labels.ensures (table_of (get_or a.tables l.i no_table)) (l.i + 1) c.label_of-a.ensures c.label_new.ensures))
-    c.if-table_ok-label_new.false
+    c.if-not-table_ok-label_new.true
 
 pub returns : goal.returns
 returns c =

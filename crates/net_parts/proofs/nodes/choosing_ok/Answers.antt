@@ -19,13 +19,13 @@ returns c =
     let aggregates = c.is_aggregate-aggregate.ensures in
     fields_are (kind_at d.kind) (node_of d) (sym (f (λ k. not (eqb (code k) 0)) true tt))
     (sym (ap (λ t. t || eqb d.body 0) (f is_loop false tt)))
-    (either_is c.name_used.ensures c.has_locality-located.ensures refl refl)
-    (either_is c.ok_if_used.ensures c.binds_relation.ensures refl refl)
-    (either_is c.ok_if_used-2.ensures c.reads_relation.ensures refl refl)
+    (either_is c.ok_if_used.ensures c.has_locality-located.ensures c.is_text.ensures refl)
+    (either_is c.ok_if_used-2.ensures c.binds_relation.ensures refl refl)
+    (either_is c.ok_if_used-3.ensures c.reads_relation.ensures refl refl)
     (c.function_ok.ensures ∙ ap (λ u. function_ok u d.function d.column) aggregates)
     (cond_no refl _ (f is_create false tt) (ap (λ n. eqb n 0) (sym (columns-count d.columns d.kinds))))
-    (either_is c.locality_used.ensures c.has_locality-located.ensures refl refl)
+    (either_is c.ok_if_used-4.ensures c.has_locality-located.ensures c.locality_operand_ok.ensures c.is_absent.ensures)
     (cond_yes refl _ (f has_template true tt) c.template_ok.ensures)
     (cond_yes refl _ given c.test_ok.ensures)
     c.tuple_ok.ensures
-    (either_is c.result_used.ensures aggregates refl refl)
+    (either_is c.ok_if_used-5.ensures aggregates c.tagged.ensures c.is_absent-2.ensures)

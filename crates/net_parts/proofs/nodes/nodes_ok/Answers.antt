@@ -1,12 +1,12 @@
 -- `net_parts::nodes::nodes_ok` meets its contract: the nodes that are left decide; the shapes so far are those of the nodes passed.
 use Prim.Native.Nat.{ℕ, suc, ◌+◌, ◌≤◌}
 use mathlib.Core.Path.{◌≡◌, sym, ap, ap₂, ◌∙◌, subst}
-use mathlib.Core.Bool.{Bool, true, false, true≢false, ◌&&◌}
+use mathlib.Core.Bool.{Bool, true, false, ◌&&◌}
 use mathlib.Core.List.{List, [], ◌∷◌, ◌++◌}
 use native.Mathlib.Numerals.{add-one}
 use native.Mathlib.Omega.{arith}
 use lib.ListN.{length-set}
-use Rattle.values.specs.Lists.{firsts}
+use Rattle.values.specs.Lists.{firsts, or_else}
 use Rattle.values.proofs.Firsts.{length-firsts, firsts_cons, firsts_end, firsts_push, firsts-next, map-firsts}
 use Rattle.nets.specs.declared.Node as Code
 use Rattle.nets.specs.Nets.{Node}
@@ -53,15 +53,15 @@ loop-i-preserved c =
       firsts_push (λ (s : ℕ). s) 0 l.i l.shapes c.shape_of.result (omega (arith, l.invariant.1))
           ∙ ap₂ (λ k x. k ++ (x ∷ [])) l.invariant.2 c.shape_of.ensures
           ∙ sym (firsts-next (λ (d : Code.Node). shape_of (node_of d)) no_node l.i a.nodes),
-      nodes-more a.count l.i _ l.invariant.3 (firsts_cons node_of no_node a.count a.nodes l.i (search rules)) (ap₂ ◌&&◌ c.fields_ok.ensures c.links_ok.ensures) c.if-fields_ok-links_ok.true,
+      nodes-more a.count l.i _ l.invariant.3 (firsts_cons node_of no_node a.count a.nodes l.i (search rules)) (ap₂ ◌&&◌ c.fields_ok.ensures c.links_ok.ensures) c.if-not-fields_ok-links_ok.false,
     )
 
-pub returns-else-fields_ok-links_ok : goal.returns-else-fields_ok-links_ok
-returns-else-fields_ok-links_ok c =
+pub returns-then-not-fields_ok-links_ok : goal.returns-then-not-fields_ok-links_ok
+returns-then-not-fields_ok-links_ok c =
     let a = c.args in
     let l = c.loop-i in (
-      nodes-fails a.count l.i _ l.invariant.3 (firsts_cons node_of no_node a.count a.nodes l.i (search rules)) (ap₂ ◌&&◌ c.fields_ok.ensures c.links_ok.ensures) c.if-fields_ok-links_ok.false,
-      λ h. absurd (true≢false (sym h)),
+      nodes-fails a.count l.i _ l.invariant.3 (firsts_cons node_of no_node a.count a.nodes l.i (search rules)) (ap₂ ◌&&◌ c.fields_ok.ensures c.links_ok.ensures) c.if-not-fields_ok-links_ok.true,
+      λ s e. grind arith,
     )
 
 pub returns : goal.returns
@@ -69,5 +69,5 @@ returns c =
     let a = c.args in
     let l = c.loop-i in (
       nodes-end a.count l.i _ l.invariant.3 (firsts_end node_of no_node a.count a.nodes l.i (search rules)),
-      λ h. done l.shapes a.nodes a.count l.i l.invariant.0 c.loop-i-test.false l.invariant.2,
+      λ s e. subst (λ (x : List ℕ). ShapesOf x a.count (nodes_of a.count a.nodes)) (ap (or_else []) e) (done l.shapes a.nodes a.count l.i l.invariant.0 c.loop-i-test.false l.invariant.2),
     )

@@ -1,4 +1,4 @@
-use Prim.Native.Nat.{ℕ, ◌-◌, ◌≤◌}
+use Prim.Native.Nat.{ℕ, ◌≤◌}
 use mathlib.Core.Path.{◌≡◌}
 use mathlib.Core.Bool.{◌&&◌}
 use mathlib.Core.List.{List}
@@ -20,6 +20,3 @@ node_shapes n l = firsts (λ (d : Code.Node). shape_of (node_of d)) no_node n l
 abbrev pub invariant-loop-i : goal.invariant-loop-i
 invariant-loop-i l = (l.i ≤ l.count) × (length l.shapes ≡ 128) × (shapes_in l.i l.shapes ≡ node_shapes l.i l.nodes)
     × (nodes_ok l.count l.i (drop l.i (nodes_of l.count l.nodes)) ≡ (leb l.count 128 && nodes_ok l.count 0 (nodes_of l.count l.nodes)))
-
-abbrev pub decreases-loop-i : goal.decreases-loop-i
-decreases-loop-i l = l.count - l.i

@@ -7,12 +7,11 @@ use native.Mathlib.Omega.{arith}
 use lib.Dec.{ltb}
 use lib.ListN.{drop, get_or, set, replicate}
 use Rattle.values.specs.declared.Operand.{Operand}
-use Rattle.values.specs.Lists.{all}
+use Rattle.std.specs.List.{list_all}
 use Rattle.values.specs.Operands.{formals}
 use Rattle.values.proofs.Firsts.{firsts_cons, firsts_end}
 use Rattle.values.proofs.PairLaws.{tails}
 use Rattle.values.proofs.Sizes.{some-over, some_fits}
-use Rattle.rows.specs.declared.Field.{Field}
 use Rattle.rows.specs.declared.Operands.{Operands}
 use Rattle.rows.specs.View.{no_field, operands_of}
 use Rattle.nets.specs.Sound.{tagged, operands_ok, differ, template_ok}
@@ -27,13 +26,13 @@ no-template : (t : Operands) → false ≡ operands_ok 6 (operands_of t) → fal
 no-template t e = ap (λ (b : Bool). b && differ (formals (operands_of t))) e
 
 start : (t : Operands) → Held (replicate 17 false) (drop t.count (operands_of t))
-start t = subst (Held (replicate 17 false)) (sym (firsts_end (λ (f : Field). f.operand) no_field t.count t.fields t.count (omega arith))) none-held
+start t = subst (Held (replicate 17 false)) (sym (firsts_end (λ (o : Operand). o) no_field t.count t.fields t.count (omega arith))) none-held
 
 module _ (t : Operands) (s : t.count ≡ 0 → ⊥) (f : t.count ≤ 4) where
   template-is : tails operand_test (operands_of t) ≡ template_ok (operands_of t)
   template-is =
       operands_are (operands_of t)
-      ∙ ap (λ (b : Bool). b && differ (formals (operands_of t))) (some_fits 4 (all (tagged 6) (operands_of t)) (operands_count t) s f)
+      ∙ ap (λ (b : Bool). b && differ (formals (operands_of t))) (some_fits 4 (list_all (tagged 6) (operands_of t)) (operands_count t) s f)
 
   done : (i : ℕ) {seen : List Bool} → i ≤ 0 → Held seen (drop i (operands_of t)) → true ≡ template_ok (operands_of t)
   done i h p =
@@ -43,12 +42,12 @@ module _ (t : Operands) (s : t.count ≡ 0 → ⊥) (f : t.count ≤ 4) where
   module _ (i : ℕ) (h : 0 < i) (k : i ≤ t.count) where
     -- the operand before place `i`
     abbrev op : Operand
-    op = (get_or t.fields (i - 1) no_field).operand
+    op = (get_or t.fields (i - 1) no_field)
 
     before : drop (i - 1) (operands_of t) ≡ op ∷ drop i (operands_of t)
     before =
         let q : i - 1 + 1 ≡ i = omega arith in
-        firsts_cons (λ (f : Field). f.operand) no_field t.count t.fields (i - 1) (omega arith) ∙ ap (λ (j : ℕ). op ∷ drop j (operands_of t)) q
+        firsts_cons (λ (o : Operand). o) no_field t.count t.fields (i - 1) (omega arith) ∙ ap (λ (j : ℕ). op ∷ drop j (operands_of t)) q
 
     fails : tails operand_test (op ∷ drop i (operands_of t)) ≡ false → false ≡ template_ok (operands_of t)
     fails e = sym (tails-dropped operand_test (operands_of t) (i - 1) (ap (tails operand_test) before ∙ e)) ∙ template-is

@@ -11,14 +11,14 @@ loop-i-preserved c =
     let r = c.args.r in
     let l = c.loop-i in (
       search rules,
-      all_more (row_ok (relation_of r).columns) _ l.invariant.1 (firsts_cons (values_of r.columns) no_row r.count r.rows l.i (search rules)) c.row_ok.ensures c.if-row_ok.true,
+      all_more (row_ok (relation_of r).columns) _ l.invariant.1 (firsts_cons (values_of r.columns) no_row r.count r.rows l.i (search rules)) c.row_ok.ensures c.if-not-row_ok.false,
     )
 
-pub returns-else-row_ok : goal.returns-else-row_ok
-returns-else-row_ok c =
+pub returns-then-not-row_ok : goal.returns-then-not-row_ok
+returns-then-not-row_ok c =
     let r = c.args.r in
     let l = c.loop-i in
-    all-fails (row_ok (relation_of r).columns) _ l.invariant.1 (firsts_cons (values_of r.columns) no_row r.count r.rows l.i (search rules)) c.row_ok.ensures c.if-row_ok.false
+    all-fails (row_ok (relation_of r).columns) _ l.invariant.1 (firsts_cons (values_of r.columns) no_row r.count r.rows l.i (search rules)) c.row_ok.ensures c.if-not-row_ok.true
 
 pub returns : goal.returns
 returns c =

@@ -3,12 +3,12 @@ use Prim.Native.Nat.{ℕ, suc, ◌+◌, ◌*◌, ◌-◌, ◌<◌, ◌≤◌}
 use mathlib.Core.Path.{◌≡◌, refl, sym, ap, ap₂, ◌∙◌}
 use mathlib.Core.Bool.{Bool, true, false, cond, ◌&&◌, ◌||◌}
 use mathlib.Core.List.{List, ◌∷◌, map}
-use mathlib.Core.Option.{Option}
+use Rattle.std.specs.Prelude.{Option}
 use native.Mathlib.Omega.{arith}
 use native.Mathlib.Numerals.{add-one}
 use lib.Dec.{T, eqb, leb}
 use lib.ListN.{length, get_or, length-map}
-use Rattle.values.specs.Lists.{all, any}
+use Rattle.std.specs.List.{list_all, list_any}
 use Rattle.values.specs.Values.{site_ok}
 use Rattle.values.proofs.Bools.{and_l, and_r, T_of, and-go, and-stop}
 use Rattle.values.proofs.ByPlace.{by_cons, by_end_lem}
@@ -56,10 +56,10 @@ module _ (ds : List Node) (saved : List Saved) (i : ℕ) (t : Code.Thread) {r : 
       abbrev top : Entry
       top = entry_of (bs j) (get_or t.stack j no_frame)
 
-      bare : T (all (bare_entry_ok ds rs) (top ∷ lower))
+      bare : T (list_all (bare_entry_ok ds rs) (top ∷ lower))
       bare =
           let d = length (stack_of bs t.depth t.stack) in
-          let all-bare = all (bare_entry_ok ds rs) (stack_of bs t.depth t.stack) in
+          let all-bare = list_all (bare_entry_ok ds rs) (stack_of bs t.depth t.stack) in
           bare-lower ds rs bs t.stack t.depth (suc j) (omega arith)
           (and_r (leb 1 d && leb d 8) all-bare
           (and_r (site_ok t.site && bindings_ok (thread_of bs t).bindings) (leb 1 d && leb d 8 && all-bare) (T_of (bare_thread_ok ds (thread_of bs t)) (sym judged ∙ h))))
@@ -69,12 +69,12 @@ module _ (ds : List Node) (saved : List Saved) (i : ℕ) (t : Code.Thread) {r : 
 
       module _ {n : ℕ} (e : n ≡ shape_in ds top) {a b : Bool} (p : a ≡ reads_first n) (q : b ≡ reads_second n) where
         top-bare : T (bare_entry_ok ds rs top)
-        top-bare = and_l (bare_entry_ok ds rs top) (all (bare_entry_ok ds rs) lower) bare
+        top-bare = and_l (bare_entry_ok ds rs top) (list_all (bare_entry_ok ds rs) lower) bare
 
-        first-noted : (a || first) ≡ any (holds ds 0) (top ∷ lower)
+        first-noted : (a || first) ≡ list_any (holds ds 0) (top ∷ lower)
         first-noted = ap₂ ◌||◌ (p ∙ ap reads_first e ∙ holds-first ds rs top top-bare) m.first_held
 
-        second-noted : (b || second) ≡ any (holds ds 1) (top ∷ lower)
+        second-noted : (b || second) ≡ list_any (holds ds 1) (top ∷ lower)
         second-noted = ap₂ ◌||◌ (q ∙ ap reads_second e ∙ holds-second ds rs top top-bare) m.second_held
 
         noted : true ≡ saved_right ds rs lower top → Noted ds rs bs t.stack (a || first) (b || second) (j + 1)

@@ -1,11 +1,11 @@
-use Prim.Native.Nat.{ℕ, ◌-◌, ◌≤◌}
+use Prim.Native.Nat.{ℕ, ◌≤◌}
 use mathlib.Core.Path.{◌≡◌}
 use mathlib.Core.Bool.{Bool, true, ◌&&◌}
 use mathlib.Core.List.{List, map}
-use mathlib.Core.Option.{Option}
+use Rattle.std.specs.Prelude.{Option}
 use lib.Dec.{leb}
 use lib.ListN.{drop}
-use Rattle.values.specs.Lists.{all, any}
+use Rattle.std.specs.List.{list_all, list_any}
 use Rattle.rows.specs.Relations.{Relation}
 use Rattle.nets.specs.declared.Frame.{Frame}
 use Rattle.nets.specs.Nets.{Bindings, Node}
@@ -17,20 +17,14 @@ use Rattle.net_sound.proofs.saved.threads_ok.Given as goal
 
 -- what is noted of the lowest `j` entries: which table variables they hold, and that what is saved for them is right
 pub record Noted (ds : List Node) (rs : List (Option Relation)) (bs : ℕ → Bindings) (l : List Frame) (first second : Bool) (j : ℕ) : Type 0 where
-  pub first_held : first ≡ any (holds ds 0) (stack_of bs j l)
-  pub second_held : second ≡ any (holds ds 1) (stack_of bs j l)
+  pub first_held : first ≡ list_any (holds ds 0) (stack_of bs j l)
+  pub second_held : second ≡ list_any (holds ds 1) (stack_of bs j l)
   pub right : all_saved_right ds rs (stack_of bs j l) ≡ true
 
 abbrev pub invariant-loop-j : goal.invariant-loop-j
 invariant-loop-j l = (l.j ≤ l.t.depth)
     × ((ds : List Node) → ShapesOf l.shapes l.count ds → Noted ds (map variable_of l.t.relations) (saved_at ds l.saved l.i l.t) l.t.stack l.first l.second l.j)
 
-abbrev pub decreases-loop-j : goal.decreases-loop-j
-decreases-loop-j l = l.t.depth - l.j
-
 abbrev pub invariant-loop-i : goal.invariant-loop-i
 invariant-loop-i l = (l.i ≤ l.n)
-    × ((ds : List Node) → ShapesOf l.shapes l.count ds → all (thread_ok ds) (drop l.i (threads_of ds l.saved l.n l.threads)) ≡ (leb l.n 8 && all (thread_ok ds) (threads_of ds l.saved l.n l.threads)))
-
-abbrev pub decreases-loop-i : goal.decreases-loop-i
-decreases-loop-i l = l.n - l.i
+    × ((ds : List Node) → ShapesOf l.shapes l.count ds → list_all (thread_ok ds) (drop l.i (threads_of ds l.saved l.n l.threads)) ≡ (leb l.n 8 && list_all (thread_ok ds) (threads_of ds l.saved l.n l.threads)))

@@ -7,14 +7,12 @@ use native.Mathlib.Omega.{arith}
 use lib.Dec.{leb}
 use lib.ListN.{length, get_or, length-map}
 use borrow.Author.Tests.{eq-eqb, leb-true}
-use Rattle.values.specs.declared.Slot.{Slot}
-use Rattle.values.specs.Lists.{all}
+use Rattle.std.specs.List.{list_all}
 use Rattle.values.specs.Values.{site_ok}
-use Rattle.values.specs.Operands.{vars_of}
 use Rattle.values.proofs.Arrays.{long}
 use Rattle.values.proofs.Bools.{and_assoc, and_first, and_last, and-go}
 use Rattle.nets.specs.declared.Thread.{Thread}
-use Rattle.nets.specs.declared.TableVariable.{TableVariable}
+use Rattle.nets.specs.View.{TableVariable}
 use Rattle.nets.specs.Sound.{relation_ok, variable_ok, bindings_ok}
 use Rattle.nets.specs.View.{no_variable, variable_of, bindings_of}
 use Rattle.net_parts.proofs.EntryLaws.{extents_are, both_of}
@@ -25,15 +23,15 @@ tidied : (s v a b : Bool) → (s && v && (a && b)) ≡ (s && (v && true && (a &&
 tidied s v a b = rw (and-true v, and-true b) (sym (and_assoc s v (a && b)))
 
 module _ (t : Thread) (m : length t.vars ≡ 16) (n : length t.relations ≡ 2) where
-  first_two : all relation_ok (map variable_of t.relations) ≡ (relation_ok (variable_of (get_or t.relations 0 no_variable)) && (relation_ok (variable_of (get_or t.relations 1 no_variable)) && true))
-  first_two = ap (λ (l : List TableVariable). all relation_ok (map variable_of l)) (both_of t.relations no_variable n)
+  first_two : list_all relation_ok (map variable_of t.relations) ≡ (relation_ok (variable_of (get_or t.relations 0 no_variable)) && (relation_ok (variable_of (get_or t.relations 1 no_variable)) && true))
+  first_two = ap (λ (l : List TableVariable). list_all relation_ok (map variable_of l)) (both_of t.relations no_variable n)
 
-  parts_are : {s v a b : Bool} → s ≡ site_ok t.site → v ≡ all variable_ok (vars_of t.vars)
+  parts_are : {s v a b : Bool} → s ≡ site_ok t.site → v ≡ list_all variable_ok t.vars
       → a ≡ relation_ok (variable_of (get_or t.relations 0 no_variable)) → b ≡ relation_ok (variable_of (get_or t.relations 1 no_variable))
       → (s && v && (a && b)) ≡ (site_ok t.site && bindings_ok (bindings_of t.vars t.relations))
   parts_are {s} {v} {a} {b} p q f g =
       tidied s v a b
-      ∙ rw (eq-eqb (length (vars_of t.vars)) 16 (length-map t.vars (λ (x : Slot). x.held) ∙ m), eq-eqb (length (map variable_of t.relations)) 2 (length-map t.relations variable_of ∙ n), first_two, p, q, f, g)
+      ∙ rw (eq-eqb (length t.vars) 16 (m), eq-eqb (length (map variable_of t.relations)) 2 (length-map t.relations variable_of ∙ n), first_two, p, q, f, g)
 
 -- what a test that passed says of the two counts
 module _ (s v : Bool) (m n : ℕ) (h : (s && v && (leb m 16 && leb n 16)) ≡ true) where

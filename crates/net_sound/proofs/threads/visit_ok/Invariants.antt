@@ -1,18 +1,15 @@
-use Prim.Native.Nat.{ℕ, ◌-◌, ◌≤◌}
+use Prim.Native.Nat.{ℕ, ◌≤◌}
 use mathlib.Core.Path.{◌≡◌}
 use mathlib.Core.Bool.{Bool}
 use mathlib.Core.List.{List}
 use lib.Dec.{ltb}
 use lib.ListN.{drop}
-use Rattle.values.specs.Lists.{all}
+use Rattle.std.specs.List.{list_all}
 use Rattle.nets.specs.View.{marked}
 use Rattle.net_sound.proofs.threads.visit_ok.Given as goal
 
 abbrev below : ℕ → List ℕ → Bool
-below n l = all (λ j. ltb j n) l
+below n l = list_all (λ j. ltb j n) l
 
 abbrev pub invariant-loop-i : goal.invariant-loop-i
 invariant-loop-i l = (l.i ≤ 16) × (below l.n (marked l.i (drop l.i l.visit)) ≡ below l.n (marked 0 l.visit))
-
-abbrev pub decreases-loop-i : goal.decreases-loop-i
-decreases-loop-i l = 16 - l.i

@@ -3,14 +3,14 @@ use Prim.Native.Nat.{ℕ, ◌-◌, ◌≤◌, ◌<◌}
 use mathlib.Core.Path.{◌≡◌, sym, ap, ◌∙◌}
 use mathlib.Core.Bool.{Bool, true, false, cond}
 use mathlib.Core.List.{List, [], ◌∷◌, ◌++◌}
-use mathlib.Core.Option.{Option, none, some}
+use Rattle.std.specs.Prelude.{Option, None, Some, is_some}
 use native.Mathlib.Nat.{sub-zero}
 use native.Mathlib.Omega.{arith}
 use lib.Dec.{leb}
 use lib.ListN.{length, get_or, drop, length-take}
 use borrow.Author.Tests.{le-ltb, le-leb, lt-leb}
 use Rattle.values.specs.declared.Site.{Site}
-use Rattle.values.specs.Lists.{is_some, place_of}
+use Rattle.values.specs.Lists.{place_of}
 use Rattle.values.proofs.Bools.{T_not_of}
 use Rattle.values.proofs.Firsts.{length-firsts, firsts_at}
 use Rattle.rows.specs.View.{relation_of}
@@ -33,7 +33,7 @@ module _ (ts : List Table) (count place : ℕ) (s : Site) (n : ℕ) (o : List �
 
   -- ── no such table ──
 
-  absent : count ≤ place → table ≡ none
+  absent : count ≤ place → table ≡ None
   absent h =
       let l : length (tables_of count ts) ≤ place_of (is_at s n) (tables_of count ts) = omega (arith, many, e) in
       none_of table (T_not_of (is_some table) (table-there s n (tables_of count ts) ∙ le-ltb (place_of (is_at s n) (tables_of count ts)) (length (tables_of count ts)) l))
@@ -50,12 +50,12 @@ module _ (ts : List Table) (count place : ℕ) (s : Site) (n : ℕ) (o : List �
     abbrev bytes : List ℕ
     bytes = page_of (relation_of (get_or ts place no_table).content)
 
-    found : table ≡ some (table_of (get_or ts place no_table))
+    found : table ≡ Some (table_of (get_or ts place no_table))
     found =
         let l : place_of (is_at s n) (tables_of count ts) < length (tables_of count ts) = omega (arith, many, e) in
         table-at s n (tables_of count ts) (table_of no_table) l
-        ∙ ap (λ (i : ℕ). some (get_or (tables_of count ts) i (table_of no_table))) (sym e)
-        ∙ ap some (firsts_at table_of no_table count ts place (table_of no_table) below)
+        ∙ ap (λ (i : ℕ). Some (get_or (tables_of count ts) i (table_of no_table))) (sym e)
+        ∙ ap Some (firsts_at table_of no_table count ts place (table_of no_table) below)
 
     module _ (size : ℕ) (long : size ≡ length bytes) where
       by_room : (t : Bool) → leb size (length o) ≡ t → page_for table o ≡ cond t (a_page bytes) (no_page 22 (size ∷ []))

@@ -5,11 +5,11 @@ use mathlib.Core.List.{List}
 use lib.Dec.{T}
 use lib.ListN.{length, get_or}
 use borrow.Author.Rules.{rules}
-use Rattle.values.specs.Lists.{all}
+use Rattle.std.specs.List.{list_all}
 use Rattle.values.specs.Values.{in_range}
 use Rattle.values.proofs.Firsts.{all_firsts}
 use Rattle.value_decimal.specs.Decimals.{blanks}
-use Rattle.rows.specs.declared.Cell.{Cell}
+use Rattle.values.specs.declared.Value.{Value}
 use Rattle.rows.specs.declared.Row.{Row}
 use Rattle.rows.specs.View.{no_cell, values_of}
 use Rattle.page_rules.specs.Pages.{cell, row_cell}
@@ -17,14 +17,14 @@ use Rattle.page_lines.proofs.CellLaws.{cell-there, cell-missing}
 use Rattle.page_lines.proofs.cells.put_row_cell.Goals as goal
 
 module _ (row : Row) (n i : ℕ) where
-  value-ok : i < n → T (all in_range (values_of n row)) → T (in_range (get_or row.cells i no_cell).value)
-  value-ok h ok = all_firsts in_range (λ (c : Cell). c.value) no_cell n row.cells i h ok
+  value-ok : i < n → T (list_all in_range (values_of n row)) → T (in_range (get_or row.cells i no_cell))
+  value-ok h ok = all_firsts in_range (λ (v : Value). v) no_cell n row.cells i h ok
 
-  there : (out : List ℕ) → i < n → out ≡ cell (get_or row.cells i no_cell).value → out ≡ row_cell (values_of n row) i
-  there out h e = e ∙ sym (cell-there (λ (c : Cell). c.value) no_cell n row.cells i h)
+  there : (out : List ℕ) → i < n → out ≡ cell (get_or row.cells i no_cell) → out ≡ row_cell (values_of n row) i
+  there out h e = e ∙ sym (cell-there (λ (v : Value). v) no_cell n row.cells i h)
 
   missing : (o out : List ℕ) → n ≤ i → length o ≡ 13 → out ≡ blanks (length o) → out ≡ row_cell (values_of n row) i
-  missing o out h l e = e ∙ ap blanks l ∙ sym (cell-missing (λ (c : Cell). c.value) no_cell n row.cells i h)
+  missing o out h l e = e ∙ ap blanks l ∙ sym (cell-missing (λ (v : Value). v) no_cell n row.cells i h)
 
 pub put_value-requires : goal.put_value-requires
 put_value-requires c = (search rules, search value-ok)

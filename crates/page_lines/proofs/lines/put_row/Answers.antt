@@ -8,7 +8,7 @@ use lib.ListN.{length, drop, set}
 use borrow.Rule.Slice.PartMut.{put_mid}
 use Rattle.value_bytes.proofs.Parts.{along, along-more}
 use Rattle.value_bytes.proofs.Stores.{kept-length}
-use Rattle.values.specs.Lists.{all}
+use Rattle.std.specs.List.{list_all}
 use Rattle.values.specs.Values.{in_range}
 use Rattle.rows.specs.declared.Row.{Row}
 use Rattle.rows.specs.View.{values_of}
@@ -17,7 +17,7 @@ use Rattle.page_lines.proofs.CellLaws.{row-cell-length}
 use Rattle.page_lines.proofs.LineLaws.{line-ended}
 use Rattle.page_lines.proofs.lines.put_row.Goals as goal
 
-module _ (row : Row) (n : ℕ) (ok : T (all in_range (values_of n row))) where
+module _ (row : Row) (n : ℕ) (ok : T (list_all in_range (values_of n row))) where
   one_more : (i : ℕ) (o out ys : List ℕ) → out ≡ along (row_cell (values_of n row)) i ++ drop (i * 13) o → ys ≡ row_cell (values_of n row) i →
       put_mid (i * 13) (i * 13 + 13 - i * 13) out ys ≡ along (row_cell (values_of n row)) (i + 1) ++ drop ((i + 1) * 13) o
   one_more = along-more (row_cell (values_of n row)) 13 (row-cell-length (values_of n row) ok)

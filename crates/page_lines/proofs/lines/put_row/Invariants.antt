@@ -15,6 +15,3 @@ invariant-loop-i l =
       full : length l.out ≡ 53;
       filled : l.out ≡ along (row_cell (values_of l.columns l.row)) l.i ++ drop (l.i * 13) l.initial.out;
     }
-
-abbrev pub decreases-loop-i : goal.decreases-loop-i
-decreases-loop-i l = 4 - l.i

@@ -6,7 +6,8 @@ use native.Mathlib.Omega.{arith}
 use lib.Dec.{T, leb}
 use lib.ListN.{length, get_or, drop, length-append, length-take, length-drop}
 use borrow.Rule.Slice.PartMut.{put_mid}
-use Rattle.values.specs.Lists.{all, firsts}
+use Rattle.values.specs.Lists.{firsts}
+use Rattle.std.specs.List.{list_all}
 use Rattle.values.specs.Values.{in_range}
 use Rattle.values.proofs.Bools.{and_r}
 use Rattle.values.proofs.Firsts.{firsts-next, map-firsts, all_firsts}
@@ -24,8 +25,8 @@ use Rattle.page_lines.proofs.lines.put_rows.Goals as goal
 -- ── rows in their ranges ──
 
 module _ (r : Relation) (ok : T (rows_ok (relation_of r).rows)) where
-  row-ok : (i : ℕ) → i < r.count → T (all in_range (values_of r.columns (get_or r.rows i no_row)))
-  row-ok i h = all_firsts (λ x. all in_range x) (values_of r.columns) no_row r.count r.rows i h (and_r (leb (length (relation_of r).rows) 16) (all (λ x. all in_range x) (relation_of r).rows) ok)
+  row-ok : (i : ℕ) → i < r.count → T (list_all in_range (values_of r.columns (get_or r.rows i no_row)))
+  row-ok i h = all_firsts (λ x. list_all in_range x) (values_of r.columns) no_row r.count r.rows i h (and_r (leb (length (relation_of r).rows) 16) (list_all (λ x. list_all in_range x) (relation_of r).rows) ok)
 
   -- of the first i rows
   passed_length : (i : ℕ) → i ≤ r.count → length (end_to_end (firsts (line_at r) no_row i r.rows)) ≡ i * 53
@@ -49,13 +50,10 @@ ended r i o out a b l e =
     ∙ ap end_to_end (sym (map-firsts row_line (values_of r.columns) no_row r.count r.rows))
 
 pub put_row-requires : goal.put_row-requires
-put_row-requires c = (simp (length-take, length-drop) (omega arith), omega arith, let h : c.loop-i.i < c.args.r.count = omega (arith, c.loop-i.invariant.all_rows) in search row-ok)
+put_row-requires c = (simp (length-take, length-drop) (omega arith), omega arith, search row-ok)
 
 pub loop-i-preserved : goal.loop-i-preserved
-loop-i-preserved c = record { within = omega arith; all_rows = c.loop-i.invariant.all_rows; full = search kept-length; filled = let h : c.loop-i.i < c.args.r.count = omega (arith, c.loop-i.invariant.all_rows) in search one_more }
+loop-i-preserved c = record { within = omega arith; full = search kept-length; filled = search one_more }
 
 pub returns : goal.returns
-returns c =
-    let h : c.args.r.count ≤ c.loop-i.i = omega (arith, c.loop-i.invariant.all_rows) in
-    let k : c.loop-i.i ≤ c.args.r.count = omega (arith, c.loop-i.invariant.all_rows) in
-    search ended
+returns c = search ended

@@ -17,11 +17,7 @@ line_at r x = row_line (values_of r.columns x)
 abbrev pub invariant-loop-i : goal.invariant-loop-i
 invariant-loop-i l =
     record {
-      within : l.i ≤ l.n;
-      all_rows : l.n ≡ l.r.count;
-      full : length l.out ≡ l.n * 53;
+      within : l.i ≤ l.r.count;
+      full : length l.out ≡ l.r.count * 53;
       filled : l.out ≡ end_to_end (firsts (line_at l.r) no_row l.i l.r.rows) ++ drop (l.i * 53) l.initial.out;
     }
-
-abbrev pub decreases-loop-i : goal.decreases-loop-i
-decreases-loop-i l = l.n - l.i

@@ -46,5 +46,5 @@ returns c =
     let r = c.args.r.now in
     node-is r _ _ _ _ _ _ _ c.column_count.result _ _ _ _ _ c.record_name.ensures c.byte_in.ensures c.byte_in-2.ensures
     c.function_in.ensures c.byte_in-3.ensures c.column_count.ensures c.kinds_in.ensures
-    c.operand_in.ensures c.selector_in.ensures c.tuple_in.ensures c.result_in-result.ensures
+    c.operand_in.ensures c.selector_in.ensures c.tuple_in.ensures c.result_in.ensures
     c.is_create-create.ensures c.is_aggregate-aggregate.ensures

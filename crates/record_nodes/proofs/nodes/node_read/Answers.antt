@@ -9,7 +9,7 @@ use Rattle.nets.specs.Sound.{fields_ok_as}
 use Rattle.nets.specs.View.{kind_at, node_of}
 use Rattle.record_bytes.specs.Bytes.{at}
 use Rattle.record_bytes.specs.Decoding.{node_in, node_bytes, node_form}
-use borrow.Author.Rules.{rules}
+use Rattle.record_nodes.proofs.ReadLaws.{if_given}
 use Rattle.record_nodes.proofs.nodes.node_read.Goals as goal
 
 kind-in : (r : List ℕ) → (node_in r).kind ≡ kind_at (at r 0)
@@ -20,4 +20,4 @@ whole : (r : List ℕ) (a b : Bool) (d : Node) → node_of d ≡ node_in r → a
 whole r a b d hd ha hb = ap₂ ◌&&◌ (ha ∙ ap (λ k. node_bytes k r) (sym (kind-in r))) (hb ∙ ap (λ (x : M.Node). fields_ok_as x.kind x) hd)
 
 pub returns : goal.returns
-returns c = (search whole, search rules)
+returns c = if_given _ _ _ _ _ c.then_some.ensures (search whole) c.node_in-node.ensures

@@ -5,15 +5,14 @@ use mathlib.Core.Bool.{Bool}
 use mathlib.Core.List.{List, [], ◌∷◌, map}
 use lib.ListN.{length}
 use Rattle.values.specs.declared.Operand.{Operand}
-use Rattle.rows.specs.declared.Field.{Field}
 use Rattle.rows.specs.View.{no_field, operands_of}
 use Rattle.nets.specs.Sound.{is_absent}
 use Rattle.record_bytes.specs.Bytes.{part, leading, operand_in, operands_in}
 use Rattle.record_bytes.proofs.ByteLaws.{same, four, operands_are, leading-flags, firsts-leading}
 use Rattle.record_nodes.proofs.operands.operands_in.Goals as goal
 
-abbrev fields : Operand → Operand → Operand → Operand → List Field
-fields a b c d = record { operand = a } ∷ record { operand = b } ∷ record { operand = c } ∷ record { operand = d } ∷ []
+abbrev fields : Operand → Operand → Operand → Operand → List Operand
+fields a b c d = a ∷ b ∷ c ∷ d ∷ []
 
 whole : (bs : List ℕ) (a b c d : Operand) (i j k l : Bool) (n : ℕ) → a ≡ operand_in (part 0 8 bs) → b ≡ operand_in (part 8 16 bs) → c ≡ operand_in (part 16 24 bs) → d ≡ operand_in (part 24 32 bs)
     → i ≡ is_absent (operand_in (part 0 8 bs)) → j ≡ is_absent (operand_in (part 8 16 bs)) → k ≡ is_absent (operand_in (part 16 24 bs)) → l ≡ is_absent (operand_in (part 24 32 bs))
@@ -21,7 +20,7 @@ whole : (bs : List ℕ) (a b c d : Operand) (i j k l : Bool) (n : ℕ) → a ≡
 whole bs a b c d i j k l n pa pb pc pd pi pj pk pl pn =
     let count : n ≡ length (operands_in bs) = rw (pn, pi, pj, pk, pl) (leading-flags is_absent (map operand_in (four bs)) ∙ ap length (sym (operands_are bs))) in
     let is : operands_in bs ≡ leading is_absent (a ∷ b ∷ c ∷ d ∷ []) = operands_are bs ∙ rw (pa, pb, pc, pd) refl in
-    rw (count, is) (firsts-leading (λ (f : Field). f.operand) no_field is_absent (fields a b c d))
+    rw (count, is) (firsts-leading (λ (o : Operand). o) no_field is_absent (fields a b c d))
 
 pub returns : goal.returns
 returns c = (search whole, record { count = c.before_none.ensures.1 })

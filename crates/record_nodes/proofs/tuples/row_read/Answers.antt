@@ -4,7 +4,7 @@ use mathlib.Core.Path.{◌≡◌, ap, ◌∙◌}
 use mathlib.Core.Bool.{Bool, ◌&&◌}
 use mathlib.Core.List.{List, [], map}
 use Rattle.values.specs.declared.Operand.{Operand}
-use Rattle.values.specs.declared.Got.{Got}
+use Rattle.values.specs.Operands.{Got}
 use Rattle.values.specs.declared.Site.{Site}
 use Rattle.values.specs.Operands.{eval}
 use Rattle.values.specs.Values.{site_ok, is_text}
@@ -12,6 +12,7 @@ use Rattle.nets.specs.Sound.{operands_ok}
 use Rattle.record_bytes.specs.Bytes.{part, zeros, operands_form, operands_in}
 use Rattle.record_bytes.specs.Decoding.{site_at, name_in, row_form}
 use borrow.Author.Rules.{rules}
+use Rattle.record_nodes.proofs.ReadLaws.{if_given}
 use Rattle.record_nodes.proofs.tuples.row_read.Goals as goal
 
 whole : (r : List ℕ) (os : List Operand) (s : Site) (t : ℕ) (a b c d e f g : Bool) → os ≡ operands_in (part 56 88 r) → s ≡ site_at 1 r → a ≡ site_ok s → b ≡ zeros (part 2 4 r) → t ≡ name_in r → c ≡ is_text t
@@ -23,4 +24,4 @@ read : (ts os : List Operand) (gs : List Got) → gs ≡ map (eval []) ts → ts
 read ts os gs p q = p ∙ ap (map (eval [])) q
 
 pub returns : goal.returns
-returns c = (search whole, search read, search rules)
+returns c = if_given _ _ _ _ _ c.then_some.ensures (search whole) (search read, search rules)

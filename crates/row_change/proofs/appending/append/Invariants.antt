@@ -4,6 +4,3 @@ use Rattle.row_change.proofs.appending.append.Given as goal
 
 abbrev pub invariant-loop-i : goal.invariant-loop-i
 invariant-loop-i l = Appended l.initial.o l.s l.o l.i
-
-abbrev pub decreases-loop-i : goal.decreases-loop-i
-decreases-loop-i l = l.more - l.i

@@ -5,7 +5,4 @@ use Rattle.row_change.proofs.sifting.sifted.Given as goal
 
 abbrev pub invariant-loop-i : goal.invariant-loop-i
 invariant-loop-i l =
-    record { low : l.i ≤ l.fn.r.count; sift : Sift (values_of l.fn.r.columns) no_row l.want l.flags l.fn.r.rows l.i l.rows l.found }
-
-abbrev pub decreases-loop-i : goal.decreases-loop-i
-decreases-loop-i l = l.count - l.i
+    record { low : l.i ≤ l.r.count; sift : Sift (values_of l.r.columns) no_row l.want l.flags l.r.rows l.i l.rows l.found }

@@ -1,12 +1,10 @@
 -- What is left of the template and the row, over the variables so far, decides.
 use Rattle.std.proofs.Common.{◌≡◌, List, [], ◌∷◌, ap, arith}
-use Rattle.std.specs.Prelude.{map}
-use Rattle.values.specs.declared.Got.TheVariants.{One}
+use Rattle.std.specs.Prelude.{map, Some}
 use Rattle.values.specs.declared.Operand.{Operand}
-use Rattle.values.specs.Operands.{vars_of, formal_of, bind_to, bind}
+use Rattle.values.specs.Operands.{formal_of, bind_to, bind}
 use Rattle.values.proofs.Firsts.{firsts_cons, firsts_end}
-use Rattle.rows.specs.declared.Cell.{Cell}
-use Rattle.rows.specs.declared.Field.{Field}
+use Rattle.values.specs.declared.Value.{Value}
 use Rattle.rows.specs.View.{no_cell, no_field}
 use Rattle.row_fit.proofs.binding.bind_row.Goals as goal
 
@@ -25,14 +23,12 @@ loop-i-preserved c =
     let a = c.args in
     let l = c.loop-i in
     let h = c.loop-i-test.true in
-    let n = a.template.count in record {
-      within = omega arith;
-      left = bind-more (vars_of l.next) (vars_of c.bind_to-bound.result) l.invariant.left (firsts_cons (λ (f : Field). f.operand) no_field n a.template.fields l.i h)
-          (ap (map One) (firsts_cons (λ (x : Cell). x.value) no_cell n a.row.cells l.i h)) c.bind_to-bound.ensures;
-    }
+    let n = a.template.count in
+    bind-more l.next c.bind_to-bound.result l.invariant (firsts_cons (λ (o : Operand). o) no_field n a.template.fields l.i h)
+    (ap (map Some) (firsts_cons (λ (v : Value). v) no_cell n a.row.cells l.i h)) c.bind_to-bound.ensures
 
 pub returns : goal.returns
 returns c =
     let a = c.args in
     let l = c.loop-i in
-    bind-ends (vars_of l.next) _ l.invariant.left (firsts_end (λ (f : Field). f.operand) no_field a.template.count a.template.fields l.i c.loop-i-test.false)
+    bind-ends l.next _ l.invariant (firsts_end (λ (o : Operand). o) no_field a.template.count a.template.fields l.i c.loop-i-test.false)

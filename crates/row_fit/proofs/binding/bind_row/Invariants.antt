@@ -1,19 +1,12 @@
 -- What is left of the template and the row, over the variables so far, decides.
-use Rattle.std.proofs.Common.{◌-◌, ◌≡◌, ◌≤◌}
+use Rattle.std.proofs.Common.{◌≡◌}
 use Rattle.std.proofs.Math.ListN.{drop}
-use Rattle.std.specs.Prelude.{map}
-use Rattle.values.specs.declared.Got.TheVariants.{One}
-use Rattle.values.specs.Operands.{vars_of, bind}
+use Rattle.std.specs.Prelude.{map, Some}
+use Rattle.values.specs.Operands.{bind}
 use Rattle.rows.specs.Matching.{row_vars}
 use Rattle.rows.specs.View.{operands_of, values_of}
 use Rattle.row_fit.proofs.binding.bind_row.Given as goal
 
 abbrev pub invariant-loop-i : goal.invariant-loop-i
-invariant-loop-i l = record {
-  within : l.i ≤ l.count;
-  left : bind (drop l.i (operands_of l.template)) (map One (drop l.i (values_of l.template.count l.row))) (vars_of l.next)
-      ≡ row_vars (vars_of l.initial.next) (operands_of l.template) (values_of l.template.count l.row);
-}
-
-abbrev pub decreases-loop-i : goal.decreases-loop-i
-decreases-loop-i l = l.count - l.i
+invariant-loop-i l = bind (drop l.i (operands_of l.template)) (map Some (drop l.i (values_of l.template.count l.row))) l.next
+    ≡ row_vars l.initial.next (operands_of l.template) (values_of l.template.count l.row)

@@ -1,36 +1,20 @@
--- What is left of columns and draft decides.
-use Rattle.std.proofs.Common.{ℕ, arith}
-use Rattle.values.specs.declared.Slot.{Slot}
-use Rattle.values.proofs.Firsts.{firsts_cons, firsts_end}
-use Rattle.values.proofs.Loops.{agree-more, agree-fails, agree-ends}
-use Rattle.rows.specs.Fit.{of_kind}
-use Rattle.rows.specs.View.{no_slot}
-use Rattle.rows.proofs.Agreeing.{firsts-unlike}
+-- Lists of one length agree where all pairs of the two do.
+use Rattle.std.proofs.Common.{◌≡◌, ℕ, suc, refl, ap, ◌∙◌, List, [], ◌∷◌, ◌&&◌, length, rules, tests, arith}
+use Rattle.std.specs.List.{list_all, zip}
+use Rattle.std.proofs.lemmas.Iterator.{YieldsList-from_slice, YieldsList-from_zip}
+use Rattle.std.proofs.lemmas.Iterator.Search.{all_from_yields_List}
+use Rattle.values.specs.Operands.{Got}
+use Rattle.rows.specs.Fit.{of_kind, fits}
 use Rattle.row_fit.proofs.fit.fits_columns.Goals as goal
 
-pub returns-then-columns-d : goal.returns-then-columns-d
-returns-then-columns-d c =
-    let a = c.args in
-    firsts-unlike of_kind (λ (k : ℕ). k) 0 (λ (s : Slot). s.held) no_slot a.columns a.d.count a.kinds a.d.slots c.if-columns-d.true
+all_pairs : (ks : List ℕ) (gs : List Got) → length ks ≡ length gs → list_all (λ (x : ℕ × Got). of_kind x.0 x.1) (zip ks gs) ≡ fits ks gs
+all_pairs [] [] h = refl
+all_pairs [] (g ∷ gs) h = absurd (omega arith)
+all_pairs (k ∷ ks) [] h = absurd (omega arith)
+all_pairs (k ∷ ks) (g ∷ gs) h = ap (of_kind k g &&◌) (all_pairs ks gs (omega arith))
 
-pub loop-i-preserved : goal.loop-i-preserved
-loop-i-preserved c =
-    let a = c.args in
-    let l = c.loop-i in record {
-      within = omega arith;
-      left = agree-more of_kind _ l.invariant.left (firsts_cons (λ (k : ℕ). k) 0 a.columns a.kinds l.i (omega arith)) (firsts_cons (λ (s : Slot). s.held) no_slot a.d.count a.d.slots l.i (omega arith))
-          c.of_kind.ensures c.if-of_kind.true;
-    }
-
-pub returns-else-of_kind : goal.returns-else-of_kind
-returns-else-of_kind c =
-    let a = c.args in
-    let l = c.loop-i in
-    agree-fails of_kind _ l.invariant.left (firsts_cons (λ (k : ℕ). k) 0 a.columns a.kinds l.i (omega arith)) (firsts_cons (λ (s : Slot). s.held) no_slot a.d.count a.d.slots l.i (omega arith))
-    c.of_kind.ensures c.if-of_kind.false
-
-pub returns : goal.returns
-returns c =
-    let a = c.args in
-    let l = c.loop-i in
-    agree-ends of_kind _ l.invariant.left (firsts_end (λ (k : ℕ). k) 0 a.columns a.kinds l.i (omega arith)) (firsts_end (λ (s : Slot). s.held) no_slot a.d.count a.d.slots l.i (omega arith))
+pub returns-then-kinds-given : goal.returns-then-kinds-given
+returns-then-kinds-given c =
+    all_from_yields_List (λ (x : ℕ × Got). of_kind x.0 x.1) c.all.new.self _ _ c.all.ensures.ran
+    (YieldsList-from_zip (YieldsList-from_slice c.args.kinds.now cc) (YieldsList-from_slice c.args.given.now cc)) (λ x r q k. search (rules, tests))
+    ∙ all_pairs c.args.kinds.now c.args.given.now c.if-kinds-given.true

@@ -1,8 +1,8 @@
 -- Where every slot in use has a value, the cells are those values.
 use Rattle.std.proofs.Common.{rules, ◌∙◌}
-use Rattle.values.specs.declared.Slot.{Slot}
+use Rattle.values.specs.Operands.{Got}
 use Rattle.values.specs.Operands.{value_in}
-use Rattle.rows.specs.declared.Cell.{Cell}
+use Rattle.values.specs.declared.Value.{Value}
 use Rattle.rows.specs.View.{no_cell, no_slot, draft_of}
 use Rattle.rows.proofs.FitLaws.{all_there}
 use Rattle.rows.proofs.Fours.{fours}
@@ -12,6 +12,6 @@ pub returns : goal.returns
 returns c =
     λ got.
     let d = c.args.d in
-    fours (λ (c : Cell). c.value) no_cell value_in (λ (s : Slot). s.held) no_slot d.count d.slots (search rules)
+    fours (λ (v : Value). v) no_cell value_in (λ (g : Got). g) no_slot d.count d.slots (search rules)
     c.cell_of.ensures c.cell_of-2.ensures c.cell_of-3.ensures c.cell_of-4.ensures
     ∙ all_there (draft_of d) got

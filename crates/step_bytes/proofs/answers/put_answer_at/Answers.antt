@@ -5,7 +5,7 @@ use mathlib.Core.Bool.{Bool, true, false, cond}
 use mathlib.Core.List.{List}
 use borrow.Rule.Slice.PartMut.{put_mid}
 use Rattle.value_bytes.specs.Bytes.{put_at}
-use Rattle.nets.specs.declared.Answer.{Answer}
+use Rattle.nets.specs.Answers.{Answer}
 use Rattle.nets.specs.Answers.{said_of}
 use Rattle.step_bytes.specs.AnswerBytes.{answer_bytes}
 use Rattle.step_bytes.proofs.AnswerLaws.{part-put}

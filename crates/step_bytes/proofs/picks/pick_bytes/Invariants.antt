@@ -7,6 +7,3 @@ use Rattle.step_bytes.proofs.picks.pick_bytes.Given as goal
 
 abbrev pub invariant-loop-i : goal.invariant-loop-i
 invariant-loop-i l = (first_picks l.i (picks_in l.bytes) ≡ first_picks l.i l.picks) × (l.i ≤ 256) × (length l.bytes ≡ 512)
-
-abbrev pub decreases-loop-i : goal.decreases-loop-i
-decreases-loop-i l = 256 - l.i

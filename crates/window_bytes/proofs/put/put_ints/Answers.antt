@@ -1,17 +1,16 @@
 -- `window_bytes::put::put_ints` meets its contract: the bytes of the Ints passed, then zeros.
 use Prim.Native.Nat.{ℕ, ◌+◌, ◌-◌, ◌*◌, ◌≤◌}
 use native.Mathlib.Omega.{arith}
-use mathlib.Core.Path.{◌≡◌, refl, sym, ap, ap₂, ◌∙◌}
-use mathlib.Core.List.{List, ◌++◌, map}
+use mathlib.Core.Path.{◌≡◌, refl, ap, ap₂, ◌∙◌}
+use mathlib.Core.List.{List, [], ◌∷◌, ◌++◌, map}
 use lib.IntN.{ℤ, pos}
-use lib.ListN.{get_or, drop, replicate}
+use lib.ListN.{length, get_or, drop, replicate}
 use borrow.Author.Rules.{rules}
 use borrow.Rule.Slice.PartMut.{put_mid}
-use Rattle.values.proofs.Firsts.{map-firsts}
+use Rattle.values.specs.Lists.{firsts}
 use Rattle.value_bytes.specs.Bytes.{end_to_end}
 use Rattle.value_bytes.proofs.Stores.{kept-length, drop-replicate, ends_more}
 use Rattle.window_rules.specs.WindowBytes.{int_bytes}
-use Rattle.window.specs.WindowCalls.{ints_of}
 use Rattle.window_bytes.proofs.put.put_ints.Invariants.{passed}
 use Rattle.window_bytes.proofs.put.put_ints.Goals as goal
 
@@ -20,16 +19,20 @@ one_more : (xs : List ℤ) (i : ℕ) (v : ℤ) (o out ys : List ℕ) → v ≡ g
     put_mid (i * 4) (i * 4 + 4 - i * 4) out ys ≡ passed (i + 1) xs ++ drop ((i + 1) * 4) o
 one_more xs i v o out ys q e h = ends_more int_bytes (pos 0) 4 (λ z. refl) xs i o out ys e (h ∙ ap int_bytes q)
 
-ended : (xs : List ℤ) (n i : ℕ) (o out : List ℕ) → n ≤ 16 → i ≤ n → n ≤ i → o ≡ replicate 64 0 → out ≡ passed i xs ++ drop (i * 4) o → out ≡ end_to_end (map int_bytes (ints_of n xs)) ++ replicate (64 - 4 * n) 0
-ended xs n i o out small a b z e =
-    let q : i ≡ n = omega arith in
-    let m : 64 - i * 4 ≡ 64 - 4 * n = omega arith in
+all-passed : (xs : List ℤ) → firsts int_bytes (pos 0) (length xs) xs ≡ map int_bytes xs
+all-passed [] = refl
+all-passed (x ∷ xs) = ap (int_bytes x ∷◌) (all-passed xs)
+
+ended : (xs : List ℤ) (i : ℕ) (o out : List ℕ) → i ≤ length xs → length xs ≤ i → o ≡ replicate 64 0 → out ≡ passed i xs ++ drop (i * 4) o → out ≡ end_to_end (map int_bytes xs) ++ replicate (64 - 4 * length xs) 0
+ended xs i o out a b z e =
+    let q : i ≡ length xs = omega arith in
+    let m : 64 - i * 4 ≡ 64 - 4 * length xs = omega arith in
     e
     ∙ ap₂ (λ (k : ℕ) (l : List ℕ). passed k xs ++ l) q (ap (drop (i * 4)) z ∙ drop-replicate (i * 4) 64 0 ∙ ap (λ (k : ℕ). replicate k 0) m)
-    ∙ ap (λ (l : List (List ℕ)). end_to_end l ++ replicate (64 - 4 * n) 0) (sym (map-firsts int_bytes (λ (y : ℤ). y) (pos 0) n xs))
+    ∙ ap (λ (l : List (List ℕ)). end_to_end l ++ replicate (64 - 4 * length xs) 0) (all-passed xs)
 
 pub loop-i-preserved : goal.loop-i-preserved
-loop-i-preserved c = record { within = omega arith; few = omega arith; full = search kept-length; cleared = c.loop-i.invariant.cleared; filled = search (one_more, rules) }
+loop-i-preserved c = record { within = omega arith; full = search kept-length; cleared = c.loop-i.invariant.cleared; filled = search (one_more, rules) }
 
 pub returns : goal.returns
 returns c = search ended

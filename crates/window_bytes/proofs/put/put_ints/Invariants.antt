@@ -1,4 +1,4 @@
-use Prim.Native.Nat.{ℕ, ◌-◌, ◌*◌, ◌≤◌}
+use Prim.Native.Nat.{ℕ, ◌*◌, ◌≤◌}
 use mathlib.Core.Path.{◌≡◌}
 use mathlib.Core.List.{List, ◌++◌}
 use lib.IntN.{ℤ, pos}
@@ -15,12 +15,8 @@ passed i xs = end_to_end (firsts int_bytes (pos 0) i xs)
 abbrev pub invariant-loop-i : goal.invariant-loop-i
 invariant-loop-i l =
     record {
-      within : l.i ≤ l.count;
-      few : l.count ≤ 16;
+      within : l.i ≤ length l.ints;
       full : length l.out ≡ 64;
       cleared : l.initial.out ≡ replicate 64 0;
       filled : l.out ≡ passed l.i l.ints ++ drop (l.i * 4) l.initial.out;
     }
-
-abbrev pub decreases-loop-i : goal.decreases-loop-i
-decreases-loop-i l = l.count - l.i

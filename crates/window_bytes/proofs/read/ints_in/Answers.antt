@@ -16,7 +16,7 @@ loop-i-preserved c =
     let p = c.args.p.now in
     let l = c.loop-i in
     let e : c.int_in.result ≡ int_at_part p l.i = c.int_in.ensures ∙ ap (λ (n : ℕ). int_in (take n (drop (l.i * 4) p))) (part-size (l.i * 4) 4) in
-    record { within = search rules; long = search rules; full = search rules; read = fill_more (int_at_part p) l.ints l.i _ (search rules) (back w32 c.int_in.result (search rules) ∙ e) (search rules) }
+    record { full = search rules; read = fill_more (int_at_part p) l.ints l.i _ (search rules) (back w32 c.int_in.result (search rules) ∙ e) (search rules) }
 
 pub returns : goal.returns
 returns c =

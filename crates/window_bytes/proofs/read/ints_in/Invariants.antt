@@ -1,4 +1,3 @@
-use Prim.Native.Nat.{◌-◌, ◌≤◌}
 use mathlib.Core.Path.{◌≡◌}
 use lib.ListN.{length}
 use Rattle.window_bytes.proofs.ReadLaws.{Filled, int_at_part}
@@ -7,11 +6,6 @@ use Rattle.window_bytes.proofs.read.ints_in.Given as goal
 abbrev pub invariant-loop-i : goal.invariant-loop-i
 invariant-loop-i l =
     record {
-      within : l.i ≤ 16;
-      long : length l.p ≡ 64;
       full : length l.ints ≡ 16;
       read : Filled (int_at_part l.p) l.ints l.i;
     }
-
-abbrev pub decreases-loop-i : goal.decreases-loop-i
-decreases-loop-i l = 16 - l.i

@@ -14,6 +14,3 @@ invariant-loop-i l =
       passed : length (bodies l.i l.tables) ≡ l.at;
       filled : l.out ≡ bodies l.i l.tables ++ drop l.at l.initial.out;
     }
-
-abbrev pub decreases-loop-i : goal.decreases-loop-i
-decreases-loop-i l = l.count - l.i

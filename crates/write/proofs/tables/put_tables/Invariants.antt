@@ -20,6 +20,3 @@ invariant-loop-i l =
       full : length l.out ≡ l.count * 104;
       filled : l.out ≡ end_to_end (firsts record_of no_table l.i l.tables) ++ drop (l.i * 104) l.initial.out;
     }
-
-abbrev pub decreases-loop-i : goal.decreases-loop-i
-decreases-loop-i l = l.count - l.i

@@ -11,6 +11,3 @@ invariant-loop-i l =
       passed : length (bodies l.i l.tables) ≡ l.total * 104;
       few : l.total ≤ 16 * l.i;
     }
-
-abbrev pub decreases-loop-i : goal.decreases-loop-i
-decreases-loop-i l = l.count - l.i

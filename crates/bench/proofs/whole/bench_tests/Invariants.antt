@@ -1,5 +1,0 @@
-use Prim.Native.Nat.{◌-◌}
-use Rattle.bench.proofs.whole.bench_tests.Given as goal
-
-abbrev pub decreases-loop-i : goal.decreases-loop-i
-decreases-loop-i l = l.repeats - l.i

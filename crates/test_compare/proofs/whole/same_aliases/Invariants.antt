@@ -1,5 +1,0 @@
-use Prim.Native.Nat.{◌-◌}
-use Rattle.test_compare.proofs.whole.same_aliases.Given as goal
-
-abbrev pub decreases-loop-i : goal.decreases-loop-i
-decreases-loop-i l = 56 - l.i
