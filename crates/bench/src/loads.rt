@@ -4,14 +4,11 @@ use files::{Fault, Loaded};
 use load::load;
 use nets::Node;
 
-fn with_nodes(before: u64, nodes: [Node; 128], count: usize) -> u64 {
-    nodes
-        .iter()
-        .take(count)
-        .fold(before, |sum, n| with(sum, n.next as u64))
+fn with_nodes(before: u64, nodes: &[Node]) -> u64 {
+    nodes.iter().fold(before, |sum, n| with(sum, n.next as u64))
 }
 
-// The number of the fault, 0 for none.
+// The number of the fault, 0 for none: it goes into a sum, as the second engine's does.
 fn number_in(verdict: Result<(), Fault>) -> u64 {
     match verdict {
         Ok(()) => 0,
@@ -21,7 +18,7 @@ fn number_in(verdict: Result<(), Fault>) -> u64 {
 
 fn with_loaded(sum: u64, l: Loaded) -> u64 {
     let before = with_net(with(sum, number_in(l.verdict)), l.net);
-    with_nodes(before, l.net.nodes, l.net.nodecount)
+    with_nodes(before, &l.net.nodes[..l.net.nodecount.min(128)])
 }
 
 // A file loaded a number of times.

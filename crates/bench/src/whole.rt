@@ -62,7 +62,7 @@ pub extern "C" fn bench_tests(tables: &[u8], program: &[u8], repeats: u64) -> u6
     let net = start(tables, program);
     let mut sum = 0;
     for _ in 0..repeats {
-        sum = with(sum, sound_net(net) as u64);
+        sum = with(sum, sound_net(&net) as u64);
     }
     sum
 }

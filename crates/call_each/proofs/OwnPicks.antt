@@ -1,27 +1,27 @@
 -- A file's own picks: at most one for each record, and two bytes for each. Assumes nothing.
-use Prim.Native.Nat.{ℕ, zero, suc, ◌+◌, ◌*◌, ◌%◌, ◌≤◌, ◌<◌}
+use Prim.Native.Nat.{ℕ, zero, suc, ◌+◌, ◌-◌, ◌*◌, ◌%◌, ◌≤◌}
 use mathlib.Core.Path.{◌≡◌, refl, sym, ap, ◌∙◌}
 use mathlib.Core.Bool.{Bool, true, false, cond}
-use mathlib.Core.List.{List, [], ◌∷◌, ◌++◌, append-nil, append_assoc}
+use mathlib.Core.List.{List, [], ◌∷◌, ◌++◌, map}
 use Rattle.std.specs.Prelude.{Option, None, Some, Result, Err}
 use native.Mathlib.Omega.{arith}
 use lib.Dec.{eqb, leb}
-use lib.ListN.{length, get_or, drop, set, length-append, length-map, drop_of_length-le}
-use lib.Seq.{set_at, drop-cons}
+use lib.ListN.{length, get_or, take, drop, length-append, length-map}
 use borrow.Author.Tests.{leb-true}
+use borrow.Rule.Slice.PartMut.{put_mid}
 use Rattle.values.specs.Lists.{firsts}
-use Rattle.values.proofs.Firsts.{length-firsts, firsts-next, map-firsts}
+use Rattle.values.proofs.Firsts.{length-firsts, take_firsts}
 use Rattle.nets.specs.declared.Pick.{Pick}
 use Rattle.nets.specs.Nets.{Net}
 use Rattle.nets.specs.View.{no_pick}
 use Rattle.record_bytes.specs.Bytes.{parts}
 use Rattle.record_bytes.specs.Decoding.{Record, alias_record, table_record, row_record, node_record, start_record, pick_record, Decoded, bad, good, whole_records, records_in, record_in}
 use Rattle.value_bytes.specs.Bytes.{end_to_end}
-use Rattle.value_bytes.proofs.Stores.{ends-length, ends_next}
+use Rattle.value_bytes.proofs.Stores.{ends-length, ends_more, ends-all}
 use Rattle.files.specs.declared.Fault.{Fault}
 use Rattle.files.specs.declared.Loaded.{Loaded}
 use Rattle.files.specs.Loading.{Progress, nothing_read, picks_of, advance, load_checks, failing, Reading, stopped, finished, proceed, read_all, LoadAnswer, rejected, accepted, linked, finish, first_bad_link, load, load_bytes, fault_of, picks_loaded}
-use Rattle.files.specs.Engine.{first_picks, LoadIs}
+use Rattle.files.specs.Engine.{LoadIs}
 use Rattle.call_rules.specs.Layouts.{picks_put}
 use Rattle.call_rules.specs.Replies.{Called, refusing, if_room}
 use Rattle.call_rules.specs.Calls.{on_loaded, number_in, place_in}
@@ -88,55 +88,36 @@ file-picks file = go (eqb (length file % 104) 0) (leb (whole_records file) 256) 
 pub own-few : (file : List ℕ) (l : Loaded) → LoadIs file l → l.pickcount ≤ 256
 own-few file l is = omega (arith, file-picks file, ap length is.picks, length-firsts (λ (p : Pick). p) no_pick l.pickcount l.picks)
 
+-- a part of the array that was read
+pub own-part : (file : List ℕ) (l : Loaded) → LoadIs file l → length l.picks ≡ 256 → take l.pickcount l.picks ≡ picks_loaded (load_bytes file)
+own-part file l is e = take_firsts no_pick l.pickcount l.picks (omega (arith, own-few file l is, e)) ∙ is.picks
+
 -- ── their bytes ──
 
 abbrev pair_of : Pick → List ℕ
 pair_of p = p.thread ∷ p.row ∷ []
 
--- the first so many
-unfoldable pub passed : ℕ → List Pick → List ℕ
+-- those of the first so many
+abbrev pub passed : ℕ → List Pick → List ℕ
 passed n ps = end_to_end (firsts pair_of no_pick n ps)
 
-passed-long : (n : ℕ) (ps : List Pick) → length (passed n ps) ≡ n * 2
-unfolding passed
-passed-long n ps = ends-length pair_of no_pick 2 (λ p. refl) n ps
+pub passed_are : (ps : List Pick) → passed (length ps) ps ≡ picks_put ps
+unfolding picks_put
+passed_are ps = ap end_to_end (go ps)
+  where
+    go : (qs : List Pick) → firsts pair_of no_pick (length qs) qs ≡ map pair_of qs
+    go [] = refl
+    go (q ∷ qs) = ap (pair_of q ∷◌) (go qs)
 
-passed_are : (n : ℕ) (ps : List Pick) → passed n ps ≡ picks_put (first_picks n ps)
-unfolding passed picks_put
-passed_are n ps = ap end_to_end (sym (map-firsts pair_of (λ (p : Pick). p) no_pick n ps))
+pub picks-long : (ps : List Pick) → length (picks_put ps) ≡ length ps * 2
+picks-long ps = ap length (sym (passed_are ps)) ∙ ends-length pair_of no_pick 2 (λ p. refl) (length ps) ps
 
-pub picks-long : (n : ℕ) (ps : List Pick) → length (picks_put (first_picks n ps)) ≡ n * 2
-picks-long n ps = ap length (sym (passed_are n ps)) ∙ passed-long n ps
+pub pick_more : (ps : List Pick) (i : ℕ) (o out ys : List ℕ) → out ≡ passed i ps ++ drop (i * 2) o → ys ≡ pair_of (get_or ps i no_pick) →
+    put_mid (i * 2) (i * 2 + 2 - i * 2) out ys ≡ passed (i + 1) ps ++ drop ((i + 1) * 2) o
+pick_more ps i o out ys e q = ends_more pair_of no_pick 2 (λ p. refl) ps i o out ys e q
 
-pub none_passed : (ps : List Pick) (o : List ℕ) → o ≡ passed 0 ps ++ drop (0 * 2) o
-unfolding passed
-none_passed ps o = refl
-
-passed-next : (i : ℕ) (ps : List Pick) → passed (i + 1) ps ≡ passed i ps ++ pair_of (get_or ps i no_pick)
-unfolding passed
-passed-next i ps = ap end_to_end (firsts-next pair_of no_pick i ps) ∙ ends_next (firsts pair_of no_pick i ps) (pair_of (get_or ps i no_pick))
-
-two-stored : (p q : List ℕ) (x y a b n : ℕ) → length p ≡ n → set (set (p ++ (x ∷ y ∷ q)) n a) (n + 1) b ≡ (p ++ (a ∷ b ∷ [])) ++ q
-two-stored p q x y a b n l =
-    let m : length (p ++ (a ∷ [])) ≡ n + 1 = simp length-append (omega arith) in
-    let e : p ++ (a ∷ y ∷ q) ≡ (p ++ (a ∷ [])) ++ (y ∷ q) = sym (append_assoc p (a ∷ []) (y ∷ q)) in
-    ap (λ (z : List ℕ). set z (n + 1) b) (set_at p x (y ∷ q) a n l ∙ e)
-    ∙ set_at (p ++ (a ∷ [])) y q b (n + 1) m
-    ∙ append_assoc p (a ∷ []) (b ∷ q) ∙ sym (append_assoc p (a ∷ b ∷ []) q)
-
-pub pick_more : (ps : List Pick) (i n : ℕ) (o out : List ℕ) → i < n → length o ≡ n * 2 → out ≡ passed i ps ++ drop (i * 2) o →
-    set (set out (i * 2) (get_or ps i no_pick).thread) (i * 2 + 1) (get_or ps i no_pick).row ≡ passed (i + 1) ps ++ drop ((i + 1) * 2) o
-pick_more ps i n o out h l e =
-    let d : drop (i * 2) o ≡ get_or o (i * 2) 0 ∷ get_or o (suc (i * 2)) 0 ∷ drop (suc (suc (i * 2))) o =
-    drop-cons o (i * 2) 0 (omega arith) ∙ ap (λ (z : List ℕ). get_or o (i * 2) 0 ∷ z) (drop-cons o (suc (i * 2)) 0 (omega arith)) in
-    let k : suc (suc (i * 2)) ≡ (i + 1) * 2 = omega arith in
-    rw (e, d, passed-next i ps, sym k) (two-stored (passed i ps) (drop (suc (suc (i * 2))) o) (get_or o (i * 2) 0) (get_or o (suc (i * 2)) 0) (get_or ps i no_pick).thread (get_or ps i no_pick).row (i * 2) (passed-long i ps))
-
-pub picks-all : (ps : List Pick) (n i : ℕ) (o out : List ℕ) → i ≤ n → n ≤ i → length o ≡ n * 2 → out ≡ passed i ps ++ drop (i * 2) o → out ≡ picks_put (first_picks n ps)
-picks-all ps n i o out a b l e =
-    let q : i ≡ n = omega arith in
-    let w : length o ≤ i * 2 = omega arith in
-    rw (e, drop_of_length-le o {i = i * 2} w, append-nil, q) (passed_are n ps)
+pub picks-all : (ps : List Pick) (i : ℕ) (o out : List ℕ) → i ≤ length ps → length ps ≤ i → length o ≡ length ps * 2 → out ≡ passed i ps ++ drop (i * 2) o → out ≡ picks_put ps
+picks-all ps i o out a b l e = ends-all pair_of no_pick 2 (length ps) i ps o out a b l e ∙ passed_are ps
 
 -- ── the reply ──
 

@@ -1,6 +1,5 @@
 // The call for a file's own picks.
 ghost use Rattle.std.specs.Prelude.{◌≡◌, ◌*◌, ◌≤◌, length};
-ghost use Rattle.files.specs.Engine.{first_picks};
 ghost use Rattle.call_rules.specs.Layouts.{picks_put};
 ghost use Rattle.call_rules.specs.Replies.{if_room};
 ghost use Rattle.call_rules.specs.Openings.{Told, number_told, place_told};
@@ -11,26 +10,25 @@ use load::load;
 use nets::Pick;
 
 // Two bytes for each pick.
-fn put_picks(out: &mut [u8], picks: [Pick; 256], count: usize)
-    requires { (count ≤ 256) × (length out.old ≡ count * 2) }
-    ensures { out.new ≡ picks_put (first_picks count picks) }
+fn put_picks(out: &mut [u8], picks: &[Pick])
+    requires { (length picks.now ≤ 256) × (length out.old ≡ length picks.now * 2) }
+    ensures { out.new ≡ picks_put picks.now }
 {
-    for i in 0..count {
-        out[i * 2] = picks[i].thread;
-        out[i * 2 + 1] = picks[i].row;
+    for (i, pick) in picks.iter().enumerate() {
+        out[i * 2..i * 2 + 2].copy_from_slice(&[pick.thread, pick.row]);
     }
 }
 
 // Of a file that is accepted.
-fn picks_given(picks: [Pick; 256], count: usize, out: &mut [u8]) -> Reply
-    requires { count ≤ 256 }
-    ensures { Told (if_room (picks_put (first_picks count picks)) out.old) out.old out.new result }
+fn picks_given(picks: &[Pick], out: &mut [u8]) -> Reply
+    requires { length picks.now ≤ 256 }
+    ensures { Told (if_room (picks_put picks.now) out.old) out.old out.new result }
 {
-    let size = count * 2;
+    let size = picks.len() * 2;
     if out.len() < size {
         return Err(Refused::Short(size));
     }
-    put_picks(&mut out[0..size], picks, count);
+    put_picks(&mut out[0..size], picks);
     Ok(size)
 }
 
@@ -39,5 +37,5 @@ pub fn call_picks(file: &[u8], out: &mut [u8]) -> Reply
 {
     let loaded = load(file);
     loaded.verdict?;
-    picks_given(loaded.picks, loaded.pickcount, out)
+    picks_given(&loaded.picks[..loaded.pickcount], out)
 }

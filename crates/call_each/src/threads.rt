@@ -20,12 +20,12 @@ fn threads_left(net: Net, picks: &[u8], out: &mut [u8]) -> Reply
     ensures { Told (if_room (threads_put (view net) (picks_in picks.now)) out.old) out.old out.new result }
 {
     let left = run_picks(net, picks);
-    let count = left.threadcount;
-    let size = count * THREAD;
+    let threads = &left.threads[..left.threadcount];
+    let size = threads.len() * THREAD;
     if out.len() < size {
         return Err(Refused::Short(size));
     }
-    put_threads(&mut out[0..size], left.threads, count);
+    put_threads(&mut out[0..size], threads);
     Ok(size)
 }
 

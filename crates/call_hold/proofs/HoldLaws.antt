@@ -14,7 +14,7 @@ use Rattle.values.specs.Operands.{Got}
 use Rattle.values.specs.Lists.{places}
 use Rattle.values.specs.Operands.{Vars, values_in}
 use Rattle.values.proofs.Firsts.{length-firsts}
-use Rattle.rows.specs.View.{Shaped, no_row, values_of, relation_of}
+use Rattle.rows.specs.View.{no_row, values_of}
 use Rattle.nets.specs.declared.Frame.{Frame}
 use Rattle.nets.specs.View.{TableVariable}
 use Rattle.nets.specs.declared.Saved.{Saved}

@@ -7,7 +7,7 @@ ghost use Rattle.value_bytes.specs.Bytes.{end_to_end};
 ghost use Rattle.call_rules.specs.Moments.{values_record, variable_records, relation_records, bindings_records};
 ghost use Rattle.call_hold.specs.Holdings.{VariableShaped, RelationsShaped, rows_given, records_given};
 
-use crate::records::{put_relation_head, put_values};
+use crate::records::{relation_head, values_record};
 use nets::TableVariable;
 use record_bytes::RECORD;
 use rows::{Relation, Row};
@@ -26,13 +26,12 @@ fn row_of(value: Value) -> Row
 }
 
 // A variable has one value or none.
-fn put_variable(out: &mut [u8], number: u8, slot: Option<Value>)
-    requires { length out.old ≡ 104 }
-    ensures { out.new ≡ values_record 66 number (values_in (slot ∷ [])) }
+fn variable_record(number: u8, slot: Option<Value>) -> [u8; RECORD]
+    ensures { result ≡ values_record 66 number (values_in (slot ∷ [])) }
 {
     match slot {
-        None => put_values(out, 66, number, row_of(Value::Int(0)), 0),
-        Some(value) => put_values(out, 66, number, row_of(value), 1),
+        None => values_record(66, number, row_of(Value::Int(0)), 0),
+        Some(value) => values_record(66, number, row_of(value), 1),
     }
 }
 
@@ -41,7 +40,7 @@ fn put_variables(out: &mut [u8], vars: Vars)
     ensures { out.new ≡ end_to_end (variable_records vars) }
 {
     for i in 0..16 {
-        put_variable(&mut out[i * RECORD..i * RECORD + RECORD], i as u8, vars[i]);
+        out[i * RECORD..i * RECORD + RECORD].copy_from_slice(&variable_record(i as u8, vars[i]));
     }
 }
 
@@ -64,13 +63,8 @@ fn put_rows(out: &mut [u8], number: u8, content: Relation)
     ensures { out.new ≡ end_to_end (map (values_record 68 number) (relation_of content).rows) }
 {
     for i in 0..content.count {
-        put_values(
-            &mut out[i * RECORD..i * RECORD + RECORD],
-            68,
-            number,
-            content.rows[i],
-            content.columns,
-        );
+        let record = values_record(68, number, content.rows[i], content.columns);
+        out[i * RECORD..i * RECORD + RECORD].copy_from_slice(&record);
     }
 }
 
@@ -79,17 +73,12 @@ fn put_relation(out: &mut [u8], number: u8, v: TableVariable)
     ensures { out.new ≡ end_to_end (relation_records number (variable_of v)) }
 {
     let Some(content) = v else {
-        put_relation_head(out, number, 0, 0, [0; 4]);
+        out.copy_from_slice(&relation_head(number, 0, &[]));
         return;
     };
     let end = RECORD + content.count * RECORD;
-    put_relation_head(
-        &mut out[0..RECORD],
-        number,
-        1,
-        content.columns,
-        content.kinds,
-    );
+    let kinds = &content.kinds[..content.columns];
+    out[0..RECORD].copy_from_slice(&relation_head(number, 1, kinds));
     put_rows(&mut out[RECORD..end], number, content);
 }
 

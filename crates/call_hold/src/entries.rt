@@ -6,7 +6,7 @@ ghost use Rattle.call_rules.specs.Openings.{entry_alone};
 ghost use Rattle.call_hold.specs.Holdings.{RelationsShaped, held_by, pair_held, held_given, HeldShaped};
 
 use crate::bindings::{bindings_records, put_bindings};
-use crate::records::put_entry;
+use crate::records::entry_record;
 use nets::{Entry, Frame, Saved, TableVariable};
 use record_bytes::RECORD;
 
@@ -52,11 +52,11 @@ pub fn put_with_held(
     ensures { out.new ≡ end_to_end (entry_record (entry_alone f) ∷ held_given held relations saved) }
 {
     if held == 0 {
-        put_entry(out, f);
+        out.copy_from_slice(&entry_record(f));
         return;
     }
     let pair = pair_held(held, relations, saved.other);
     let end = RECORD + bindings_records(pair) * RECORD;
-    put_entry(&mut out[0..RECORD], f);
+    out[0..RECORD].copy_from_slice(&entry_record(f));
     put_bindings(&mut out[RECORD..end], saved.vars, pair);
 }

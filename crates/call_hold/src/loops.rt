@@ -1,6 +1,6 @@
 // Which nodes are sequential loops: their entries hold bindings.
-ghost use Rattle.std.specs.Prelude.{◌≡◌, ◌≤◌};
-ghost use Rattle.nets.specs.View.{node_of, nodes_of};
+ghost use Rattle.std.specs.Prelude.{◌≡◌, map, ◌≤◌, length};
+ghost use Rattle.nets.specs.View.{node_of};
 ghost use Rattle.call_hold.specs.Holdings.{holds_by, HoldsAre};
 
 use nets::Node;
@@ -18,13 +18,13 @@ fn holds_by(d: Node) -> u8
 
 // For every number that an entry's node can have, so that nothing is asked of it. This is handed to what goes through stacks in place of the nodes, which are
 // many times as long.
-pub fn all_holds(nodes: [Node; 128], count: usize) -> [u8; 256]
-    requires { count ≤ 128 }
-    ensures { HoldsAre (nodes_of count nodes) result }
+pub fn all_holds(nodes: &[Node]) -> [u8; 256]
+    requires { length nodes.now ≤ 128 }
+    ensures { HoldsAre (map node_of nodes.now) result }
 {
     let mut holds = [0; 256];
-    for i in 0..count {
-        holds[i] = holds_by(nodes[i]);
+    for (i, d) in nodes.iter().enumerate() {
+        holds[i] = holds_by(*d);
     }
     holds
 }

@@ -5,7 +5,7 @@ ghost use Rattle.call_hold.specs.Holdings.{stack_given, thread_given, ThreadShap
 
 use crate::bindings::{bindings_records, put_bindings};
 use crate::entries::{entry_records, held_by, put_with_held};
-use crate::records::put_thread_head;
+use crate::records::thread_head;
 use nets::{Saved, Thread};
 use record_bytes::RECORD;
 
@@ -28,9 +28,7 @@ fn put_stack(out: &mut [u8], t: Thread, saved: [Saved; 8], holds: [u8; 256])
     ensures { out.new ≡ end_to_end (stack_given holds saved t t.depth) }
 {
     let mut at = 0;
-    let mut left = t.depth;
-    while left > 0 {
-        left -= 1;
+    for left in (0..t.depth).rev() {
         let f = t.stack[left];
         let held = held_by(f, holds);
         let end = at + entry_records(held, t.relations, saved[left]) * RECORD;
@@ -53,7 +51,7 @@ pub fn put_records(out: &mut [u8], t: Thread, saved: [Saved; 8], holds: [u8; 256
 {
     let middle = RECORD + bindings_records(t.relations) * RECORD;
     let end = out.len();
-    put_thread_head(&mut out[0..RECORD], t.site, t.depth);
+    out[0..RECORD].copy_from_slice(&thread_head(t.site, t.depth));
     put_bindings(&mut out[RECORD..middle], t.vars, t.relations);
     put_stack(&mut out[middle..end], t, saved, holds);
 }

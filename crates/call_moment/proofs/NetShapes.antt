@@ -2,18 +2,17 @@
 use Prim.Native.Nat.{ℕ, zero, suc, ◌+◌, ◌*◌, ◌<◌, ◌≤◌}
 use mathlib.Core.Path.{◌≡◌, refl, sym, ap, subst, ◌∙◌}
 use mathlib.Core.Bool.{Bool, true, false, not, cond, ◌||◌}
-use mathlib.Core.List.{List, [], ◌∷◌}
+use mathlib.Core.List.{List, [], ◌∷◌, map}
 use Rattle.std.specs.Prelude.{Option, None, Some}
 use native.Mathlib.Omega.{arith}
 use lib.Dec.{T, eqb, ltb, leb, leb→le}
-use lib.ListN.{length, get_or, get_or-map}
+use lib.ListN.{length, get_or, take, length-take, get_or-map}
 use borrow.Author.Tests.{ltb-true, ltb-false}
 use Rattle.std.specs.List.{list_all}
 use Rattle.values.proofs.Bools.{and_l, and_r}
 use Rattle.values.proofs.ByPlace.{length_by, all_by}
-use Rattle.values.proofs.Firsts.{length-firsts}
+use Rattle.values.proofs.Firsts.{length-firsts, firsts_taken}
 use Rattle.rows.specs.Relations.{Relation}
-use Rattle.rows.specs.View.{relation_of}
 use Rattle.nets.specs.declared.Entry.{Entry}
 use Rattle.nets.specs.declared.Entry.TheVariants.{Run, Loop}
 use Rattle.nets.specs.declared.Frame.{Frame}
@@ -146,6 +145,14 @@ module _ (ds : List M.Node) (saved : List Saved) (i : ℕ) (t : Thread) (h : T (
 
 abbrev pub nodes_in : Net → List M.Node
 nodes_in net = nodes_of net.nodecount net.nodes
+
+-- the nodes in use, as a part of the array
+module _ (net : Net) (l : length net.nodes ≡ 128) (few : net.nodecount ≤ 128) where
+  pub nodes-few : length (take net.nodecount net.nodes) ≤ 128
+  nodes-few = rw (length-take, l) (omega (arith, few))
+
+  pub nodes-said : (holds : List ℕ) → HoldsAre (map node_of (take net.nodecount net.nodes)) holds → HoldsAre (nodes_in net) holds
+  nodes-said holds h = rw (firsts_taken node_of no_node net.nodecount net.nodes (omega (arith, few, l))) h
 
 pub nodes_of_lem : (net : Net) → (view net).nodes ≡ nodes_in net
 unfolding view

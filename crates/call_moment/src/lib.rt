@@ -14,13 +14,14 @@ use write::tables::{tables_size, write_tables};
 pub mod threads;
 
 // How many tables, threads and records there are.
-fn put_moment_head(out: &mut [u8], tables: u8, threads: u8, records: usize)
-    requires { (length out.old ≡ 104) × (records ≤ 3809) }
-    ensures { out.new ≡ moment_head tables threads records }
+fn moment_head(tables: u8, threads: u8, records: usize) -> [u8; RECORD]
+    requires { records ≤ 3809 }
+    ensures { result ≡ moment_head tables threads records }
 {
+    let mut out = [0; RECORD];
     let [a, b, c, d] = (records as u32).to_le_bytes();
-    out[0..KINDS].copy_from_slice(&[64, tables, threads, 0, a, b, c, d]);
-    out[KINDS..RECORD].fill(0);
+    out[..KINDS].copy_from_slice(&[64, tables, threads, 0, a, b, c, d]);
+    out
 }
 
 // How long a moment is.
@@ -28,21 +29,21 @@ pub fn moment_size(net: Net) -> usize
     requires { T (sound (view net)) }
     ensures { (result ≡ length (moment_put (view net))) × (result ≤ 396136) }
 {
-    RECORD + tables_size(net.tables, net.tablecount) + count_all(net) * RECORD
+    RECORD + tables_size(&net.tables[..net.tablecount]) + count_all(net) * RECORD
 }
 
 pub fn put_moment(out: &mut [u8], net: Net)
     requires { T (sound (view net)) × (length out.old ≡ length (moment_put (view net))) }
     ensures { out.new ≡ moment_put (view net) }
 {
-    let middle = RECORD + tables_size(net.tables, net.tablecount);
+    let tables = &net.tables[..net.tablecount];
+    let middle = RECORD + tables_size(tables);
     let end = moment_size(net);
-    put_moment_head(
-        &mut out[0..RECORD],
+    out[0..RECORD].copy_from_slice(&moment_head(
         net.tablecount as u8,
         net.threadcount as u8,
         end / RECORD,
-    );
-    let _ = write_tables(&mut out[RECORD..middle], net.tables, net.tablecount);
+    ));
+    let _ = write_tables(&mut out[RECORD..middle], tables);
     put_all(&mut out[middle..end], net);
 }

@@ -17,6 +17,7 @@ use step_left::left_by;
 use step_picks::carry_out;
 
 // The net after all picks. No step makes a sound net unsound, so soundness is not tested.
+// It is asked by a clause, not by a type around the net: what is done with a net is done with its parts, and each use would open that type again.
 pub fn run_picks(start: Net, picks: &[u8]) -> Net
     requires { T (sound (view start)) }
     ensures { (view result ≡ after (view start) (picks_in picks.now)) × T (sound (view result)) }

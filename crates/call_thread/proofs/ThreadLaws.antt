@@ -2,11 +2,9 @@
 use Prim.Native.Nat.{ℕ, zero, suc, ◌+◌, ◌-◌, ◌*◌, ◌<◌, ◌≤◌}
 use mathlib.Core.Path.{◌≡◌, refl, sym, ap, ap₂, ◌∙◌}
 use mathlib.Core.Bool.{false}
-use mathlib.Core.List.{List, [], ◌∷◌, ◌++◌, map, append_assoc, append-nil}
+use mathlib.Core.List.{List, [], ◌∷◌, ◌++◌, map, append-nil}
 use native.Mathlib.Omega.{arith}
-use native.Mathlib.Numerals.{add-one}
-use lib.ListN.{length, drop, get_or, set, drop_of_length-le}
-use lib.Seq.{set_at, drop-cons}
+use lib.ListN.{length, drop, get_or, replicate, drop_of_length-le}
 use borrow.Rule.Slice.PartMut.{put_mid}
 use Rattle.values.specs.Lists.{bit, among, places}
 use Rattle.nets.specs.declared.Entry.{Entry}
@@ -16,7 +14,7 @@ use Rattle.nets.specs.declared.Saved.{Saved}
 use Rattle.nets.specs.declared.Thread.{Thread}
 use Rattle.nets.specs.Nets as M
 use Rattle.nets.specs.Sound.{entry_node}
-use Rattle.nets.specs.View.{no_frame, no_thread, node_in, entry_of, thread_of, thread_at, threads_of}
+use Rattle.nets.specs.View.{no_frame, no_thread, marked, node_in, entry_of, thread_of, thread_at, threads_of}
 use Rattle.nets.proofs.StackView.{length-stack, stack_cons, entry-node_in}
 use Rattle.step_loop.proofs.MarkLaws.{marked-among}
 use Rattle.value_bytes.specs.Bytes.{end_to_end}
@@ -50,42 +48,22 @@ node-alone f = sym (entry-node_in (record { vars = []; relations = [] }) f)
 
 -- ── the rows still to visit ──
 
--- the flag of a loop's frame
-pub flag-here : (f : Frame) (k i r : ℕ) → f.entry ≡ Loop k → r ≡ bit (get_or f.visit i false) → r ≡ bit (among i (to_visit (entry_alone f)))
-flag-here f k i r e h = rw e (h ∙ ap bit (sym (marked-among f.visit 0 i i (omega arith))))
+-- a node to run has none
+pub run-flags : (f : Frame) (k : ℕ) → f.entry ≡ Run k → replicate 16 0 ≡ visit_bytes (to_visit (entry_alone f))
+unfolding visit_bytes
+run-flags f k e = rw e refl
 
--- those of the places passed
-unfoldable pub visited : List ℕ → ℕ → List ℕ
-visited v n = map (λ (i : ℕ). bit (among i v)) (places 0 n)
+-- those of a loop's frame
+pub loop-flags : (f : Frame) (k : ℕ) (out : List ℕ) → f.entry ≡ Loop k → length out ≡ 16 → ((i : ℕ) → i < 16 → get_or out i 0 ≡ bit (get_or f.visit i false)) → out ≡ visit_bytes (to_visit (entry_alone f))
+unfolding visit_bytes
+loop-flags f k out e l h = rw e (go out 0 (λ i r b q. h i (omega (arith, l, b)) ∙ ap bit (sym (marked-among f.visit 0 i r q))) ∙ rw l refl)
+  where
+    g : ℕ → ℕ
+    g i = bit (among i (marked 0 f.visit))
 
-module _ (g : ℕ → ℕ) where
-  places-next : (j n r : ℕ) → r ≡ j + n → map g (places j (suc n)) ≡ map g (places j n) ++ (g r ∷ [])
-  places-next j zero r e = let q : r ≡ j = omega arith in rw q refl
-  places-next j (suc n) r e = ap (g j ∷◌) (places-next (suc j) n r (omega arith))
-
-  places-length : (j n : ℕ) → length (map g (places j n)) ≡ n
-  places-length j zero = refl
-  places-length j (suc n) = ap suc (places-length (suc j) n)
-
-visited-next : (v : List ℕ) (n : ℕ) → visited v (n + 1) ≡ visited v n ++ (bit (among n v) ∷ [])
-unfolding visited
-visited-next v n = rw add-one (places-next (λ (i : ℕ). bit (among i v)) 0 n n (omega arith))
-
-visited-length : (v : List ℕ) (n : ℕ) → length (visited v n) ≡ n
-unfolding visited
-visited-length v n = places-length (λ (i : ℕ). bit (among i v)) 0 n
-
-pub visit-more : (f : Frame) (o out : List ℕ) (i b : ℕ) → i < 16 → length o ≡ 16 → out ≡ visited (to_visit (entry_alone f)) i ++ drop i o → b ≡ bit (among i (to_visit (entry_alone f))) →
-    set out i b ≡ visited (to_visit (entry_alone f)) (i + 1) ++ drop (i + 1) o
-visit-more f o out i b h l e q =
-    let v = to_visit (entry_alone f) in
-    rw (e, drop-cons o i 0 (omega arith), set_at (visited v i) (get_or o i 0) (drop (suc i) o) b i (visited-length v i), visited-next v i, append_assoc, add-one, q) refl
-
-pub visit-over : (f : Frame) (o out : List ℕ) (i : ℕ) → 16 ≤ i → i ≤ 16 → length o ≡ 16 → out ≡ visited (to_visit (entry_alone f)) i ++ drop i o → out ≡ visit_bytes (to_visit (entry_alone f))
-unfolding visited visit_bytes
-visit-over f o out i a b l e =
-    let q : i ≡ 16 = omega arith in
-    rw (e, drop_of_length-le o {i = i} (omega arith), append-nil, q)
+    go : (bs : List ℕ) (j : ℕ) → ((i r : ℕ) → i < length bs → r ≡ j + i → get_or bs i 0 ≡ g r) → bs ≡ map g (places j (length bs))
+    go [] j q = refl
+    go (b ∷ bs) j q = ap₂ ◌∷◌ (q 0 j (omega arith) (omega arith)) (go bs (suc j) (λ i r p e. q (suc i) r (omega arith) (omega (arith, e))))
 
 -- ── one thread ──
 

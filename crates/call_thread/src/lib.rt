@@ -22,23 +22,19 @@ const VISIT: usize = 8;
 
 // ---- one thread
 
-// 1 for a row still to visit, 0 for any other.
-fn flag_of(f: Frame, i: usize) -> u8
-    requires { i < 16 }
-    ensures { result ≡ bit (among i (to_visit (entry_alone f))) }
+fn flag(v: bool) -> u8
+    ensures { result ≡ bit v }
 {
-    match f.entry {
-        Entry::Run(_) => 0,
-        Entry::Loop(_) => u8::from(f.visit[i]),
-    }
+    u8::from(v)
 }
 
-pub fn put_visit(out: &mut [u8], f: Frame)
-    requires { length out.old ≡ 16 }
-    ensures { out.new ≡ visit_bytes (to_visit (entry_alone f)) }
+// 1 for a row still to visit, 0 for any other.
+pub fn visit_bytes(f: Frame) -> [u8; 16]
+    ensures { result ≡ visit_bytes (to_visit (entry_alone f)) }
 {
-    for i in 0..16 {
-        out[i] = flag_of(f, i);
+    match f.entry {
+        Entry::Run(_) => [0; 16],
+        Entry::Loop(_) => f.visit.map(flag),
     }
 }
 
@@ -52,30 +48,32 @@ pub fn entry_kind(f: Frame) -> u8
     }
 }
 
-fn put_head(out: &mut [u8], site: Site, depth: usize, f: Frame)
-    requires { (length out.old ≡ 8) × (depth ≤ 8) }
-    ensures { out.new ≡ head_bytes site.0 depth (entry_alone f) }
+fn head_bytes(site: Site, depth: usize, f: Frame) -> [u8; VISIT]
+    requires { depth ≤ 8 }
+    ensures { result ≡ head_bytes site.0 depth (entry_alone f) }
 {
-    out.copy_from_slice(&[site.0, depth as u8, entry_kind(f), node_of(f), 0, 0, 0, 0]);
+    [site.0, depth as u8, entry_kind(f), node_of(f), 0, 0, 0, 0]
 }
 
-fn put_thread(out: &mut [u8], t: Thread)
-    requires { (length out.old ≡ 24) × Stacked t }
-    ensures { out.new ≡ thread_bytes (thread_alone t) }
+fn thread_bytes(t: Thread) -> [u8; THREAD]
+    requires { Stacked t }
+    ensures { result ≡ thread_bytes (thread_alone t) }
 {
     let f = top_frame(t);
-    put_head(&mut out[0..VISIT], t.site, t.depth, f);
-    put_visit(&mut out[VISIT..THREAD], f);
+    let mut out = [0; THREAD];
+    out[..VISIT].copy_from_slice(&head_bytes(t.site, t.depth, f));
+    out[VISIT..].copy_from_slice(&visit_bytes(f));
+    out
 }
 
 // ---- all threads
 
 // What entries hold is no matter.
-pub fn put_threads(out: &mut [u8], threads: [Thread; 8], count: usize)
-    requires { (count ≤ 8) × AllStacked count threads × (length out.old ≡ count * 24) }
-    ensures { (ds : List M.Node) (saved : List Saved) → out.new ≡ end_to_end (map thread_bytes (threads_of ds saved count threads)) }
+pub fn put_threads(out: &mut [u8], threads: &[Thread])
+    requires { (length threads.now ≤ 8) × AllStacked (length threads.now) threads.now × (length out.old ≡ length threads.now * 24) }
+    ensures { (ds : List M.Node) (saved : List Saved) → out.new ≡ end_to_end (map thread_bytes (threads_of ds saved (length threads.now) threads.now)) }
 {
-    for i in 0..count {
-        put_thread(&mut out[i * THREAD..i * THREAD + THREAD], threads[i]);
+    for (i, t) in threads.iter().enumerate() {
+        out[i * THREAD..i * THREAD + THREAD].copy_from_slice(&thread_bytes(*t));
     }
 }

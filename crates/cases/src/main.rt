@@ -9,9 +9,9 @@ ghost use Rattle.cases.specs.Kld.{Kld};
 use print_lines::buffer::Buffered;
 use print_lines::cells::{put_rows, put_value};
 use row_aggregate::aggregate;
-use row_change::Swept;
 use row_change::appending::push;
 use row_change::sifting::{count_marks, sifted};
+use row_change::{Pass, Swept};
 use row_columns::selected_kinds;
 use row_match::match_row;
 use row_plan::plan_of;
@@ -102,23 +102,23 @@ fn none_given() -> Operands
 }
 
 // Which rows s selects.
-fn marked(r: Relation, s: Selector) -> [bool; 16]
-    requires { Shaped r × Short s.template }
+fn marked(r: Relation, s: &Selector) -> [bool; 16]
+    requires { Shaped r × Short s.now.template }
 {
     let vars = nothing_bound();
     let plan = plan_of(s, vars);
-    let terms = terms_of(none_given(), s.template, vars);
-    swept(r, r.count, plan, false, false, terms, r.columns, r.kinds).flags
+    let terms = terms_of(none_given(), s.template.used(), vars);
+    swept(r, &plan, Pass::Mark, terms, r.column_kinds()).flags
 }
 
-// The rows that s selects, with what t gives for them in columns of these kinds; only where it fits, or any.
-fn replaced(r: Relation, s: Selector, t: Operands, any: bool, kinds: [u8; 4]) -> Swept
-    requires { Shaped r × Short s.template × Short t }
+// The rows after a pass that puts what t gives, in columns of these kinds, for those that s selects.
+fn replaced(r: Relation, s: &Selector, t: Operands, pass: Pass, kinds: &[u8]) -> Swept
+    requires { Shaped r × Short s.now.template × Short t }
 {
     let vars = nothing_bound();
     let plan = plan_of(s, vars);
-    let terms = terms_of(t, s.template, vars);
-    swept(r, r.count, plan, true, any, terms, t.count, kinds)
+    let terms = terms_of(t, s.template.used(), vars);
+    swept(r, &plan, pass, terms, kinds)
 }
 
 // ---- printing
@@ -135,12 +135,12 @@ fn put_got(out: &mut impl Write, g: Option<Value>) -> io::Result<()> {
 }
 
 // How many fields matching looks at, of each row of the table that T is held against, in its order.
-fn put_looks(out: &mut impl Write, r: Relation, template: Operands) -> io::Result<()>
-    requires { Shaped r × Short template }
+fn put_looks(out: &mut impl Write, r: Relation, template: &[Operand]) -> io::Result<()>
+    requires { Shaped r }
 {
     write!(out, "fields looked at")?;
-    for row in r.rows.iter().take(r.count) {
-        let m = match_row(template, nothing_bound(), r.columns, *row);
+    for row in r.used() {
+        let m = match_row(template, nothing_bound(), row.values(r.columns));
         write!(out, " {}", m.looked)?;
     }
     writeln!(out)
@@ -177,8 +177,8 @@ fn not_red(out: &mut impl Write, r: Relation) -> io::Result<()>
         ],
         count: 3,
     };
-    let kinds = selected_kinds(t, template, r.kinds, nothing_bound());
-    let Swept { rows, flags } = replaced(r, s, t, true, kinds);
+    let kinds = selected_kinds(t, template.used(), &r.kinds, nothing_bound());
+    let Swept { rows, flags } = replaced(r, &s, t, Pass::Select, &kinds[..3]);
     let made = Relation {
         columns: 3,
         kinds,
@@ -186,7 +186,7 @@ fn not_red(out: &mut impl Write, r: Relation) -> io::Result<()>
         ..r
     };
     put_rows(out, &sifted(made, flags, true))?;
-    put_looks(out, r, template)
+    put_looks(out, r, template.used())
 }
 
 // Example 6: the sum of the sales of shoe 001.
@@ -204,9 +204,9 @@ fn sales(out: &mut impl Write, r: Relation) -> io::Result<()>
         count: 4,
     };
     let s = unconditional(template);
-    let taken = sifted(r, marked(r, s), true);
-    put_got(out, aggregate(Function::Sum, 3, taken))?;
-    put_looks(out, r, template)
+    let taken = sifted(r, marked(r, &s), true);
+    put_got(out, aggregate(Function::Sum, 3, taken.used()))?;
+    put_looks(out, r, template.used())
 }
 
 // Examples 2 and 3: white inserted, and deleted by "White".
@@ -226,12 +226,12 @@ fn white(out: &mut impl Write, r: Relation) -> io::Result<()>
         count: 4,
     };
     let s = unconditional(template);
-    let flags = marked(more, s);
+    let flags = marked(more, &s);
     let kept = sifted(more, flags, false);
     let taken = sifted(more, flags, true);
     writeln!(out, "deleted by White")?;
     put_rows(out, &taken)?;
-    put_looks(out, more, template)?;
+    put_looks(out, more, template.used())?;
     writeln!(out, "left")?;
     put_rows(out, &kept)
 }
@@ -259,11 +259,11 @@ fn sold(out: &mut impl Write, r: Relation) -> io::Result<()>
         ],
         count: 4,
     };
-    let Swept { rows, flags } = replaced(r, s, t, false, r.kinds);
+    let Swept { rows, flags } = replaced(r, &s, t, Pass::Update, r.column_kinds());
     let next = Relation { rows, ..r };
     writeln!(out, "two red 37 sold, rows replaced {}", count_marks(flags))?;
     put_rows(out, &next)?;
-    put_looks(out, r, template)
+    put_looks(out, r, template.used())
 }
 
 fn main(rt: HostRuntime) -> io::Result<()> {

@@ -7,7 +7,6 @@ use print_lines::lines::put_answer;
 use std::io;
 use std::io::Write;
 use steps::step;
-use test_compare::same_net;
 use test_nets::exchanged::exchanged;
 use write::write;
 
@@ -24,7 +23,7 @@ fn stepping(net: Net, pick: Pick) -> Stepped {
 fn put_step(out: &mut impl Write, net: Net, pick: Pick) -> io::Result<()> {
     let stepped = stepping(net, pick);
     put_answer(out, stepped.answer)?;
-    put_same(out, same_net(net, stepped.net))
+    put_same(out, net == stepped.net)
 }
 
 // Whether every byte is still 7.

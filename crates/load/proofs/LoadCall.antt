@@ -1,9 +1,9 @@
 -- From what `load` has in hand to its contract. Assumes nothing.
 use Prim.Native.Nat.{ℕ, suc, ◌≤◌, ◌<◌, ◌/◌, ◌%◌}
-use mathlib.Core.Path.{◌≡◌, sym, ap, ◌∙◌}
+use mathlib.Core.Path.{◌≡◌, sym, subst, ap, ◌∙◌}
 use mathlib.Core.Bool.{Bool, true, false}
 use mathlib.Core.List.{List, [], ◌∷◌}
-use Rattle.std.specs.Prelude.{Option, None, Some, Ok, Err}
+use Rattle.std.specs.Prelude.{Option, None, Some, is_some, Result, Ok, Err, is_err}
 use Rattle.std.specs.Result.{result_err}
 use native.Mathlib.Omega.{arith}
 use lib.Dec.{T}
@@ -35,9 +35,12 @@ refused-is file l f e v h p =
       empty = λ t. h;
     }
 
-pub accepted-is : (file : List ℕ) (net : Net) (ps : List Pick) (n : ℕ) → load_bytes file ≡ accepted (view net) (first_picks n ps) →
-    LoadIs file (record { verdict = Ok tt; net = net; picks = ps; pickcount = n })
-accepted-is file net ps n e = record { fault = sym (ap fault_of e); net = sym (ap net_loaded e); picks = sym (ap picks_loaded e); empty = λ t. absurd t }
+no-fault : {A : Type 0} (r : Result A Fault) → result_err r ≡ None → T (is_err r) → ⊥
+no-fault (Ok a) e t = t
+no-fault (Err f) e t = subst (λ (o : Option Fault). T (is_some o)) e tt
+
+pub accepted-is : (file : List ℕ) (l : Loaded) → result_err l.verdict ≡ None → load_bytes file ≡ accepted (view l.net) (first_picks l.pickcount l.picks) → LoadIs file l
+accepted-is file l v e = record { fault = v ∙ sym (ap fault_of e); net = sym (ap net_loaded e); picks = sym (ap picks_loaded e); empty = λ t. absurd (no-fault l.verdict v t) }
 
 -- ── checks 1 and 2 ──
 

@@ -1,12 +1,13 @@
 // Loading: checks 1 to 9 in order, and the net and picks of a file that passes them.
 #![tactic(auto)]
 
-ghost use Rattle.std.specs.Prelude.{◌≡◌, Err, MatchResult};
+ghost use Rattle.std.specs.Prelude.{◌≡◌, None, Err, MatchResult};
+ghost use Rattle.std.specs.Result.{result_err};
 ghost use Rattle.nets.specs.View.{view};
 ghost use Rattle.record_bytes.specs.Decoding.{records_in};
 ghost use Rattle.files.specs.Empty.{blank_net};
 ghost use Rattle.files.specs.Engine.{LoadIs, first_picks};
-ghost use Rattle.files.specs.Loading.{nothing_read, stopped, read_all, rejected, accepted, load_bytes};
+ghost use Rattle.files.specs.Loading.{nothing_read, stopped, read_all, rejected, load_bytes};
 ghost use Rattle.load_walk.specs.Walking.{Whole};
 ghost use Rattle.load.specs.Lengths.{LengthPasses, LengthFails, Finishes};
 
@@ -18,19 +19,11 @@ use load_groups::ending::reach_end;
 use load_groups::nodes::nodes_from;
 use load_groups::picks::picks_from;
 use load_groups::starts::starts_from;
+use load_groups::tables::tables_from;
 use load_links::bad_link;
 use load_walk::Reach;
-use load_walk::tables::tables_from;
 use nets::{Net, Pick};
 use record_bytes::RECORD;
-
-// What the records of a file gave.
-#[derive(Clone, Copy)]
-pub struct FileRead {
-    pub net: Net,
-    pub picks: [Pick; 256],
-    pub pickcount: usize,
-}
 
 // Checks 1 and 2, which ask for the length alone: of a file in memory, or of one that is longer than any that loads.
 pub fn length_fault(length: usize) -> Result<(), Fault>
@@ -53,10 +46,10 @@ pub fn length_fault(length: usize) -> Result<(), Fault>
 }
 
 // Checks 3 to 8, group after group.
-fn read_all(file: &[u8]) -> Result<FileRead, Fault>
+fn read_all(file: &[u8]) -> Result<Loaded, Fault>
     requires { Whole file.now }
     ensures { MatchResult result
-        (λ read. Finishes (read_all 0 nothing_read (records_in file.now)) (view read.net) (first_picks read.pickcount read.picks))
+        (λ read. (result_err read.verdict ≡ None) × Finishes (read_all 0 nothing_read (records_in file.now)) (view read.net) (first_picks read.pickcount read.picks))
         (λ fault. read_all 0 nothing_read (records_in file.now) ≡ stopped fault.number fault.place) }
 {
     let start = Reach { place: 0, group: 0 };
@@ -73,7 +66,8 @@ fn read_all(file: &[u8]) -> Result<FileRead, Fault>
     let threads = s.items;
     let picks = p.items;
     let saved = blank_saved();
-    Ok(FileRead {
+    Ok(Loaded {
+        verdict: Ok(()),
         net: Net {
             aliases,
             aliascount: a.count,
@@ -91,17 +85,20 @@ fn read_all(file: &[u8]) -> Result<FileRead, Fault>
 }
 
 // The first fault of checks 1 to 9, or what the records gave.
-fn file_read(file: &[u8]) -> Result<FileRead, Fault>
+fn file_read(file: &[u8]) -> Result<Loaded, Fault>
     ensures { MatchResult result
-        (λ read. load_bytes file.now ≡ accepted (view read.net) (first_picks read.pickcount read.picks))
+        (λ loaded. LoadIs file.now loaded)
         (λ fault. load_bytes file.now ≡ rejected fault.number fault.place) }
 {
     length_fault(file.len())?;
-    let read = read_all(file)?;
-    match bad_link(file, read.net.nodecount) {
-        None => Ok(read),
-        Some(place) => Err(Fault { number: 9, place }),
+    // Looked at where it stands and handed on whole: taken out by `?`, all 83 KB were copied twice more.
+    let read = read_all(file);
+    if let Ok(loaded) = &read {
+        if let Some(place) = bad_link(file, loaded.net.nodecount) {
+            return Err(Fault { number: 9, place });
+        }
     }
+    read
 }
 
 // A refused file: the empty net and no picks.
@@ -121,16 +118,7 @@ pub fn load(file: &[u8]) -> Loaded
     ensures { LoadIs file.now result }
 {
     match file_read(file) {
-        Ok(read) => {
-            let net = read.net;
-            let picks = read.picks;
-            Loaded {
-                verdict: Ok(()),
-                net,
-                picks,
-                pickcount: read.pickcount,
-            }
-        }
+        Ok(loaded) => loaded,
         Err(fault) => refused(fault),
     }
 }

@@ -10,7 +10,7 @@ use borrow.Author.Tests.{eq-eqb, eqb-true, eqb-false}
 use Rattle.values.specs.Lists.{keep, filter}
 use Rattle.std.specs.List.{list_all, list_any}
 use Rattle.values.specs.Values.{site_ok, locality_ok}
-use Rattle.values.proofs.Bools.{and_l, and_r, and_in, eqb_sym}
+use Rattle.values.proofs.Bools.{and_l, and_r, and_in}
 use Rattle.values.proofs.ListLaws.{all_weaken}
 use Rattle.nets.specs.declared.Alias.{Alias}
 use Rattle.nets.specs.Sound.{alias_ok, same_alias, aliases_differ}
@@ -130,12 +130,3 @@ numbers_apart (a ∷ l) h k =
 
 pub few-aliases : (l : List Alias) → T (list_all alias_ok l) → T (aliases_differ l) → length l ≤ 56
 few-aliases l h k = few number 56 l (all_weaken alias_ok (λ a. ltb (number a) 56) l in_range_lem h) (numbers_apart l h k)
-
--- ── the other way round ──
-
-swapped : (a b : Alias) → same_alias a b ≡ same_alias b a
-swapped a b = ap₂ ◌&&◌ (eqb_sym a.site.0 b.site.0) (eqb_sym a.locality.0 b.locality.0)
-
-pub any-swapped : (a : Alias) (l : List Alias) → list_any (same_alias a) l ≡ list_any (λ b. same_alias b a) l
-any-swapped a [] = refl
-any-swapped a (b ∷ l) = ap₂ ◌||◌ (swapped a b) (any-swapped a l)

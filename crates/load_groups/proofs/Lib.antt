@@ -1,4 +1,5 @@
--- Laws for the loops over groups.
+-- Laws for the groups.
 pub mod AliasLaws
+pub mod ItemLaws
 pub mod RowLaws
 pub mod RowTies

@@ -34,7 +34,7 @@ fails_both i false b c = refl
 
 module _ (ts : List Table) (n : ℕ) (s : Site) (m : ℕ) (at : ℕ) (k : at ≡ place_of (is_at s m) (tables_of n ts)) where
   pub missing : (i : ℕ) (form : Bool) (x : Row) (o : Option Fault) → n ≤ at → o ≡ first_fault i (check 4 form ∷ check 7 false ∷ []) → o ≡ first_fault i (check 4 form ∷ row_checks (tables_of n ts) s m x)
-  missing i form x o l z = rw (is-there ts n s s m m at refl refl k, le-ltb at n l) (z ∙ fails_both i form (fits_row (columns_of (table_at s m (tables_of n ts))) x) (ltb (length (rows_of (table_at s m (tables_of n ts)))) 16))
+  missing i form x o l z = rw (is-there ts n s m at k, le-ltb at n l) (z ∙ fails_both i form (fits_row (columns_of (table_at s m (tables_of n ts))) x) (ltb (length (rows_of (table_at s m (tables_of n ts)))) 16))
 
   module _ (l : at < n) where
     the_table : table_at s m (tables_of n ts) ≡ Some (table_of (get_or ts at no_table))

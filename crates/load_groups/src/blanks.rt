@@ -90,6 +90,7 @@ pub fn blank_saved() -> Saved
     }
 }
 
+#[tactic(auto, unfolding(files::specs::Empty::blank_net))]
 pub fn blank_net() -> Net
     ensures { result ≡ blank_net }
 {

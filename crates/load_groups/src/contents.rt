@@ -1,14 +1,13 @@
 // Row records, group 3: checks 4, 7 and 8.
 ghost use Rattle.std.specs.Prelude.{◌≡◌, false, [], ◌∷◌, ◌++◌, ◌≤◌, ltb, length, Some, IfOk, MatchResult};
 ghost use Rattle.std.specs.Result.{result_err};
-ghost use Rattle.values.specs.Lists.{place_of};
 ghost use Rattle.rows.specs.View.{relation_of, Shaped};
 ghost use Rattle.rows.specs.Fit.{fits_row};
-ghost use Rattle.nets.specs.Tables.{is_at, with_rows};
+ghost use Rattle.nets.specs.Tables.{with_rows};
 ghost use Rattle.nets.specs.Steps.{check};
 ghost use Rattle.nets.specs.View.{table_of, tables_of};
 ghost use Rattle.record_bytes.specs.Bytes.{part};
-ghost use Rattle.record_bytes.specs.Decoding.{site_at, name_in, row_in, row_form};
+ghost use Rattle.record_bytes.specs.Decoding.{row_in, row_form};
 ghost use Rattle.load_walk.specs.Walking.{put_tables, AllShaped, LeadsPast, Stops, Going, first_fault};
 
 use files::Fault;
@@ -17,20 +16,12 @@ use load_walk::walking::{next_group, record_at};
 use load_walk::{Reach, Read};
 use nets::Table;
 use nets::tables::find_table;
+use record_bytes::RECORD;
 use record_forms::{record_name, record_site};
 use record_nodes::tuples::row_read;
 
-// The place of the row's table; `count` where there is none.
-fn row_place(tables: [Table; 8], count: usize, r: &[u8]) -> usize
-    requires { (length r.now ≡ 104) × (count ≤ 8) }
-    ensures { result ≡ place_of (is_at (site_at 1 r.now) (name_in r.now)) (tables_of count tables) }
-{
-    find_table(tables, count, record_site(r), record_name(r))
-}
-
 // The fault of a row that has no table.
-fn lost_fault(place: usize, r: &[u8]) -> Fault
-    requires { length r.now ≡ 104 }
+fn lost_fault(place: usize, r: &[u8; RECORD]) -> Fault
     ensures { Some result ≡ first_fault place (check 4 (row_form r.now) ∷ check 7 false ∷ []) }
 {
     let number = if row_read(r).is_some() { 7 } else { 4 };
@@ -38,8 +29,8 @@ fn lost_fault(place: usize, r: &[u8]) -> Fault
 }
 
 // The table of a row with the row in it.
-fn row_taken(place: usize, t: Table, r: &[u8]) -> Result<Table, Fault>
-    requires { (length r.now ≡ 104) × Shaped t.content }
+fn row_taken(place: usize, t: Table, r: &[u8; RECORD]) -> Result<Table, Fault>
+    requires { Shaped t.content }
     ensures fault { result_err result ≡ first_fault place (check 4 (row_form r.now) ∷ check 7 (fits_row (relation_of t.content).columns (row_in (part 56 88 r.now))) ∷ check 8 (ltb (length (relation_of t.content).rows) 16) ∷ []) }
     ensures table { IfOk result (λ o. (table_of o ≡ with_rows ((relation_of t.content).rows ++ (row_in (part 56 88 r.now) ∷ [])) (table_of t)) × Shaped o.content) }
 {
@@ -50,6 +41,7 @@ fn row_taken(place: usize, t: Table, r: &[u8]) -> Result<Table, Fault>
     Ok(Table { content, ..t })
 }
 
+// Rows go into the tables that are there and are no list of their own, so this is no `walk`.
 pub fn rows_from(file: &[u8], read: Read<Table, 8>) -> Result<Read<Table, 8>, Fault>
     requires { Going file.now 3 read.reach × AllShaped read.count read.items }
     ensures { MatchResult result
@@ -61,10 +53,9 @@ pub fn rows_from(file: &[u8], read: Read<Table, 8>) -> Result<Read<Table, 8>, Fa
     let mut at = read.reach;
     while next_group(file, at) == 3 {
         let r = record_at(file, at.place);
-        let place = row_place(tables, count, r);
-        if count <= place {
+        let Some(place) = find_table(&tables[..count], record_site(r), record_name(r)) else {
             return Err(lost_fault(at.place, r));
-        }
+        };
         tables[place] = row_taken(at.place, tables[place], r)?;
         at = Reach {
             place: at.place + 1,

@@ -1,5 +1,5 @@
 // What is left after the last group: checks 3, 4 and 5.
-ghost use Rattle.std.specs.Prelude.{◌≡◌, cond, length, MatchResult};
+ghost use Rattle.std.specs.Prelude.{◌≡◌, cond, MatchResult};
 ghost use Rattle.record_bytes.specs.Decoding.{record_in};
 ghost use Rattle.load_walk.specs.Walking.{Going, Ends, Stops, left_number};
 
@@ -18,9 +18,8 @@ fn formed(ok: bool) -> u8
     if ok { 5 } else { 4 }
 }
 
-// The check that refuses a record that no loop took: 3 or 4, or else 5, since its group comes before that of an earlier record.
-fn left_number(r: &[u8]) -> u8
-    requires { length r.now ≡ 104 }
+// The check that refuses a record that no loop took: 3 or 4, or else 5, since its group comes before that of an earlier record. It judges bytes, so it is no `From`.
+fn left_number(r: &[u8; RECORD]) -> u8
     ensures { result ≡ left_number (record_in r.now) }
 {
     match group_of(r[0]) {

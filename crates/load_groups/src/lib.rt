@@ -1,4 +1,4 @@
-// Loading a file group by group: aliases, rows, nodes, starts and picks, a loop for each, and what may be left after the last group. `load_walk` has the tables.
+// Loading a file group by group: one walk for aliases, tables, nodes, starts and picks, a loop for rows, and what may be left after the last group.
 #![tactic(auto)]
 
 pub mod aliases;
@@ -8,3 +8,5 @@ pub mod ending;
 pub mod nodes;
 pub mod picks;
 pub mod starts;
+pub mod tables;
+pub mod walk;

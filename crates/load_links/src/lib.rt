@@ -28,8 +28,7 @@ fn number_after(group: u8, j: usize) -> usize
 }
 
 // Check 9 of one record, with `n` nodes in all; `j` is the number of the node met next, which is this record's if it is a node.
-fn link_ok(r: &[u8], n: usize, j: usize) -> bool
-    requires { length r.now ≡ 104 }
+fn link_ok(r: &[u8; RECORD], n: usize, j: usize) -> bool
     ensures { LinkIs n j r.now result }
 {
     let kind = r[0];

@@ -13,8 +13,8 @@ use Rattle.record_bytes.specs.RecordKinds.{group_at}
 use Rattle.record_bytes.proofs.GroupLaws.{by_group, by_group_lem}
 use Rattle.load_walk.specs.declared.Reach.{Reach}
 use Rattle.files.specs.Loading.{Progress, group_of, stopped, read_all}
-use Rattle.load_walk.specs.Walking.{record_at, rest, Stops, group_next, Going, Ends, is_good, left_number}
-use Rattle.load_walk.proofs.WalkLaws.{with_group, records-length, rest-bad, rest-early}
+use Rattle.load_walk.specs.Walking.{with_group, record_at, rest, Stops, group_next, Going, Ends, is_good, left_number}
+use Rattle.load_walk.proofs.WalkLaws.{records-length, rest-bad, rest-early}
 
 -- ── by the group ──
 

@@ -1,10 +1,9 @@
 -- The table of a record, by the place that the code finds, and tables within their arrays. Assumes nothing.
 use Rattle.std.specs.Prelude.{is_some}
-use Prim.Native.Nat.{ℕ, ◌+◌, ◌<◌}
+use Prim.Native.Nat.{ℕ, ◌<◌}
 use mathlib.Core.Path.{◌≡◌, refl, sym, ap₂, subst, ◌∙◌}
 use mathlib.Core.Bool.{Bool, true, false}
 use mathlib.Core.List.{List}
-use native.Mathlib.Omega.{arith}
 use lib.Dec.{eqb, ltb}
 use lib.ListN.{length, get_or, set}
 use lib.Seq.{get_or-set_same, get_or-set_other}
@@ -19,12 +18,9 @@ use Rattle.nets.specs.View.{no_table, table_of, tables_of}
 use Rattle.nets.proofs.TablePlaces.{table-there}
 use Rattle.load_walk.specs.Walking.{AllShaped}
 
-module _ (ts : List Table) (n : ℕ) (s s' : Site) (m m' : ℕ) (at : ℕ) (p : s' ≡ s) (q : m' ≡ m) (k : at ≡ place_of (is_at s' m') (tables_of n ts)) where
-  pub found_at : at ≡ place_of (is_at s m) (tables_of n ts)
-  found_at = k ∙ ap₂ (λ (a : Site) (b : ℕ). place_of (is_at a b) (tables_of n ts)) p q
-
-  pub is-there : is_some (table_at s m (tables_of n ts)) ≡ ltb at n
-  is-there = table-there s m (tables_of n ts) ∙ ap₂ ltb (sym found_at) (length-firsts table_of no_table n ts)
+-- a table is there where its place is below the count
+pub is-there : (ts : List Table) (n : ℕ) (s : Site) (m at : ℕ) → at ≡ place_of (is_at s m) (tables_of n ts) → is_some (table_at s m (tables_of n ts)) ≡ ltb at n
+is-there ts n s m at k = table-there s m (tables_of n ts) ∙ ap₂ ltb (sym k) (length-firsts table_of no_table n ts)
 
 -- ── within the arrays ──
 
@@ -38,10 +34,6 @@ module _ (ts : List Table) (c : ℕ) (t : Table) (h : c < length ts) (k : Shaped
           (subst (λ (x : Table). Shaped x.content) (sym (get_or-set_same ts c t no_table h)) k)
       go false e =
           subst (λ (x : Table). Shaped x.content) (sym (get_or-set_other ts c i t no_table (eqb-false i c e))) (old i l (eqb-false i c e))
-
-  -- one more, behind the others
-  pub more-shaped : c < 8 → AllShaped c ts → AllShaped (c + 1) (set ts c t)
-  more-shaped r old = (omega (arith, r), shaped-set (c + 1) (λ i l n. old.1 i (omega (arith, l, n))))
 
   -- one in the place of another
   pub other-shaped : (n : ℕ) → AllShaped n ts → AllShaped n (set ts c t)

@@ -1,9 +1,8 @@
-// Loading record by record: the record at a place, how far reading has come, table records, and what a row adds to its table.
+// Loading record by record: the record at a place, how far reading has come, and what a row adds to its table.
 #![tactic(auto)]
 
 pub mod blanks;
 pub mod contents;
-pub mod tables;
 pub mod walking;
 
 // How far reading has come: the place of the next record, and the group of the last one read.

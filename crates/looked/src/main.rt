@@ -3,29 +3,28 @@
 #![tactic(auto)]
 
 ghost use Rattle.std.specs.Prelude.{◌≤◌};
-ghost use Rattle.rows.specs.View.{Short};
 
-use load::{length_fault, load};
+use nets::Net;
 use nets::kinds::{has_test, is_loop};
-use nets::{Net, Pick};
 use print_lines::buffer::Buffered;
-use print_lines::faults::print_refused;
-use print_lines::program::run_program;
+use print_loaded::run_program;
 use row_match::match_row;
-use rows::{Operands, Relation};
+use rows::Relation;
 use runs::bytes::run_bytes;
 use std::io;
 use std::io::Write;
 use std::process::ExitCode;
-use step_bytes::picks::pick_bytes;
-use values::Vars;
+use values::{Operand, Vars};
 
 // Each row of a relation.
-fn put_looks(out: &mut impl Write, template: Operands, vars: Vars, r: &Relation) -> io::Result<()>
-    requires { Short template }
-{
+fn put_looks(
+    out: &mut impl Write,
+    template: &[Operand],
+    vars: Vars,
+    r: &Relation,
+) -> io::Result<()> {
     for row in r.rows.iter().take(r.count) {
-        let m = match_row(template, vars, r.columns.min(4), *row);
+        let m = match_row(template, vars, row.values(r.columns.min(4)));
         let sign = if m.matches { '+' } else { '-' };
         write!(out, " {}{sign}", m.looked)?;
     }
@@ -38,11 +37,9 @@ fn print_tables(
     net: &Net,
     thread: usize,
     number: usize,
-    template: Operands,
+    template: &[Operand],
     vars: Vars,
-) -> io::Result<()>
-    requires { Short template }
-{
+) -> io::Result<()> {
     let mut out = Buffered::new(rt);
     for (i, table) in net.tables.iter().take(net.tablecount).enumerate() {
         write!(out, "looked {thread} {number} {i}")?;
@@ -59,7 +56,7 @@ fn print_nodes(rt: &impl Print, net: &Net, thread: usize, vars: Vars) -> io::Res
     for (number, node) in net.nodes.iter().take(net.nodecount).enumerate() {
         let template = node.selector.template;
         if has_template(node.kind) && template.count <= 4 {
-            print_tables(rt, net, thread, number, template, vars)?;
+            print_tables(rt, net, thread, number, template.used(), vars)?;
         }
     }
     Ok(())
@@ -72,40 +69,8 @@ fn print_net(rt: &impl Print, net: &Net) -> io::Result<()> {
     Ok(())
 }
 
-// ---- the file
-
-// The net after the first `count` picks of the array.
-fn after(net: Net, picks: [Pick; 256], count: usize) -> Net
-    requires { count ≤ 256 }
-{
-    let bytes = pick_bytes(picks);
-    run_bytes(net, &bytes[..count * 2]).net
-}
-
-fn print_file(rt: &(impl Print + Eprint), file: &[u8]) -> io::Result<()> {
-    let loaded = load(file);
-    match loaded.verdict {
-        Ok(()) => {
-            let count = loaded.pickcount.min(256);
-            print_net(rt, &after(loaded.net, loaded.picks, count))
-        }
-        Err(fault) => print_refused(rt, file, fault.number, fault.place),
-    }
-}
-
-// An input that fills the buffer is too long for a file, whatever its bytes.
-fn print_input(rt: &(impl Print + Eprint), space: &[u8; 65536], length: usize) -> io::Result<()> {
-    if length < space.len() {
-        return print_file(rt, &space[..length]);
-    }
-    match length_fault(length) {
-        Ok(()) => Ok(()),
-        Err(fault) => print_refused(rt, space, fault.number, fault.place),
-    }
-}
-
 fn main(rt: HostRuntime) -> ExitCode {
-    run_program(&rt, &mut rt.stdin(), "looked", |space, length| {
-        print_input(&rt, space, length)
+    run_program(&rt, &mut rt.stdin(), "looked", |net, picks| {
+        print_net(&rt, &run_bytes(net, picks).net)
     })
 }

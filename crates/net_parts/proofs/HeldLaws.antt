@@ -1,29 +1,32 @@
--- A thread in two parts: all but what its loop entries hold, and that; what an entry holds, judged by its node's shape and by which table variables are held. Assumes nothing.
+-- A thread in two parts: all but what its loop entries hold, and that; what an entry holds, judged by which table variables are held. Assumes nothing.
 use Prim.Native.Nat.{ℕ, zero, suc, ◌+◌, ◌-◌, ◌<◌, ◌≤◌}
 use mathlib.Core.Path.{◌≡◌, refl, sym, ap, ap₂, ◌∙◌, subst}
-use mathlib.Core.Bool.{Bool, true, false, true≢false, not, cond, ◌&&◌, ◌||◌, and-true}
+use mathlib.Core.Bool.{Bool, true, false, true≢false, not, ◌&&◌, ◌||◌, and-true}
 use mathlib.Core.List.{List, [], ◌∷◌, map}
 use Rattle.std.specs.Prelude.{Option, None}
 use native.Mathlib.Omega.{arith}
-use borrow.Author.Tests.{lt-ltb, le-ltb}
-use lib.Dec.{T, eqb, eqb→eq, leb, ltb}
-use lib.ListN.{length, get_or, length-map, get_or-map, get_or-eq_default}
+use lib.Dec.{T, eqb, eqb→eq, leb, leb→le, ltb}
+use lib.Seq.{take-suc}
+use lib.ListN.{length, take, get_or, length-map, get_or-map, get_or-eq_default}
 use Rattle.std.specs.List.{list_all, list_any}
 use Rattle.values.specs.Values.{site_ok}
-use Rattle.values.proofs.Bools.{and_l, and_r, and_swap, is_true, T_of, same_test, eqb_sym}
+use Rattle.values.proofs.Bools.{and_l, and_r, and_comm, and_swap, is_true, T_of, same_test}
 use Rattle.rows.specs.Relations.{Relation}
 use Rattle.nets.specs.declared.Entry as Code
 use Rattle.nets.specs.declared.Entry.TheVariants.{Run, Loop}
 use Rattle.nets.specs.declared.Frame.{Frame}
 use Rattle.nets.specs.declared.Saved.{Saved}
+use Rattle.nets.specs.declared.Thread as C
+use Rattle.std.proofs.lemmas.List.Folds.{list_all-append}
+use Rattle.values.proofs.ListLaws.{all-at}
 use Rattle.nets.specs.View.{TableVariable}
 use Rattle.nets.specs.Nets.{is_loop, is_sequential, Bindings, Node, Entry, to_run, visiting, Thread}
 use Rattle.nets.specs.Sound.{no_node, relation_ok, variable_ok, has_places, bindings_ok, entry_ok, same_relation, agree_on, saved_agrees, all_saved_agree, entries_ok, thread_ok}
 use Rattle.nets.specs.Steps.{holds}
-use Rattle.nets.specs.View.{no_frame, no_variable, marked, entry_with, entry_of, stack_of, variable_of, saved_of, node_in, read_at}
+use Rattle.nets.specs.View.{no_frame, no_variable, marked, entry_with, entry_of, stack_of, variable_of, saved_of, thread_of}
 use Rattle.nets.proofs.SavedLaws.{relation_refl}
-use Rattle.net_parts.specs.SoundParts.{shape_of, reads_first, reads_second, shape_in, bare_entry_ok, bare_thread_ok, saved_right, all_saved_right, saved_fits}
-use Rattle.net_parts.proofs.EntryLaws.{first-shape, second-shape, low-shape}
+use Rattle.net_parts.specs.SoundParts.{frame_ok, bare_entry_ok, bare_stack_ok, bare_thread_ok, saved_right, all_saved_right, saved_fits}
+use Rattle.nets.proofs.StackView.{length-stack}
 
 -- ── a thread in two parts ──
 
@@ -81,7 +84,7 @@ module _ (ds : List Node) (rs : List (Option Relation)) (bs : ℕ → Bindings) 
 -- ── agreement, by which table variables are held ──
 
 -- a loop entry's node reads one of the two
-read_low : (ds : List Node) (rs : List (Option Relation)) → length rs ≡ 2 → (i : ℕ) (v : List ℕ) (b : Bindings) → T (bare_entry_ok ds rs (visiting i v b)) → (get_or ds i no_node).read < 2
+pub read_low : (ds : List Node) (rs : List (Option Relation)) → length rs ≡ 2 → (i : ℕ) (v : List ℕ) (b : Bindings) → T (bare_entry_ok ds rs (visiting i v b)) → (get_or ds i no_node).read < 2
 read_low ds rs e i v b t = go (get_or ds i no_node).read (and_r (ltb i (length ds) && is_loop (get_or ds i no_node).kind) (has_places v (get_or rs (get_or ds i no_node).read None)) t)
   where
     go : (r : ℕ) → T (has_places v (get_or rs r None)) → r < 2
@@ -116,39 +119,7 @@ module _ (ds : List Node) (rs qs : List (Option Relation)) (two : length rs ≡ 
           below
           ∙ ap (◌&& list_all (agree_on ds rs qs) s) (sym (ap (same_relation (get_or rs read None)) (sym (same read low e)) ∙ is_true (same_relation (get_or rs read None) (get_or rs read None)) (relation_refl (get_or rs read None))))
 
--- ── one entry, by its node's shape ──
-
-module _ (ds : List Node) (rs : List (Option Relation)) where
-  is_loop_lem : (i : ℕ) (v : List ℕ) (b : Bindings) → T (bare_entry_ok ds rs (visiting i v b)) → is_loop (get_or ds i no_node).kind ≡ true
-  is_loop_lem i v b t =
-      let loop = is_loop (get_or ds i no_node).kind in
-      is_true loop (and_r (ltb i (length ds)) loop (and_l (ltb i (length ds) && loop) (has_places v (get_or rs (get_or ds i no_node).read None)) t))
-
-  -- the table variable that it holds
-  pub holds-first : (x : Entry) → T (bare_entry_ok ds rs x) → reads_first (shape_in ds x) ≡ holds ds 0 x
-  holds-first (to_run i) t = refl
-  holds-first (visiting i v b) t =
-      let d = get_or ds i no_node in
-      first-shape (is_loop d.kind) (is_sequential d.kind) d.read ∙ ap (◌&& eqb d.read 0) (is_loop_lem i v b t) ∙ eqb_sym d.read 0
-
-  pub holds-second : (x : Entry) → T (bare_entry_ok ds rs x) → reads_second (shape_in ds x) ≡ holds ds 1 x
-  holds-second (to_run i) t = refl
-  holds-second (visiting i v b) t =
-      let d = get_or ds i no_node in
-      second-shape (is_loop d.kind) (is_sequential d.kind) d.read ∙ ap (◌&& eqb d.read 1) (is_loop_lem i v b t) ∙ eqb_sym d.read 1
-
-  module _ (two : length rs ≡ 2) where
-    -- the shapes below 2 are those of sequential loops
-    sequential_is : (i : ℕ) (v : List ℕ) (b : Bindings) → T (bare_entry_ok ds rs (visiting i v b)) → ltb (shape_of (get_or ds i no_node)) 2 ≡ is_sequential (get_or ds i no_node).kind
-    sequential_is i v b t =
-        let d = get_or ds i no_node in
-        low-shape (is_loop d.kind) (is_sequential d.kind) d.read
-        ∙ rw (is_loop_lem i v b t, lt-ltb d.read 2 (read_low ds rs two i v b t), and-true (is_sequential d.kind))
-
-    -- of any other what it holds is no matter
-    pub none-saved : (s : List Entry) (x : Entry) → T (bare_entry_ok ds rs x) → {n : ℕ} → n ≡ shape_in ds x → 2 ≤ n → true ≡ saved_right ds rs s x
-    none-saved s (to_run i) t e h = refl
-    none-saved s (visiting i v b) t {n} e h = rw (sym (sequential_is i v b t) ∙ ap (λ (k : ℕ). ltb k 2) (sym e) ∙ le-ltb n 2 h)
+-- ── one entry ──
 
 -- the saved bindings `x` of a sequential loop's entry, over the thread's own table variables `ts`
 module _ (ds : List Node) (ts : List TableVariable) (two : length ts ≡ 2) (own : (m : ℕ) → m < 2 → relation_ok (variable_of (get_or ts m no_variable)) ≡ true) (x : Saved) where
@@ -188,41 +159,79 @@ module _ (ds : List Node) (ts : List TableVariable) (two : length ts ≡ 2) (own
     fits-is (suc zero) h = second-own vars_fine (relation_ok (variable_of x.other)) (own 1 (omega arith)) (flagged 1 h)
     fits-is (suc (suc r)) h = absurd (omega arith)
 
-    -- whether the table variable that the loop does not read is held
-    other-held : (r : ℕ) → r < 2 → {n : ℕ} {p q h : Bool} → n ≡ r → p ≡ list_any (holds ds 0) s → q ≡ list_any (holds ds 1) s → h ≡ cond (eqb n 0) q p → h ≡ list_any (holds ds (1 - r)) s
-    other-held zero l e a b k = k ∙ rw (e, b)
-    other-held (suc zero) l e a b k = k ∙ rw (e, a)
-    other-held (suc (suc r)) l e a b k = absurd (omega arith)
+  -- an entry of a loop that reads table variable `r`
+  module _ (v : List Bool) (i : ℕ) (s : List Entry) where
+    abbrev read : ℕ
+    read = (get_or ds i no_node).read
 
-  abbrev entry : List Bool → Code.Entry → Entry
-  entry v y = entry_with (saved_of (get_or ds (node_in y) no_node).read ts x) v y
+    abbrev top : Entry
+    top = visiting i (marked 0 v) (saved_of read ts x)
 
-  judged : (v : List Bool) (y : Code.Entry) (s : List Entry) → T (list_all (bare_entry_ok ds rs) (entry v y ∷ s)) → {n : ℕ} {p q h r : Bool} → n ≡ shape_in ds (entry v y) → n < 2
-      → p ≡ list_any (holds ds 0) (entry v y ∷ s) → q ≡ list_any (holds ds 1) (entry v y ∷ s) → h ≡ cond (eqb n 0) q p
-      → r ≡ saved_fits h (variable_of (get_or ts (1 - n) no_variable)) x → r ≡ saved_right ds rs s (entry v y)
-  judged v (Run i) s t e l a b k z = absurd (omega arith)
-  judged v (Loop i) s t {n} {h = h} e l a b k z =
-      z
-      ∙ ap₂ (λ (g : Bool) (m : ℕ). saved_fits g (variable_of (get_or ts (1 - m) no_variable)) x) (other-held (entry v (Loop i) ∷ s) t read low same a b k) same
-      ∙ fits-is (entry v (Loop i) ∷ s) t read low
-      ∙ sym (ap (λ (g : Bool). not g || (bindings_ok (saved_of read ts x) && list_all (agree_on ds rs (saved_of read ts x).relations) (entry v (Loop i) ∷ s))) once)
-    where
-      read : ℕ
-      read = (get_or ds i no_node).read
+    pub sequential-judged : T (list_all (bare_entry_ok ds rs) (top ∷ s)) → is_sequential (get_or ds i no_node).kind ≡ true
+        → {h r : Bool} → h ≡ list_any (holds ds (1 - read)) (top ∷ s) → r ≡ saved_fits h (variable_of (get_or ts (1 - read) no_variable)) x → r ≡ saved_right ds rs s top
+    sequential-judged t once e z =
+        z
+        ∙ ap (λ (g : Bool). saved_fits g (variable_of (get_or ts (1 - read) no_variable)) x) e
+        ∙ fits-is (top ∷ s) t read (read_low ds rs both-there i (marked 0 v) (saved_of read ts x) (and_l (bare_entry_ok ds rs top) (list_all (bare_entry_ok ds rs) s) t))
+        ∙ sym (ap (λ (g : Bool). not g || (bindings_ok (saved_of read ts x) && list_all (agree_on ds rs (saved_of read ts x).relations) (top ∷ s))) once)
 
-      bare : T (bare_entry_ok ds rs (entry v (Loop i)))
-      bare = and_l (bare_entry_ok ds rs (entry v (Loop i))) (list_all (bare_entry_ok ds rs) s) t
+-- of a parallel loop what its entry holds is no matter
+pub parallel-judged : (ds : List Node) (qs : List (Option Relation)) (s : List Entry) (i : ℕ) (v : List ℕ) (b : Bindings) → is_sequential (get_or ds i no_node).kind ≡ false → true ≡ saved_right ds qs s (visiting i v b)
+parallel-judged ds qs s i v b e = rw e
 
-      low : read < 2
-      low = read_low ds rs both-there i (marked 0 v) (saved_of read ts x) bare
+-- ── frames ──
 
-      once : is_sequential (get_or ds i no_node).kind ≡ true
-      once = sym (sequential_is ds rs both-there i (marked 0 v) (saved_of read ts x) bare) ∙ ap (λ (k : ℕ). ltb k 2) (sym e) ∙ lt-ltb n 2 l
+-- whatever an entry holds
+bare-any : (ds : List Node) (qs : List (Option Relation)) (b c : Bindings) (v : List Bool) (e : Code.Entry) → bare_entry_ok ds qs (entry_with b v e) ≡ bare_entry_ok ds qs (entry_with c v e)
+bare-any ds qs b c v (Run i) = refl
+bare-any ds qs b c v (Loop i) = refl
 
-      same : n ≡ read
-      same = e ∙ rw (is_loop_lem ds rs i (marked 0 v) (saved_of read ts x) bare, lt-ltb read 2 low, once)
+-- the frames in use, and the entries from the top down
+pub frames-are : (ds : List Node) (qs : List (Option Relation)) (bs : ℕ → Bindings) (n : ℕ) (l : List Frame) → n ≤ length l → list_all (frame_ok ds qs) (take n l) ≡ list_all (bare_entry_ok ds qs) (stack_of bs n l)
+frames-are ds qs bs zero l h = refl
+frames-are ds qs bs (suc n) l h =
+    let f = get_or l n no_frame in
+    ap (list_all (frame_ok ds qs)) (take-suc l n no_frame (omega arith))
+    ∙ list_all-append (frame_ok ds qs) (take n l) (f ∷ [])
+    ∙ and_comm (list_all (frame_ok ds qs) (take n l)) (frame_ok ds qs f && true)
+    ∙ ap₂ ◌&&◌ (and-true (frame_ok ds qs f) ∙ bare-any ds qs (record { vars = []; relations = [] }) (bs n) f.visit f.entry) (frames-are ds qs bs n l (omega arith))
 
-  pub saved-judged : (f : Frame) (s : List Entry) → T (list_all (bare_entry_ok ds rs) (entry_of (saved_of (read_at ds f) ts x) f ∷ s)) → {n : ℕ} {p q h r : Bool} → n ≡ shape_in ds (entry_of (saved_of (read_at ds f) ts x) f) → n < 2
-      → p ≡ list_any (holds ds 0) (entry_of (saved_of (read_at ds f) ts x) f ∷ s) → q ≡ list_any (holds ds 1) (entry_of (saved_of (read_at ds f) ts x) f ∷ s) → h ≡ cond (eqb n 0) q p
-      → r ≡ saved_fits h (variable_of (get_or ts (1 - n) no_variable)) x → r ≡ saved_right ds rs s (entry_of (saved_of (read_at ds f) ts x) f)
-  saved-judged f s t e l a b k z = judged f.visit f.entry s t e l a b k z
+-- ── what a thread that was tested has ──
+
+module _ (ds : List Node) (bs : ℕ → Bindings) (t : C.Thread) (h : bare_thread_ok ds (thread_of bs t) ≡ true) where
+  abbrev own : List (Option Relation)
+  own = map variable_of t.relations
+
+  abbrev frames : List Entry
+  frames = stack_of bs t.depth t.stack
+
+  all-clauses : T (bare_thread_ok ds (thread_of bs t))
+  all-clauses = T_of (bare_thread_ok ds (thread_of bs t)) h
+
+  binds : T (bindings_ok (thread_of bs t).bindings)
+  binds = and_r (site_ok t.site) (bindings_ok (thread_of bs t).bindings) (and_l (site_ok t.site && bindings_ok (thread_of bs t).bindings) (bare_stack_ok ds own frames) all-clauses)
+
+  stands : T (bare_stack_ok ds own frames)
+  stands = and_r (site_ok t.site && bindings_ok (thread_of bs t).bindings) (bare_stack_ok ds own frames) all-clauses
+
+  pub depth-low : t.depth ≤ 8
+  depth-low =
+      let k = length frames in
+      omega (arith, length-stack bs t.depth t.stack, leb→le k 8 (and_r (leb 1 k) (leb k 8) (and_l (leb 1 k && leb k 8) (list_all (bare_entry_ok ds own) frames) stands)))
+
+  pub entries-bare : T (list_all (bare_entry_ok ds own) frames)
+  entries-bare = let k = length frames in and_r (leb 1 k && leb k 8) (list_all (bare_entry_ok ds own) frames) stands
+
+  two-own : length own ≡ 2
+  two-own =
+      let vs = eqb (length t.vars) 16 && list_all variable_ok t.vars in
+      eqb→eq (length own) 2 (and_r vs (eqb (length own) 2) (and_l (vs && eqb (length own) 2) (list_all relation_ok own) binds))
+
+  pub two-variables : length t.relations ≡ 2
+  two-variables = sym (length-map t.relations variable_of) ∙ two-own
+
+  pub own-right : (m : ℕ) → m < 2 → relation_ok (variable_of (get_or t.relations m no_variable)) ≡ true
+  own-right m k =
+      let vs = eqb (length t.vars) 16 && list_all variable_ok t.vars in
+      sym (ap relation_ok (get_or-map variable_of t.relations m no_variable))
+      ∙ is_true (relation_ok (get_or own m None)) (all-at relation_ok own m None (and_r (vs && eqb (length own) 2) (list_all relation_ok own) binds) (omega (arith, two-own)))

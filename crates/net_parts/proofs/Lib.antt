@@ -1,7 +1,6 @@
 -- Laws of tests that belong to no one function.
 pub mod Counts
 pub mod DistinctLaws
-pub mod EntryLaws
 pub mod FieldLaws
 pub mod HeldLaws
 pub mod MarkLaws

@@ -1,27 +1,22 @@
 -- Numbers marked by flags, and aliases passed from the last to the first, their places marked. Assumes nothing.
-use Prim.Native.Nat.{ℕ, zero, suc, ◌+◌, ◌*◌, ◌-◌, ◌<◌, ◌≤◌}
-use mathlib.Core.Path.{◌≡◌, refl, sym, ap, ap₂, ◌∙◌, subst}
-use mathlib.Core.Bool.{Bool, true, false, ◌&&◌, ◌||◌, and-false, true≢false}
+use Prim.Native.Nat.{ℕ, zero, suc, ◌+◌, ◌*◌, ◌<◌}
+use mathlib.Core.Path.{◌≡◌, refl, sym, ap₂, ◌∙◌}
+use mathlib.Core.Bool.{Bool, true, false, ◌||◌, and-false, true≢false}
 use mathlib.Core.List.{List, [], ◌∷◌, map}
 use native.Mathlib.Omega.{arith}
-use lib.Dec.{T, eqb, ltb, eqb→eq}
+use lib.Dec.{T, eqb, eqb→eq}
 use lib.ListN.{length, drop, get_or, set, replicate, length-replicate, get_or-replicate, length-set}
 use lib.Seq.{get_or-set_same, get_or-set_other}
 use borrow.Author.Tests.{eq-eqb, ltb-true}
 use Rattle.values.specs.Lists.{among}
 use Rattle.std.specs.List.{list_all, list_any}
-use Rattle.values.specs.declared.Operand.{Operand}
-use Rattle.values.specs.declared.Operand.TheVariants.{Absent, ConstInt, ConstText, ConstLoc, Var, Plus, Formal}
-use Rattle.values.specs.Operands.{formals}
 use Rattle.values.specs.Values.{site_ok, locality_ok}
 use Rattle.values.proofs.Bools.{and_l, and_r, and_in, is_true, T_of, and_first, same_test}
-use Rattle.values.proofs.Firsts.{firsts_cons}
 use Rattle.values.proofs.PairLaws.{tails}
 use Rattle.nets.specs.declared.Alias.{Alias}
-use Rattle.nets.specs.Sound.{alias_ok, same_alias, aliases_differ, tagged}
-use Rattle.nets.specs.View.{no_alias, aliases_of}
-use Rattle.net_parts.specs.SoundParts.{alias_place, formal_variable}
-use Rattle.net_parts.proofs.DistinctLaws.{alias_test, aliases_are, operand_test}
+use Rattle.nets.specs.Sound.{alias_ok, same_alias, aliases_differ}
+use Rattle.net_parts.specs.SoundParts.{alias_place}
+use Rattle.net_parts.proofs.DistinctLaws.{alias_test, aliases_are}
 
 -- ── flags ──
 
@@ -43,17 +38,6 @@ marks-more {seen} {n} {ks} m k h =
     go : (j : ℕ) → j < n → (t : Bool) → eqb j k ≡ t → get_or (set seen k true) j false ≡ (t || among j ks)
     go j i true e = rw (eqb→eq j k (T_of (eqb j k) e)) (get_or-set_same seen k true false (omega (arith, m.long)))
     go j i false e = get_or-set_other seen k j true false (λ q. true≢false (sym (eq-eqb j k q) ∙ e)) ∙ m.each j i
-
-pub marks-kept : {seen : List Bool} {n : ℕ} {ks : List ℕ} → Marks seen n ks → (k : ℕ) → k < n → get_or seen k false ≡ false → Marks (set seen k false) n ks
-marks-kept {seen} {n} {ks} m k h q =
-    record {
-      long = length-set seen k false ∙ m.long;
-      each = λ j i. go j i (eqb j k) refl;
-    }
-  where
-    go : (j : ℕ) → j < n → (t : Bool) → eqb j k ≡ t → get_or (set seen k false) j false ≡ among j ks
-    go j i true e = rw (eqb→eq j k (T_of (eqb j k) e)) (get_or-set_same seen k false false (omega (arith, m.long)) ∙ sym q ∙ m.each k h)
-    go j i false e = get_or-set_other seen k j false false (λ p. true≢false (sym (eq-eqb j k p) ∙ e)) ∙ m.each j i
 
 -- what fails at some element fails as a whole
 pub tails-dropped : {A : Type 0} (p : A → List A → Bool) (l : List A) (j : ℕ) → tails p (drop j l) ≡ false → tails p l ≡ false
@@ -117,73 +101,3 @@ module _ {seen : List Bool} {l : List Alias} (p : Passed seen l) (a : Alias) (h 
 
   pub one-twice : get_or seen (alias_place a) false ≡ true → tails alias_test (a ∷ l) ≡ false
   one-twice q = rw (h, marked-is ∙ q)
-
--- the alias before place `i`, and those from there on
-pub alias-before : (l : List Alias) (n i : ℕ) → 0 < i → i ≤ n → drop (i - 1) (aliases_of n l) ≡ get_or l (i - 1) no_alias ∷ drop i (aliases_of n l)
-alias-before l n i h k =
-    let q : i - 1 + 1 ≡ i = omega arith in
-    firsts_cons (λ (a : Alias). a) no_alias n l (i - 1) (omega arith) ∙ ap (λ (j : ℕ). get_or l (i - 1) no_alias ∷ drop j (aliases_of n l)) q
-
--- one that fails decides
-module _ (l : List Alias) (n i : ℕ) (h : 0 < i) (k : i ≤ n) where
-  pub alias-fails : tails alias_test (get_or l (i - 1) no_alias ∷ drop i (aliases_of n l)) ≡ false → false ≡ (list_all alias_ok (aliases_of n l) && aliases_differ (aliases_of n l))
-  alias-fails e =
-      sym (tails-dropped alias_test (aliases_of n l) (i - 1) (ap (tails alias_test) (alias-before l n i h k) ∙ e))
-      ∙ aliases_are (aliases_of n l)
-
--- ── operands of a template ──
-
--- operands that are right, their formals marked; 16 is no formal
-pub record Held (seen : List Bool) (l : List Operand) : Type 0 where
-  pub marks : Marks seen 17 (formals l)
-  pub spare : get_or seen 16 false ≡ false
-  pub right : tails operand_test l ≡ true
-
-pub none-held : Held (replicate 17 false) []
-none-held = record { marks = marks-none 17; spare = refl; right = refl }
-
-pub formal_low : (o : Operand) → tagged 6 o ≡ true → formal_variable o < 17
-formal_low Absent h = omega arith
-formal_low (ConstInt i) h = omega arith
-formal_low (ConstText t) h = omega arith
-formal_low (ConstLoc l) h = omega arith
-formal_low (Var i) h = omega arith
-formal_low (Plus i k) h = omega arith
-formal_low (Formal i) h = omega (arith, ltb-true i 16 h)
-
-module _ {seen : List Bool} {l : List Operand} (p : Held seen l) where
-  -- an operand that is no formal
-  other-held : (o : Operand) → operand_test o l ≡ true → formals (o ∷ l) ≡ formals l → Held (set seen 16 false) (o ∷ l)
-  other-held o h e =
-      record {
-        marks = subst (Marks (set seen 16 false) 17) (sym e) (marks-kept p.marks 16 (omega arith) p.spare);
-        spare = get_or-set_same seen 16 false false (omega (arith, p.marks.long));
-        right = rw h p.right;
-      }
-
-  formal_held : (i : ℕ) → ltb i 16 ≡ true → get_or seen i false ≡ false → Held (set seen i true) (Formal i ∷ l)
-  formal_held i h q =
-      let k : i < 16 = ltb-true i 16 h in
-      record {
-        marks = marks-more p.marks i (omega arith);
-        spare = get_or-set_other seen i 16 true false (λ e. omega arith) ∙ p.spare;
-        right = rw (h, sym (p.marks.each i (omega arith)) ∙ q) p.right;
-      }
-
-  pub one-held : (o : Operand) → tagged 6 o ≡ true → get_or seen (formal_variable o) false ≡ false → Held (set seen (formal_variable o) (ltb (formal_variable o) 16)) (o ∷ l)
-  one-held Absent h q = absurd (true≢false (sym h))
-  one-held (ConstInt i) h q = other-held (ConstInt i) (rw h) refl
-  one-held (ConstText t) h q = other-held (ConstText t) (rw h) refl
-  one-held (ConstLoc m) h q = other-held (ConstLoc m) (rw h) refl
-  one-held (Var i) h q = other-held (Var i) (rw h) refl
-  one-held (Plus i k) h q = other-held (Plus i k) (rw h) refl
-  one-held (Formal i) h q = subst (λ (t : Bool). Held (set seen i t) (Formal i ∷ l)) (sym h) (formal_held i h q)
-
-  pub held-twice : (o : Operand) → tagged 6 o ≡ true → get_or seen (formal_variable o) false ≡ true → tails operand_test (o ∷ l) ≡ false
-  held-twice Absent h q = absurd (true≢false (sym h))
-  held-twice (ConstInt i) h q = absurd (true≢false (sym q ∙ p.spare))
-  held-twice (ConstText t) h q = absurd (true≢false (sym q ∙ p.spare))
-  held-twice (ConstLoc m) h q = absurd (true≢false (sym q ∙ p.spare))
-  held-twice (Var i) h q = absurd (true≢false (sym q ∙ p.spare))
-  held-twice (Plus i k) h q = absurd (true≢false (sym q ∙ p.spare))
-  held-twice (Formal i) h q = rw (h, sym (p.marks.each i (omega (arith, ltb-true i 16 h))) ∙ q)

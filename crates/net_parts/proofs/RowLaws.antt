@@ -1,79 +1,24 @@
 -- Rows judged once: each value by its column's kind and its range together. Assumes nothing.
-use Prim.Native.Nat.{ℕ, zero, suc, ◌<◌, ◌≤◌}
+use Prim.Native.Nat.{ℕ, ◌<◌, ◌≤◌}
 use mathlib.Core.Path.{◌≡◌, refl, sym, ap, ap₂, ◌∙◌}
-use mathlib.Core.Bool.{Bool, true, false, ◌&&◌, ◌||◌, and-false, true≢false}
-use mathlib.Core.List.{List, [], ◌∷◌}
+use mathlib.Core.Bool.{Bool, true, false, ◌&&◌, and-false}
+use mathlib.Core.List.{List, [], ◌∷◌, map}
 use Rattle.std.specs.Prelude.{Some}
 use native.Mathlib.Omega.{arith}
-use lib.Dec.{T, eqb, leb, ltb, leb→le}
-use lib.ListN.{length, get_or}
-use Rattle.values.specs.declared.Value.{Value}
-use Rattle.values.specs.Lists.{agree, firsts}
-use Rattle.std.specs.List.{list_all}
+use lib.Dec.{T, eqb, leb, leb→le}
+use borrow.Author.Tests.{le-leb, lt-leb}
+use lib.ListN.{length}
+use Rattle.values.specs.Lists.{agree}
+use Rattle.std.specs.List.{list_all, zip}
 use Rattle.values.specs.Values.{kind_of, in_range}
-use Rattle.values.proofs.Bools.{and_l, and_r, and_comm, and_swap, and_first, and_last, T_of}
-use Rattle.values.proofs.Firsts.{firsts_same}
+use Rattle.values.proofs.Bools.{and_l, and_r, and_comm, and_swap, T_of}
 use Rattle.rows.specs.declared.Relation as Code
 use Rattle.rows.specs.Relations.{Row, Columns, Relation}
-use Rattle.rows.specs.Fit.{fits_row, relation_fits}
-use Rattle.rows.specs.View.{no_cell, columns_of, relation_of, Shaped}
+use Rattle.rows.specs.Fit.{fits_row}
+use Rattle.rows.specs.View.{relation_of, Shaped}
 use Rattle.nets.specs.Sound.{columns_ok, relation_ok}
-use Rattle.net_parts.specs.SoundParts.{cell_ok, row_ok}
+use Rattle.net_parts.specs.SoundParts.{row_ok}
 use Rattle.net_parts.proofs.Counts.{columns-count, rows-count}
-
--- ── the four places of a row ──
-
-four_of : {A B : Type 0} (f : A → B) (z : A) (y : B) (n : ℕ) (l : List A) → n ≤ 4
-    → firsts f z n l ≡ firsts (λ (x : B). x) y n (f (get_or l 0 z) ∷ f (get_or l 1 z) ∷ f (get_or l 2 z) ∷ f (get_or l 3 z) ∷ [])
-four_of {A} {B} f z y n l h = firsts_same f z (λ (x : B). x) y n l (f (get_or l 0 z) ∷ f (get_or l 1 z) ∷ f (get_or l 2 z) ∷ f (get_or l 3 z) ∷ []) (λ i k. place i (omega arith))
-  where
-    place : (i : ℕ) → i < 4 → f (get_or l i z) ≡ get_or (f (get_or l 0 z) ∷ f (get_or l 1 z) ∷ f (get_or l 2 z) ∷ f (get_or l 3 z) ∷ []) i y
-    place zero h = refl
-    place (suc zero) h = refl
-    place (suc (suc zero)) h = refl
-    place (suc (suc (suc zero))) h = refl
-    place (suc (suc (suc (suc i)))) h = absurd (omega arith)
-
-one : (a : Bool) → (a && true && true && true) ≡ (a && true)
-one true = refl
-one false = refl
-
-two : (a b : Bool) → (a && b && true && true) ≡ (a && (b && true))
-two true true = refl
-two true false = refl
-two false b = refl
-
-three : (a b c : Bool) → (a && b && c && true) ≡ (a && (b && (c && true)))
-three true true c = refl
-three true false c = refl
-three false b c = refl
-
-four : (a b c d : Bool) → (a && b && c && d) ≡ (a && (b && (c && (d && true))))
-four true true true true = refl
-four true true true false = refl
-four true true false d = refl
-four true false c d = refl
-four false b c d = refl
-
--- cells past the columns do not count
-judged : (n : ℕ) → 1 ≤ n → n ≤ 4 → (j k l m : ℕ) (u v w x y : Value)
-    → (cell_ok j u && (ltb n 2 || cell_ok k v) && (ltb n 3 || cell_ok l w) && (ltb n 4 || cell_ok m x))
-    ≡ agree cell_ok (firsts (λ (i : ℕ). i) 0 n (j ∷ k ∷ l ∷ m ∷ [])) (firsts (λ (z : Value). z) y n (u ∷ v ∷ w ∷ x ∷ []))
-judged zero h i j k l m u v w x y = absurd (omega arith)
-judged (suc zero) h i j k l m u v w x y = one (cell_ok j u)
-judged (suc (suc zero)) h i j k l m u v w x y = two (cell_ok j u) (cell_ok k v)
-judged (suc (suc (suc zero))) h i j k l m u v w x y = three (cell_ok j u) (cell_ok k v) (cell_ok l w)
-judged (suc (suc (suc (suc zero)))) h i j k l m u v w x y = four (cell_ok j u) (cell_ok k v) (cell_ok l w) (cell_ok m x)
-judged (suc (suc (suc (suc (suc n))))) h i j k l m u v w x y = absurd (omega arith)
-
-pub row-judged : (n : ℕ) (ks : List ℕ) (cs : List Value) → 1 ≤ n → n ≤ 4 → {a b c d : Bool}
-    → a ≡ cell_ok (get_or ks 0 0) (get_or cs 0 no_cell) → b ≡ cell_ok (get_or ks 1 0) (get_or cs 1 no_cell)
-    → c ≡ cell_ok (get_or ks 2 0) (get_or cs 2 no_cell) → d ≡ cell_ok (get_or ks 3 0) (get_or cs 3 no_cell)
-    → (a && (ltb n 2 || b) && (ltb n 3 || c) && (ltb n 4 || d)) ≡ row_ok (columns_of n ks) (firsts (λ (v : Value). v) no_cell n cs)
-row-judged n ks cs h k p q r s =
-    rw (p, q, r, s)
-    (judged n h k (get_or ks 0 0) (get_or ks 1 0) (get_or ks 2 0) (get_or ks 3 0) (get_or cs 0 no_cell) (get_or cs 1 no_cell) (get_or cs 2 no_cell) (get_or cs 3 no_cell) no_cell
-    ∙ sym (ap₂ (agree cell_ok) (four_of (λ (i : ℕ). i) 0 0 n ks k) (four_of (λ (v : Value). v) no_cell no_cell n cs k)))
 
 -- ── ranges and fit together ──
 
@@ -93,21 +38,12 @@ rows_both cs (r ∷ rs) =
 
 -- ── a relation, of `n` rows ──
 
-stop : (a k x y : Bool) → (a && k) ≡ false → false ≡ (a && (k && x) && y)
-stop true true x y e = absurd (true≢false e)
-stop true false x y e = refl
-stop false k x y e = refl
+module _ (r : Relation) {n : ℕ} (e : length r.rows ≡ n) where
+  pub relation-over : 16 < n → false ≡ relation_ok (Some r)
+  relation-over h = rw (lt-leb (length r.rows) 16 (omega arith), and-false (columns_ok r.columns))
 
-module _ (r : Relation) {n : ℕ} (e : length r.rows ≡ n) {x : Bool} (p : x ≡ columns_ok r.columns) where
-  pub relation-judged : (x && leb n 16) ≡ true → {y : Bool} → y ≡ list_all (row_ok r.columns) r.rows → y ≡ relation_ok (Some r)
-  relation-judged h q =
-      rw (sym p ∙ and_first x (leb n 16) h, ap (λ (m : ℕ). leb m 16) e ∙ and_last x (leb n 16) h)
-      (q ∙ rows_both r.columns r.rows)
-
-  pub relation-fails : (x && leb n 16) ≡ false → false ≡ relation_ok (Some r)
-  relation-fails h =
-      stop (columns_ok r.columns) (leb (length r.rows) 16) (list_all (λ r. list_all in_range r) r.rows) (relation_fits r)
-      (sym (ap₂ (λ (a : Bool) (m : ℕ). a && leb m 16) p (sym e)) ∙ h)
+  pub relation-judged : {x y : Bool} → n ≤ 16 → x ≡ columns_ok r.columns → x ≡ true → y ≡ list_all (row_ok r.columns) r.rows → y ≡ relation_ok (Some r)
+  relation-judged h p k q = rw (sym p ∙ k, le-leb (length r.rows) 16 (omega arith)) (q ∙ rows_both r.columns r.rows)
 
 -- ── a relation that is right is within its arrays ──
 
@@ -120,3 +56,19 @@ relation-shaped r h =
       columns = omega (arith, leb→le (length (relation_of r).columns) 4 b, columns-count r.columns r.kinds);
       count = omega (arith, leb→le (length (relation_of r).rows) 16 c, rows-count r);
     }
+
+-- ── pairs ──
+
+-- two lists of one length agree where all pairs of the two do
+pub all-pairs : {A B : Type 0} (p : A → B → Bool) (k : List A) (l : List B) → length k ≡ length l → list_all (λ (x : A × B). p x.0 x.1) (zip k l) ≡ agree p k l
+all-pairs p [] [] h = refl
+all-pairs p [] (b ∷ l) h = absurd (omega arith)
+all-pairs p (a ∷ k) [] h = absurd (omega arith)
+all-pairs p (a ∷ k) (b ∷ l) h = ap (p a b &&◌) (all-pairs p k l (omega arith))
+
+-- the same of what is seen of their elements
+pub agree-map : {A B C D : Type 0} (p : C → D → Bool) (f : A → C) (g : B → D) (k : List A) (l : List B) → agree (λ a b. p (f a) (g b)) k l ≡ agree p (map f k) (map g l)
+agree-map p f g [] [] = refl
+agree-map p f g [] (b ∷ l) = refl
+agree-map p f g (a ∷ k) [] = refl
+agree-map p f g (a ∷ k) (b ∷ l) = ap (p (f a) (g b) &&◌) (agree-map p f g k l)

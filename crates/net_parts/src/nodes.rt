@@ -1,11 +1,11 @@
 // Nodes: their fields by kind (check 4) and their links (check 9).
-ghost use Rattle.std.specs.Prelude.{◌≡◌, true, false, cond, ◌&&◌, eqb, leb, ℕ, List, Some, is_some};
+ghost use Rattle.std.specs.Prelude.{◌≡◌, true, false, cond, ◌&&◌, eqb, length, map};
 ghost use Rattle.values.specs.Values.{is_text};
 ghost use Rattle.rows.specs.View.{columns_of, operands_of};
 ghost use Rattle.nets.specs.Nets.{has_locality, has_template, has_test, has_tuple, is_select, is_loop};
 ghost use Rattle.nets.specs.Sound.{columns_ok, tagged, is_absent, locality_operand_ok, operands_ok, is_empty, fields_ok_as, links_ok_as, nodes_ok};
-ghost use Rattle.nets.specs.View.{kind_at, node_of, nodes_of};
-ghost use Rattle.net_parts.specs.SoundParts.{links_at, shape_of, reads_first, reads_second, ShapesOf};
+ghost use Rattle.nets.specs.View.{kind_at, node_of};
+ghost use Rattle.net_parts.specs.SoundParts.{links_at};
 
 use crate::operands::{
     function_ok, is_absent, locality_operand_ok, no_test, operands_ok, tagged, template_ok, test_ok,
@@ -15,7 +15,7 @@ use crate::relations::columns_ok;
 use nets::Node;
 use nets::kinds::{
     binds_relation, has_locality, has_test, has_tuple, is_aggregate, is_create, is_loop, is_select,
-    is_sequential, reads_relation,
+    reads_relation,
 };
 use rows::Operands;
 
@@ -137,48 +137,15 @@ fn links_ok(d: Node, i: usize, n: usize) -> bool
     links_at(d.kind, d.next, d.body, i, n)
 }
 
-// A sequential loop that reads table variable 0 or 1 is 0 or 1, a parallel one 2 or 3, and every other node 4.
-// A shape is a number and no enum, since an array of 128 numbers is filled and read with no struct around each.
-fn shape_of(d: Node) -> u8
-    ensures { result ≡ shape_of (node_of d) }
+pub fn nodes_ok(nodes: &[Node]) -> bool
+    ensures { result ≡ nodes_ok (length nodes.now) 0 (map node_of nodes.now) }
 {
-    let kind = d.kind;
-    let read = d.read;
-    if is_loop(kind) & (read < 2) {
-        if is_sequential(kind) {
-            return read;
-        }
-        return read + 2;
-    }
-    4
-}
-
-pub fn reads_first(shape: u8) -> bool
-    ensures { result ≡ reads_first shape }
-{
-    (shape == 0) | (shape == 2)
-}
-
-pub fn reads_second(shape: u8) -> bool
-    ensures { result ≡ reads_second shape }
-{
-    (shape == 1) | (shape == 3)
-}
-
-// Each node is judged and its shape noted in one pass. Of each node its shape, if all are right.
-pub fn nodes_ok(nodes: [Node; 128], count: usize) -> Option<[u8; 128]>
-    ensures { (is_some result ≡ (leb count 128 && nodes_ok count 0 (nodes_of count nodes))) × ((s : List ℕ) → result ≡ Some s → ShapesOf s count (nodes_of count nodes)) }
-{
-    let mut shapes: [u8; 128] = [4; 128];
-    if 128 < count {
-        return None;
-    }
+    let count = nodes.len();
     for i in 0..count {
         let d = nodes[i];
         if !(fields_ok(d) & links_ok(d, i, count)) {
-            return None;
+            return false;
         }
-        shapes[i] = shape_of(d);
     }
-    Some(shapes)
+    true
 }

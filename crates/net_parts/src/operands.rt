@@ -1,10 +1,11 @@
 // Operands, templates, predicates and aggregate functions as the records allow them.
 ghost use Rattle.std.specs.Prelude.{◌≡◌, ◌&&◌};
 ghost use Rattle.std.specs.List.{list_all};
+ghost use Rattle.values.specs.Operands.{formal_of, formals};
 ghost use Rattle.rows.specs.declared.Test.TheVariants.{Always};
 ghost use Rattle.rows.specs.View.{operands_of};
-ghost use Rattle.nets.specs.Sound.{tagged, is_absent, locality_operand_ok, operands_ok, template_ok, test_ok, is_always, function_ok};
-ghost use Rattle.net_parts.specs.SoundParts.{formal_variable};
+ghost use Rattle.nets.specs.Sound.{tagged, is_absent, locality_operand_ok, operands_ok, differ, template_ok, test_ok, is_always, function_ok};
+ghost use Rattle.net_parts.specs.SoundParts.{formal_is, formal_new};
 
 use crate::ranges::{is_text, locality_ok};
 use rows::{Function, Operands, Selector, Test};
@@ -49,58 +50,49 @@ fn all_tagged(hi: u8, ops: &[Operand]) -> bool
     ops.iter().all(|op| tagged(hi, *op))
 }
 
+// The count is judged here, since it may come from outside.
 pub fn operands_ok(hi: u8, t: Operands) -> bool
     ensures { result ≡ operands_ok hi (operands_of t) }
 {
-    let count = t.count;
-    if count == 0 {
+    let Some(used) = t.fields.get(..t.count) else {
         return false;
-    }
-    if 4 < count {
-        return false;
-    }
-    all_tagged(hi, &t.fields[..count])
+    };
+    !used.is_empty() & all_tagged(hi, used)
 }
 
 // ---- templates
 
-// The variable of a formal; 16 of any other operand.
-fn formal_variable(op: Operand) -> usize
-    ensures { result ≡ formal_variable op }
+fn is_formal(i: u8, op: Operand) -> bool
+    ensures { result ≡ formal_is i (formal_of op) }
+{
+    op == Operand::Formal(i)
+}
+
+// A formal is none of the others.
+fn formal_new(op: Operand, others: &[Operand]) -> bool
+    ensures { result ≡ formal_new (formal_of op) (formals others.now) }
 {
     match op {
-        Operand::Formal(i) => i as usize,
-        _ => 16,
+        Operand::Formal(i) => !others.iter().any(|o| is_formal(i, *o)),
+        _ => true,
     }
 }
 
-// From the last operand to the first; the formals passed are marked.
-pub fn template_ok(t: Operands) -> bool
-    ensures { result ≡ template_ok (operands_of t) }
+fn formals_differ(ops: &[Operand]) -> bool
+    ensures { result ≡ differ (formals ops.now) }
 {
-    let count = t.count;
-    if count == 0 {
-        return false;
-    }
-    if 4 < count {
-        return false;
-    }
-    let mut seen: [bool; 17] = [false; 17];
-    let mut i = count;
-    while 0 < i {
-        i -= 1;
-        let op = t.fields[i];
-        if tagged(6, op) {
-            let at = formal_variable(op);
-            if seen[at] {
-                return false;
-            }
-            seen[at] = at < 16;
-        } else {
+    for i in 0..ops.len() {
+        if !formal_new(ops[i], &ops[i + 1..]) {
             return false;
         }
     }
     true
+}
+
+pub fn template_ok(t: Operands) -> bool
+    ensures { result ≡ template_ok (operands_of t) }
+{
+    operands_ok(6, t) && formals_differ(&t.fields[..t.count])
 }
 
 // ---- predicates and functions

@@ -41,9 +41,5 @@ pub fn in_range(v: Value) -> bool
 pub fn variable_ok(s: Option<Value>) -> bool
     ensures { result ≡ variable_ok s }
 {
-    let g = s;
-    match g {
-        None => true,
-        Some(v) => in_range(v),
-    }
+    s.is_none_or(in_range)
 }

@@ -6,46 +6,26 @@ ghost use Rattle.nets.specs.View.{view};
 use crate::saved::threads_ok;
 use net_parts::lists::{aliases_ok, tables_ok};
 use net_parts::nodes::nodes_ok;
-use nets::{Alias, Net, Node, Saved, Table, Thread};
+use nets::Net;
 
-// Of a net in parts, so that a caller that holds one need not put them together.
-pub fn sound_parts(
-    aliases: [Alias; 56],
-    aliascount: usize,
-    tables: [Table; 8],
-    tablecount: usize,
-    nodes: [Node; 128],
-    nodecount: usize,
-    threads: [Thread; 8],
-    threadcount: usize,
-    saved: [Saved; 64],
-) -> bool
-    ensures { result ≡ sound (view (record { aliases = aliases; aliascount = aliascount; tables = tables; tablecount = tablecount; nodes = nodes; nodecount = nodecount; threads = threads; threadcount = threadcount; saved = saved })) }
+// A net may come from outside, so each count is judged before it is trusted.
+pub fn sound_net(net: &Net) -> bool
+    ensures { result ≡ sound (view net.now) }
 {
-    let judged = nodes_ok(nodes, nodecount);
-    match judged {
-        None => false,
-        Some(shapes) => {
-            let a = tables_ok(tables, tablecount);
-            let b = aliases_ok(aliases, aliascount);
-            let c = threads_ok(shapes, nodecount, threads, threadcount, saved);
-            a & b & c
-        }
-    }
-}
-
-pub fn sound_net(net: Net) -> bool
-    ensures { result ≡ sound (view net) }
-{
-    sound_parts(
-        net.aliases,
-        net.aliascount,
-        net.tables,
-        net.tablecount,
-        net.nodes,
-        net.nodecount,
-        net.threads,
-        net.threadcount,
-        net.saved,
-    )
+    let Some(aliases) = net.aliases.get(..net.aliascount) else {
+        return false;
+    };
+    let Some(tables) = net.tables.get(..net.tablecount) else {
+        return false;
+    };
+    let Some(nodes) = net.nodes.get(..net.nodecount) else {
+        return false;
+    };
+    let Some(threads) = net.threads.get(..net.threadcount) else {
+        return false;
+    };
+    aliases_ok(aliases)
+        & tables_ok(tables)
+        & nodes_ok(nodes)
+        & threads_ok(nodes, threads, &net.saved)
 }

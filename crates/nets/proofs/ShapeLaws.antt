@@ -51,6 +51,9 @@ columns-ok t h = search (and_l, and_r) depth 12
 pub rows_ok_lem : (t : M.Table) → T (table_ok t) → T (rows_ok t.content.rows)
 rows_ok_lem t h = search (and_l, and_r) depth 12
 
+pub table-shaped : (t : Table) → T (table_ok (table_of t)) → Shaped t.content
+table-shaped t h = shaped t.content (columns-ok (table_of t) h) (rows_ok_lem (table_of t) h)
+
 module _ (ts : List Table) (n i : ℕ) (below : i < n) (ok : T (list_all table_ok (tables_of n ts))) where
   ok_at : T (table_ok (table_of (get_or ts i no_table)))
   ok_at = all_firsts table_ok table_of no_table n ts i below ok

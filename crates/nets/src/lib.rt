@@ -23,7 +23,7 @@ pub struct Table {
     pub content: Relation,
 }
 
-// A node of kind 16..26. A field that its kind does not use is zero or absent.
+// A node of kind 16..26. A field that its kind does not use is zero or absent. Numbers as a record has them, `next` 255 where no node comes after it: a node may be handed in with any byte.
 #[derive(Clone, Copy, PartialEq, Eq)]
 pub struct Node {
     pub kind: u8,
@@ -42,7 +42,7 @@ pub struct Node {
     pub result: Operand,
 }
 
-// A node to run, or a loop node; its frame has the rows still to visit.
+// A node to run, or a loop node; its frame has the rows still to visit. Two kinds of entries, and neither stands for nothing.
 #[derive(Clone, Copy, PartialEq, Eq)]
 pub enum Entry {
     Run(u8),
@@ -76,6 +76,7 @@ pub struct Thread {
     pub depth: usize,
 }
 
+// No invariant says that it is sound, or that its counts are within the arrays: nets with any bytes are handed in, and judged by `sound_net`. Arrays with counts, since its memory is fixed.
 #[derive(Clone, Copy, PartialEq, Eq)]
 pub struct Net {
     pub aliases: [Alias; 56],

@@ -1,8 +1,9 @@
 // A stream of any length, read in pieces: all that is kept of it is the window and the start of a record whose end is still to come.
-ghost use Rattle.std.specs.Prelude.{◌≡◌, ◌+◌, ◌≤◌, ◌<◌, length, IfOk};
+ghost use Rattle.std.specs.Prelude.{◌≡◌, ◌≤◌, ◌<◌, length};
 
 use crate::lines::put_line;
 use print_lines::buffer::Buffered;
+use print_lines::input::read_from;
 use record_bytes::RECORD;
 use std::io;
 use std::io::{Read, Write};
@@ -60,15 +61,6 @@ fn keep_rest(space: &mut [u8], filled: usize) -> usize
     left
 }
 
-// Reads behind what is held, and gives how many bytes.
-fn read_more(from: &mut impl Read, space: &mut [u8], held: usize) -> io::Result<usize>
-    requires { held ≤ length space.old }
-    ensures count { IfOk result (λ n. held + n ≤ length space.new) }
-    ensures kept { length space.new ≡ length space.old }
-{
-    from.read(&mut space[held..])
-}
-
 // A proved loop has to end, so it counts its tries up to a number that no run reaches.
 const TRIES: usize = 1152921504606846976;
 
@@ -85,7 +77,7 @@ fn print_stream(
     };
     let mut held = 0;
     for _ in 0..TRIES {
-        let got = read_more(from, space, held).map_err(|why| Failed::Unread(Some(why)))?;
+        let got = read_from(from, space, held).map_err(|why| Failed::Unread(Some(why)))?;
         if got == 0 {
             return reached.take_last(&space[..held]).map_err(Failed::Unwritten);
         }

@@ -22,8 +22,8 @@ pub enum NotPaged {
 pub fn page(net: Net, site: Site, name: u32, out: &mut [u8]) -> Result<usize, NotPaged>
     ensures { PageIs net site name out.old out.new result }
 {
-    if !sound_net(net) {
+    if !sound_net(&net) {
         return Err(NotPaged::Unsound);
     }
-    page_tables(net.tables, net.tablecount, site, name, out)
+    page_tables(&net.tables[..net.tablecount], site, name, out)
 }

@@ -7,7 +7,7 @@ ghost use Rattle.rows.specs.View.{values_of, relation_of, Shaped};
 ghost use Rattle.nets.specs.Sound.{rows_ok};
 ghost use Rattle.page_rules.specs.Pages.{line_of, row_cell, sum_cell, page_of};
 
-use crate::cells::{CELL, put_row_cell, put_sum_cell};
+use crate::cells::{CELL, row_cell, sum_cell};
 use rows::{Relation, Row};
 
 // The bytes of a line, and the place of its line feed.
@@ -16,25 +16,29 @@ pub const LINE: usize = 53;
 const FEED: usize = 52;
 
 // The line of a row.
-fn put_row(out: &mut [u8], row: Row, columns: usize)
-    requires { (length out.old ≡ 53) × (columns ≤ 4) × T (list_all in_range (values_of columns row)) }
-    ensures { out.new ≡ line_of (row_cell (values_of columns row)) }
+fn row_line(row: Row, columns: usize) -> [u8; LINE]
+    requires { (columns ≤ 4) × T (list_all in_range (values_of columns row)) }
+    ensures { result ≡ line_of (row_cell (values_of columns row)) }
 {
+    let mut out = [0; LINE];
     for i in 0..4 {
-        put_row_cell(&mut out[i * CELL..i * CELL + CELL], row, columns, i);
+        out[i * CELL..i * CELL + CELL].copy_from_slice(&row_cell(row, columns, i));
     }
     out[FEED] = b'\n';
+    out
 }
 
 // The last line.
-fn put_sums(out: &mut [u8], r: Relation)
-    requires { (length out.old ≡ 53) × Shaped r × T (rows_ok (relation_of r).rows) }
-    ensures { out.new ≡ line_of (sum_cell (relation_of r)) }
+fn sums_line(r: Relation) -> [u8; LINE]
+    requires { Shaped r × T (rows_ok (relation_of r).rows) }
+    ensures { result ≡ line_of (sum_cell (relation_of r)) }
 {
+    let mut out = [0; LINE];
     for i in 0..4 {
-        put_sum_cell(&mut out[i * CELL..i * CELL + CELL], r, i);
+        out[i * CELL..i * CELL + CELL].copy_from_slice(&sum_cell(r, i));
     }
     out[FEED] = b'\n';
+    out
 }
 
 // The lines of all rows.
@@ -43,7 +47,7 @@ fn put_rows(out: &mut [u8], r: Relation)
     ensures { out.new ≡ end_to_end (map (λ row. line_of (row_cell row)) (relation_of r).rows) }
 {
     for i in 0..r.count {
-        put_row(&mut out[i * LINE..i * LINE + LINE], r.rows[i], r.columns);
+        out[i * LINE..i * LINE + LINE].copy_from_slice(&row_line(r.rows[i], r.columns));
     }
 }
 
@@ -62,5 +66,5 @@ pub fn put_page(out: &mut [u8], r: Relation)
 {
     let last = r.count * LINE;
     put_rows(&mut out[0..last], r);
-    put_sums(&mut out[last..last + LINE], r);
+    out[last..last + LINE].copy_from_slice(&sums_line(r));
 }

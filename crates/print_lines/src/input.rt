@@ -4,7 +4,8 @@ ghost use Rattle.std.specs.Prelude.{◌≡◌, ◌+◌, ◌≤◌, length, IfOk}
 use std::io;
 use std::io::Read;
 
-fn read_from(from: &mut impl Read, space: &mut [u8], at: usize) -> io::Result<usize>
+// Reads behind the first `at` bytes, and gives how many more there are.
+pub fn read_from(from: &mut impl Read, space: &mut [u8], at: usize) -> io::Result<usize>
     requires { at ≤ length space.old }
     ensures count { IfOk result (λ n. at + n ≤ length space.new) }
     ensures kept { length space.new ≡ length space.old }

@@ -8,5 +8,4 @@ pub mod endings;
 pub mod faults;
 pub mod input;
 pub mod lines;
-pub mod program;
 pub mod text;

@@ -1,6 +1,4 @@
 // The lines of answers and tables.
-ghost use Rattle.std.specs.Prelude.{◌≡◌, length};
-
 use crate::cells::{put_rows, put_text};
 use nets::refusals::number_of;
 use nets::{Answer, Done, Table};
@@ -16,21 +14,13 @@ pub fn put_answer(out: &mut impl Write, answer: Answer) -> io::Result<()> {
     }
 }
 
-// The number in eight bytes, little endian.
-fn number_in(bytes: &[u8]) -> u64
-    requires { length bytes.now ≡ 8 }
-{
-    u64::from_le_bytes(bytes.try_into().unwrap())
-}
-
-// An answer's 24 bytes: the number of the refusal, 0 where there is none, and the rows added and taken.
-fn put_answer_bytes(out: &mut impl Write, answer: &[u8]) -> io::Result<()>
-    requires { length answer.now ≡ 24 }
-{
-    match number_in(&answer[0..8]) {
+// An answer's three numbers, little endian: that of the refusal, 0 where there is none, since C programs read them so, and the rows added and taken.
+fn put_answer_bytes(out: &mut impl Write, answer: &[u8; ANSWER]) -> io::Result<()> {
+    let (numbers, _) = answer.as_chunks::<8>();
+    match u64::from_le_bytes(numbers[0]) {
         0 => {
-            let added = number_in(&answer[8..16]);
-            let taken = number_in(&answer[16..24]);
+            let added = u64::from_le_bytes(numbers[1]);
+            let taken = u64::from_le_bytes(numbers[2]);
             write!(out, "done {added} {taken}")
         }
         number => write!(out, "no {number}"),
@@ -39,7 +29,7 @@ fn put_answer_bytes(out: &mut impl Write, answer: &[u8]) -> io::Result<()>
 
 // The lines of picks, from their answers as bytes, of which each has 24.
 pub fn put_picks(out: &mut impl Write, answers: &[u8]) -> io::Result<()> {
-    for (i, answer) in answers.chunks_exact(ANSWER).enumerate() {
+    for (i, answer) in answers.as_chunks::<ANSWER>().0.iter().enumerate() {
         write!(out, "pick {i} ")?;
         put_answer_bytes(out, answer)?;
         writeln!(out)?;

@@ -1,16 +1,18 @@
-// What bytes say: numbers, texts, unused bytes, and lists that end with nones. Parts have their exact size.
+// What bytes say: fields, numbers, texts, unused bytes, and lists that end with nones.
 #![tactic(auto)]
 
-ghost use Rattle.std.specs.Prelude.{◌≡◌, Bool, [], ◌∷◌, ◌≤◌, length};
-ghost use Rattle.record_bytes.specs.Bytes.{text_in, int_in, zeros, leading, then_only};
+ghost use Rattle.std.specs.Prelude.{◌≡◌, Bool, [], ◌∷◌, ◌+◌, ◌≤◌, length};
+ghost use Rattle.record_bytes.specs.Bytes.{part, text_in, int_in, zeros, leading, then_only};
 
 // ---- the layout of a record
 
 // How many bytes a record has.
 pub const RECORD: usize = 104;
 
-// How many bytes an operand has.
+// How many bytes an operand has, and a list of four.
 pub const OPERAND: usize = 8;
+
+pub const OPERANDS: usize = 32;
 
 // Where fields of more than one byte begin: the name; the column kinds of a table or of a create, and the byte after the last kind; L; T; t; the two operands of the predicate.
 pub const NAME: usize = 4;
@@ -29,22 +31,28 @@ pub const LEFT: usize = 88;
 
 pub const RIGHT: usize = 96;
 
-// ---- numbers and texts
-
-// Four bytes, the first highest.
-pub fn text_in(p: &[u8]) -> u32
-    requires { length p.now ≡ 4 }
-    ensures { result ≡ text_in p.now }
+// The field of N bytes that begins at a place: who takes it says how many.
+pub fn field<const N: usize>(p: &[u8], start: usize) -> &[u8; N]
+    requires { start + N ≤ length p.now }
+    ensures { result.now ≡ part start (start + N) p.now }
 {
-    u32::from_be_bytes([p[0], p[1], p[2], p[3]])
+    p[start..start + N].first_chunk().unwrap()
 }
 
-// Four bytes as a signed number, the first lowest.
-pub fn int_in(p: &[u8]) -> i32
-    requires { length p.now ≡ 4 }
+// ---- numbers and texts
+
+// The first byte is the highest.
+pub fn text_in(p: &[u8; 4]) -> u32
+    ensures { result ≡ text_in p.now }
+{
+    u32::from_be_bytes(*p)
+}
+
+// A signed number, the first byte the lowest.
+pub fn int_in(p: &[u8; 4]) -> i32
     ensures { result ≡ int_in p.now }
 {
-    i32::from_le_bytes([p[0], p[1], p[2], p[3]])
+    i32::from_le_bytes(*p)
 }
 
 // ---- unused bytes

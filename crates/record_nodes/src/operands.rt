@@ -1,16 +1,16 @@
 // Operands, and lists of up to four of them. An operand has 8 bytes: its tag, a variable, two zeros, and four value bytes.
-ghost use Rattle.std.specs.Prelude.{◌≡◌, length};
+ghost use Rattle.std.specs.Prelude.{◌≡◌};
 ghost use Rattle.rows.specs.View.{operands_of, Short};
 ghost use Rattle.nets.specs.Sound.{is_absent};
 ghost use Rattle.record_bytes.specs.Bytes.{operand_form, operand_in, operands_form, operands_in};
 
-use record_bytes::{before_none, int_in, nones_last, text_in, zeros};
+use record_bytes::{OPERAND, OPERANDS, before_none, field, int_in, nones_last, text_in, zeros};
 use rows::Operands;
 use values::{Locality, Operand};
 
 // By tag: the bytes that it leaves unused are zero.
-pub fn operand_form(p: &[u8]) -> bool
-    requires { length p.now ≡ 8 }
+#[tactic(auto, unfolding(record_bytes::specs::Bytes::operand_form))]
+pub fn operand_form(p: &[u8; OPERAND]) -> bool
     ensures { result ≡ operand_form p.now }
 {
     let tag = p[0];
@@ -26,40 +26,40 @@ pub fn operand_form(p: &[u8]) -> bool
     }
 }
 
-pub fn operand_in(p: &[u8]) -> Operand
-    requires { length p.now ≡ 8 }
+#[tactic(auto, unfolding(record_bytes::specs::Bytes::operand_in))]
+pub fn operand_in(p: &[u8; OPERAND]) -> Operand
     ensures { result ≡ operand_in p.now }
 {
     let tag = p[0];
     match tag {
         0 => Operand::Absent,
-        1 => Operand::ConstInt(int_in(&p[4..8])),
-        2 => Operand::ConstText(text_in(&p[4..8])),
+        1 => Operand::ConstInt(int_in(field(p, 4))),
+        2 => Operand::ConstText(text_in(field(p, 4))),
         3 => Operand::ConstLoc(Locality(p[4])),
         4 => Operand::Var(p[1]),
-        5 => Operand::Plus(p[1], int_in(&p[4..8])),
+        5 => Operand::Plus(p[1], int_in(field(p, 4))),
         6 => Operand::Formal(p[1]),
         _ => Operand::Absent,
     }
 }
 
 // The tag is 0, or of no operand.
-fn absent_in(p: &[u8]) -> bool
-    requires { length p.now ≡ 8 }
+#[tactic(auto, unfolding(record_bytes::specs::Bytes::operand_in))]
+fn absent_in(p: &[u8; OPERAND]) -> bool
     ensures { result ≡ is_absent (operand_in p.now) }
 {
     (p[0] == 0) | (6 < p[0])
 }
 
 // Up to four operands, then only tag 0.
-pub fn operands_form(p: &[u8]) -> bool
-    requires { length p.now ≡ 32 }
+#[tactic(auto, unfolding(record_bytes::specs::Bytes::operands_form))]
+pub fn operands_form(p: &[u8; OPERANDS]) -> bool
     ensures { result ≡ operands_form p.now }
 {
-    let a = &p[0..8];
-    let b = &p[8..16];
-    let c = &p[16..24];
-    let d = &p[24..32];
+    let a = field(p, 0);
+    let b = field(p, 8);
+    let c = field(p, 16);
+    let d = field(p, 24);
     operand_form(a)
         & operand_form(b)
         & operand_form(c)
@@ -68,14 +68,14 @@ pub fn operands_form(p: &[u8]) -> bool
 }
 
 // The operands before the first absent one.
-pub fn operands_in(p: &[u8]) -> Operands
-    requires { length p.now ≡ 32 }
+#[tactic(auto, unfolding(record_bytes::specs::Bytes::operands_in))]
+pub fn operands_in(p: &[u8; OPERANDS]) -> Operands
     ensures { (operands_of result ≡ operands_in p.now) × Short result }
 {
-    let a = &p[0..8];
-    let b = &p[8..16];
-    let c = &p[16..24];
-    let d = &p[24..32];
+    let a = field(p, 0);
+    let b = field(p, 8);
+    let c = field(p, 16);
+    let d = field(p, 24);
     Operands {
         fields: [operand_in(a), operand_in(b), operand_in(c), operand_in(d)],
         count: before_none(absent_in(a), absent_in(b), absent_in(c), absent_in(d)),

@@ -1,5 +1,5 @@
 // Row records: check 4, and what a row gives its table.
-ghost use Rattle.std.specs.Prelude.{◌≡◌, [], map, ◌≤◌, length, is_some, IfSome};
+ghost use Rattle.std.specs.Prelude.{◌≡◌, [], map, ◌≤◌, is_some, IfSome};
 ghost use Rattle.values.specs.Operands.{eval};
 ghost use Rattle.rows.specs.View.{operands_of, draft_of, Short};
 ghost use Rattle.record_bytes.specs.Bytes.{part, operands_in};
@@ -8,7 +8,7 @@ ghost use Rattle.record_bytes.specs.Decoding.{row_form};
 use crate::operands::{operands_form, operands_in};
 use net_parts::operands::operands_ok;
 use net_parts::ranges::{is_text, site_ok};
-use record_bytes::{KINDS, LEFT, NAME, RECORD, TUPLE, zeros};
+use record_bytes::{KINDS, LEFT, NAME, RECORD, TUPLE, field, zeros};
 use record_forms::{record_name, record_site};
 use rows::{Draft, Operands};
 use values::{Operand, Value};
@@ -38,11 +38,10 @@ pub fn constants_of(t: Operands) -> Draft
 }
 
 // The operands are read once: check 4 judges them, and the table gets their values.
-pub fn row_read(r: &[u8]) -> Option<Draft>
-    requires { length r.now ≡ 104 }
+pub fn row_read(r: &[u8; RECORD]) -> Option<Draft>
     ensures { (is_some result ≡ row_form r.now) × IfSome result (λ d. (draft_of d ≡ map (eval []) (operands_in (part 56 88 r.now))) × (d.count ≤ 4)) }
 {
-    let p = &r[TUPLE..LEFT];
+    let p = field(r, TUPLE);
     let t = operands_in(p);
     let right = site_ok(record_site(r))
         & zeros(&r[2..NAME])

@@ -1,43 +1,80 @@
--- A column of a relation: its Ints place by place, the range of their sum, and the better of two.
-use Prim.Native.Nat.{ℕ, ◌≤◌, ◌<◌, ◌+◌, ◌*◌}
+-- A column of rows: its Ints read off the cells, their sum, and the best of them.
+use Prim.Native.Nat.{ℕ, ◌≤◌, ◌<◌}
 use native.Mathlib.Omega.{arith}
 use mathlib.Core.Path.{◌≡◌, refl, sym, ap, ap₂, ◌∙◌, subst}
 use mathlib.Core.Bool.{Bool, true, false, cond}
-use mathlib.Core.List.{List, [], ◌∷◌, foldl}
+use mathlib.Core.List.{List, [], ◌∷◌, map, foldl}
 use lib.Dec.{T, eqb, ltb}
-use lib.ListN.{length, get_or, drop, get_or-eq_default}
+use lib.ListN.{length, get_or, get_or-eq_default}
 use lib.IntN.{ℤ, pos, ◌+ℤ◌}
-use lib.Signed.{mag}
-use mir.Syntax.{w32, w64}
-use mir.Val.{SFits, of_z, to_z}
 use borrow.Author.Tests.{ltb-true, ltb-false}
-use Rattle.values.specs.declared.Value.TheVariants.{Int}
-use Rattle.std.specs.Prelude.{Some}
-use Rattle.values.specs.Lists.{firsts}
-use Rattle.values.proofs.Firsts.{length-firsts, map-firsts, firsts_cons, firsts_at, firsts_end}
-use Rattle.values.proofs.Ints.{back, wide, wide_is, mag_add}
+use Rattle.std.specs.Prelude.{Option, Some}
+use Rattle.std.specs.List.{fold, reduce}
+use Rattle.std.specs.Option.{option_map}
+use Rattle.std.specs.Ordering.{int_cmp, max_by_ordering, min_by_ordering}
+use Rattle.std.specs.declared.cmp.Ordering.TheVariants.{Less, Equal, Greater}
+use Rattle.std.specs.Int.Signed.{lt_z}
+use Rattle.std.proofs.lemmas.Int.{ints}
+use Rattle.values.specs.Operands.{Got}
 use Rattle.values.specs.declared.Value.{Value}
+use Rattle.values.specs.declared.Value.TheVariants.{Int}
+use Rattle.values.proofs.Firsts.{length-firsts, firsts_at}
 use Rattle.rows.specs.declared.Row.{Row}
-use Rattle.rows.specs.View.{no_cell, no_row, values_of, columns_of, rows_of}
-use Rattle.row_change.specs.Aggregates.{int_of, int_at, column, smaller, larger, best}
+use Rattle.rows.specs.View.{values_of, columns_of}
+use Rattle.row_change.specs.Aggregates.{int_of, int_at, column, total, larger, smaller, best}
+
+-- the Int at a place of a row's cells
+abbrev pub int_in : ℕ → Row → ℤ
+int_in at row = int_at at row.cells
 
 -- ── places ──
 
--- the Int in a column, read off the row's cells
-pub int_at_lem : (row : Row) (n k : ℕ) → k < n → int_of (get_or row.cells k no_cell) ≡ int_at k (values_of n row)
-int_at_lem row n k h = ap int_of (sym (firsts_at (λ (v : Value). v) no_cell n row.cells k (Int (pos 0)) h))
+module _ (at w : ℕ) (low : at < w) where
+  -- a column of a row that has it, read off the row's cells
+  column_of : (rows : List Row) → map (int_in at) rows ≡ column at (map (values_of w) rows)
+  column_of [] = refl
+  column_of (row ∷ rows) = ap₂ ◌∷◌ (ap int_of (sym (firsts_at (λ (v : Value). v) (Int (pos 0)) w row.cells at (Int (pos 0)) low))) (column_of rows)
 
-module _ (k w n : ℕ) (rows : List Row) (i : ℕ) where
-  column-is : firsts (λ (r : Row). int_at k (values_of w r)) no_row n rows ≡ column k (rows_of w n rows)
-  column-is = sym (map-firsts (int_at k) (values_of w) no_row n rows)
+  sum_from : (rows : List Row) (a : ℤ) → fold (λ b row. b +ℤ int_in at row) a rows ≡ foldl ◌+ℤ◌ a (map (int_in at) rows)
+  sum_from [] a = refl
+  sum_from (row ∷ rows) a = sum_from rows (a +ℤ int_in at row)
 
-  pub column_cons : i < n → drop i (column k (rows_of w n rows)) ≡ int_at k (values_of w (get_or rows i no_row)) ∷ drop (i + 1) (column k (rows_of w n rows))
-  column_cons h =
-      subst (λ (l : List ℤ). drop i l ≡ int_at k (values_of w (get_or rows i no_row)) ∷ drop (i + 1) l) column-is
-      (firsts_cons (λ (r : Row). int_at k (values_of w r)) no_row n rows i h)
+  pub sum_is : (rows : List Row) → fold (λ b row. b +ℤ int_in at row) (pos 0) rows ≡ total (column at (map (values_of w) rows))
+  sum_is rows = sum_from rows (pos 0) ∙ ap total (column_of rows)
 
-  pub column_end : n ≤ i → drop i (column k (rows_of w n rows)) ≡ []
-  column_end h = subst (λ (l : List ℤ). drop i l ≡ []) column-is (firsts_end (λ (r : Row). int_at k (values_of w r)) no_row n rows i h)
+-- ── the best ──
+
+fold_by : (f g : ℤ → ℤ → ℤ) → ((j k : ℤ) → f j k ≡ g j k) → (j : ℤ) (l : List ℤ) → fold f j l ≡ foldl g j l
+fold_by f g same j [] = refl
+fold_by f g same j (k ∷ l) = fold_by f g same (f j k) l ∙ ap (λ z. foldl g z l) (same j k)
+
+best_by : (f g : ℤ → ℤ → ℤ) → ((j k : ℤ) → f j k ≡ g j k) → (l : List ℤ) → option_map (λ z. Int z) (reduce f l) ≡ best g l
+best_by f g same [] = refl
+best_by f g same (k ∷ l) = ap (λ z. Some (Int z)) (fold_by f g same k l)
+
+max_is : (j k : ℤ) → max_by_ordering (int_cmp j k) j k ≡ larger j k
+max_is j k = go (lt_z j k) refl (lt_z k j) refl
+  where
+    go : (a : Bool) → lt_z j k ≡ a → (b : Bool) → lt_z k j ≡ b → max_by_ordering (cond a Less (cond b Greater Equal)) j k ≡ cond a k j
+    go true p b q = refl
+    go false p true q = refl
+    go false p false q = omega (arith, ints)
+
+min_is : (j k : ℤ) → min_by_ordering (int_cmp j k) j k ≡ smaller j k
+min_is j k = go (lt_z j k) refl (lt_z k j) refl
+  where
+    go : (a : Bool) → lt_z j k ≡ a → (b : Bool) → lt_z k j ≡ b → min_by_ordering (cond a Less (cond b Greater Equal)) j k ≡ cond b k j
+    go true p true q = omega (arith, ints)
+    go true p false q = refl
+    go false p true q = refl
+    go false p false q = refl
+
+module _ (at w : ℕ) (low : at < w) (rows : List Row) {o : Option ℤ} {g : Got} (given : g ≡ option_map (λ z. Int z) o) where
+  pub largest_is : o ≡ reduce (λ j k. max_by_ordering (int_cmp j k) j k) (map (int_in at) rows) → g ≡ best larger (column at (map (values_of w) rows))
+  largest_is e = given ∙ ap (option_map (λ z. Int z)) e ∙ best_by _ larger max_is (map (int_in at) rows) ∙ ap (best larger) (column_of at w low rows)
+
+  pub least_is : o ≡ reduce (λ j k. min_by_ordering (int_cmp j k) j k) (map (int_in at) rows) → g ≡ best smaller (column at (map (values_of w) rows))
+  least_is e = given ∙ ap (option_map (λ z. Int z)) e ∙ best_by _ smaller min_is (map (int_in at) rows) ∙ ap (best smaller) (column_of at w low rows)
 
 -- a column of kind Int is there
 pub column-there : (k n : ℕ) (kinds : List ℕ) → T (eqb (get_or (columns_of n kinds) k 0) 1) → k < n
@@ -48,41 +85,3 @@ column-there k n kinds h = go (ltb k n) refl
     go false e =
         let l : length (columns_of n kinds) ≤ k = omega (arith, length-firsts (λ (j : ℕ). j) 0 n kinds, ltb-false k n e) in
         absurd (subst (λ (j : ℕ). T (eqb j 1)) (get_or-eq_default (columns_of n kinds) 0 l) h)
-
--- ── sums ──
-
--- a sum of fewer than 16 numbers of 32 bits, and one more
-pub sum-stays : (x y : ℤ) (i : ℕ) → mag x ≤ i * 2147483648 → mag y < 2147483648 → mag (x +ℤ y) ≤ (i + 1) * 2147483648
-sum-stays x y i p q = omega (arith, mag_add x y)
-
-pub sum-fits-wide : (x y : ℤ) (i : ℕ) → mag x ≤ i * 2147483648 → i < 16 → mag y < 2147483648 → SFits w64 (x +ℤ y)
-sum-fits-wide x y i p h q = record { sfits = omega (arith, mag_add x y) }
-
--- `a + (n as i64)`
-module _ (a n : ℤ) (p : SFits w64 a) (q : SFits w32 n) (s : SFits w64 (a +ℤ n)) where
-  added : to_z w64 (of_z w64 a) +ℤ wide n ≡ a +ℤ n
-  added = ap₂ ◌+ℤ◌ (back w64 a p) (wide_is n q)
-
-  pub wide_fits : SFits w64 (to_z w64 (of_z w64 a) +ℤ wide n)
-  wide_fits = subst (SFits w64) (sym added) s
-
-  pub wide-sum : to_z w64 (of_z w64 (to_z w64 (of_z w64 a) +ℤ wide n)) ≡ a +ℤ n
-  wide-sum = back w64 (to_z w64 (of_z w64 a) +ℤ wide n) wide_fits ∙ added
-
--- the bits that hold the next sum
-pub sum-next : (x z r : ℤ) → SFits w32 z → SFits w64 r → r ≡ x +ℤ to_z w32 (of_z w32 z) → to_z w64 (of_z w64 r) ≡ x +ℤ z
-sum-next x z r p q e = back w64 r q ∙ e ∙ ap (λ (y : ℤ). x +ℤ y) (back w32 z p)
-
--- ── the better of two ──
-
-pub either : (l : Bool) (j k : ℤ) → cond l (larger j k) (smaller j k) ≡ cond l larger smaller j k
-either true j k = refl
-either false j k = refl
-
--- the bits that hold the next choice
-pub better_next : (l : Bool) (x z r : ℤ) → SFits w32 z → SFits w32 r → r ≡ cond l (larger x (to_z w32 (of_z w32 z))) (smaller x (to_z w32 (of_z w32 z)))
-    → to_z w32 (of_z w32 r) ≡ cond l larger smaller x z
-better_next l x z r p q e = back w32 r q ∙ e ∙ ap (λ (y : ℤ). cond l (larger x y) (smaller x y)) (back w32 z p) ∙ either l x z
-
-pub best-is : (f : ℤ → ℤ → ℤ) (a : ℤ) {x : ℤ} {l l' : List ℤ} → l ≡ x ∷ l' → a ≡ foldl f x l' → Some (Int a) ≡ best f l
-best-is f a e h = ap (λ (z : ℤ). Some (Int z)) h ∙ sym (ap (best f) e)

@@ -1,6 +1,5 @@
 -- Laws that belong to no one function.
 pub mod AggregateLaws
-pub mod AppendLaws
 pub mod FitLaws
 pub mod Prepared
 pub mod RangeLaws

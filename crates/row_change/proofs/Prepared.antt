@@ -1,7 +1,7 @@
 -- A plan and terms over the rows of the relation they were prepared for: they judge and give what the rules do.
 use Prim.Native.Nat.{ℕ, suc, ◌≤◌, ◌<◌}
 use mathlib.Core.Path.{◌≡◌, refl, sym, ap, ap₂, ◌∙◌, subst}
-use mathlib.Core.Bool.{Bool, true, false, not, cond, ◌&&◌, ◌||◌}
+use mathlib.Core.Bool.{Bool, true, false, cond, ◌&&◌}
 use mathlib.Core.List.{List, [], ◌∷◌, map, map-map}
 use native.Mathlib.Omega.{arith}
 use borrow.Author.Tests.{lt-ltb, le-ltb}
@@ -35,8 +35,10 @@ use Rattle.rows.specs.contracts.Relation as R
 use Rattle.rows.proofs.Lengths.{cells-long}
 use Rattle.rows.proofs.PlanLaws.{origin_read, term_got_lem}
 use Rattle.row_change.specs.declared.Swept.{Swept}
+use Rattle.row_change.specs.declared.Pass.{Pass}
+use Rattle.row_change.specs.declared.Pass.TheVariants.{Mark, Update, Select}
 use Rattle.row_change.specs.Changes.{draft_for, tuple_for, changes, renewed, updated, kinds_of, selected_columns}
-use Rattle.row_change.specs.ChangeContracts.{given_by, sweeps, SweptIs, marks, sift, Complete}
+use Rattle.row_change.specs.ChangeContracts.{given_by, replaces, sweeps, SweptIs, marks, sift, Complete}
 use Rattle.row_change.proofs.SweepLaws.{sift-made, count_map, count-marks}
 
 -- ── what fits ──
@@ -117,17 +119,13 @@ module _ {r : Relation} {s : Selector} {e : Vars} {u : List Operand} {terms : Te
 
 -- ── a pass over the rows ──
 
-and-true : (b : Bool) → (b && true) ≡ b
-and-true true = refl
-and-true false = refl
-
 module _ {r : Relation} {s : Selector} {e : Vars} {plan : Plan} (p : Planned r s e plan) {u : List Operand} {terms : Terms} (t : Termed r s e u terms)
-    {d any : Bool} {n : ℕ} {ks : List ℕ} {o : Swept} (is : SweptIs plan d any terms n ks r.count r.rows o) where
+    {pass : Pass} {ks : M.Columns} {o : Swept} (is : SweptIs plan pass terms ks r.count r.rows o) where
   abbrev row_at : ℕ → Row
   row_at i = get_or r.rows i no_row
 
   abbrev swept : Row → Bool
-  swept = sweeps plan d any terms n ks
+  swept = sweeps plan pass terms ks
 
   -- `q` judges a row's values as the pass judges the row
   module _ (q : M.Row → Bool) (same : (i : ℕ) → i < r.count → swept (row_at i) ≡ q (values_of r.columns (row_at i))) where
@@ -144,73 +142,70 @@ module _ {r : Relation} {s : Selector} {e : Vars} {plan : Plan} (p : Planned r s
         count-marks r.count o.flags (λ k high. is.flags k ∙ ap (◌&& swept (row_at k)) (le-ltb k r.count high))
         ∙ ap (count (λ (b : Bool). b)) marks_are ∙ count_map q (relation_of r).rows
 
-  -- where the new row does not matter
-  pub hits-marked : not d ≡ true → (i : ℕ) → i < r.count → swept (row_at i) ≡ hits e (selector_of s) (values_of r.columns (row_at i))
-  hits-marked free i low = ap (λ (b : Bool). plan_hits plan (row_at i) && (b || (any || fits (columns_of n ks) (given_by terms (row_at i))))) free ∙ and-true (plan_hits plan (row_at i)) ∙ hit_same p i low
+  -- where the rows stay
+  pub hits-marked : pass ≡ Mark → (i : ℕ) → i < r.count → swept (row_at i) ≡ hits e (selector_of s) (values_of r.columns (row_at i))
+  hits-marked stay i low = ap (λ (a : Pass). sweeps plan a terms ks (row_at i)) stay ∙ hit_same p i low
 
-  module _ (drafts : d ≡ true) where
-    -- a select: any new row will do
-    module _ (loose : any ≡ true) where
-      pub picks-marked : (i : ℕ) → i < r.count → swept (row_at i) ≡ hits e (selector_of s) (values_of r.columns (row_at i))
-      picks-marked i low =
-          ap₂ (λ (b c : Bool). plan_hits plan (row_at i) && (not b || (c || fits (columns_of n ks) (given_by terms (row_at i))))) drafts loose
-          ∙ and-true (plan_hits plan (row_at i)) ∙ hit_same p i low
+  -- a select: any new row will do
+  module _ (loose : pass ≡ Select) where
+    pub picks-marked : (i : ℕ) → i < r.count → swept (row_at i) ≡ hits e (selector_of s) (values_of r.columns (row_at i))
+    picks-marked i low = ap (λ (a : Pass). sweeps plan a terms ks (row_at i)) loose ∙ hit_same p i low
 
-      pub picked : Complete e (operands_of s.template) u →
-          sift true (marks r.count o.flags) (firsts (values_of terms.count) no_row r.count o.rows) ≡
-          map (tuple_for e (operands_of s.template) u) (filter (hits e (selector_of s)) (relation_of r).rows)
-      picked complete =
-          ap (λ (m : List Bool). sift true m (firsts (values_of terms.count) no_row r.count o.rows)) (marks_are (hits e (selector_of s)) picks-marked)
-          ∙ sift-made (hits e (selector_of s)) (tuple_for e (operands_of s.template) u) [] [] (relation_of r).rows (firsts (values_of terms.count) no_row r.count o.rows)
-          (length-firsts (values_of r.columns) no_row r.count r.rows ∙ sym (length-firsts (values_of terms.count) no_row r.count o.rows))
-          (λ i low h. at i (subst (λ (m : ℕ). i < m) (length-firsts (values_of r.columns) no_row r.count r.rows) low) h)
-        where
-          at : (i : ℕ) → i < r.count → T (hits e (selector_of s) (get_or (relation_of r).rows i [])) →
-              get_or (firsts (values_of terms.count) no_row r.count o.rows) i [] ≡ tuple_for e (operands_of s.template) u (get_or (relation_of r).rows i [])
-          at i low h =
-              let row = firsts_at (values_of r.columns) no_row r.count r.rows i [] low in
-              firsts_at (values_of terms.count) no_row r.count o.rows i [] low
-              ∙ is.made i (subst T (sym (flag_is (hits e (selector_of s)) picks-marked i low)) (subst (λ (x : M.Row). T (hits e (selector_of s) x)) row h))
-              (T_of d drafts) (given-all t complete (row_at i))
-              ∙ tuple-same t (row_at i) ∙ ap (tuple_for e (operands_of s.template) u) (sym row)
+    pub picked : Complete e (operands_of s.template) u →
+        sift true (marks r.count o.flags) (firsts (values_of terms.count) no_row r.count o.rows) ≡
+        map (tuple_for e (operands_of s.template) u) (filter (hits e (selector_of s)) (relation_of r).rows)
+    picked complete =
+        ap (λ (m : List Bool). sift true m (firsts (values_of terms.count) no_row r.count o.rows)) (marks_are (hits e (selector_of s)) picks-marked)
+        ∙ sift-made (hits e (selector_of s)) (tuple_for e (operands_of s.template) u) [] [] (relation_of r).rows (firsts (values_of terms.count) no_row r.count o.rows)
+        (length-firsts (values_of r.columns) no_row r.count r.rows ∙ sym (length-firsts (values_of terms.count) no_row r.count o.rows))
+        (λ i low h. at i (subst (λ (m : ℕ). i < m) (length-firsts (values_of r.columns) no_row r.count r.rows) low) h)
+      where
+        at : (i : ℕ) → i < r.count → T (hits e (selector_of s) (get_or (relation_of r).rows i [])) →
+            get_or (firsts (values_of terms.count) no_row r.count o.rows) i [] ≡ tuple_for e (operands_of s.template) u (get_or (relation_of r).rows i [])
+        at i low h =
+            let row = firsts_at (values_of r.columns) no_row r.count r.rows i [] low in
+            firsts_at (values_of terms.count) no_row r.count o.rows i [] low
+            ∙ is.made i (subst T (sym (flag_is (hits e (selector_of s)) picks-marked i low)) (subst (λ (x : M.Row). T (hits e (selector_of s) x)) row h))
+            (subst (λ (a : Pass). T (replaces a)) (sym loose) tt) (given-all t complete (row_at i))
+            ∙ tuple-same t (row_at i) ∙ ap (tuple_for e (operands_of s.template) u) (sym row)
 
-    -- an update: the new row has to fit the relation's own columns
-    module _ (strict : any ≡ false) (own : n ≡ r.columns) (kinds : ks ≡ r.kinds) where
-      abbrev changed : M.Row → Bool
-      changed = changes e (selector_of s) u (columns_of r.columns r.kinds)
+  -- an update: the new row has to fit the relation's own columns
+  module _ (strict : pass ≡ Update) (own : ks ≡ columns_of r.columns r.kinds) where
+    abbrev changed : M.Row → Bool
+    changed = changes e (selector_of s) u (columns_of r.columns r.kinds)
 
-      pub changes-marked : (i : ℕ) → i < r.count → swept (row_at i) ≡ changed (values_of r.columns (row_at i))
-      unfolding changes
-      changes-marked i low =
-          ap₂ (λ (b c : Bool). plan_hits plan (row_at i) && (not b || (c || fits (columns_of n ks) (given_by terms (row_at i))))) drafts strict
-          ∙ ap₂ ◌&&◌ (hit_same p i low) (ap₂ (λ (m : ℕ) (l : List ℕ). fits (columns_of m l) (given_by terms (row_at i))) own kinds ∙ ap (fits (columns_of r.columns r.kinds)) (given-same t (row_at i)))
+    pub changes-marked : (i : ℕ) → i < r.count → swept (row_at i) ≡ changed (values_of r.columns (row_at i))
+    unfolding changes
+    changes-marked i low =
+        ap (λ (a : Pass). sweeps plan a terms ks (row_at i)) strict
+        ∙ ap₂ ◌&&◌ (hit_same p i low) (ap₂ fits own (given-same t (row_at i)))
 
-      fits-there : (i : ℕ) → i < r.count → changed (values_of r.columns (row_at i)) ≡ true → T (fits (columns_of r.columns r.kinds) (given_by terms (row_at i)))
-      unfolding changes
-      fits-there i low h =
-          subst (λ (g : List Got). T (fits (columns_of r.columns r.kinds) g)) (sym (given-same t (row_at i)))
-          (and_r (hits e (selector_of s) (values_of r.columns (row_at i))) _ (T_of _ h))
+    fits-there : (i : ℕ) → i < r.count → changed (values_of r.columns (row_at i)) ≡ true → T (fits (columns_of r.columns r.kinds) (given_by terms (row_at i)))
+    unfolding changes
+    fits-there i low h =
+        subst (λ (g : List Got). T (fits (columns_of r.columns r.kinds) g)) (sym (given-same t (row_at i)))
+        (and_r (hits e (selector_of s) (values_of r.columns (row_at i))) _ (T_of _ h))
 
-      pub replaced : firsts (values_of r.columns) no_row r.count o.rows ≡ updated e (selector_of s) u (columns_of r.columns r.kinds) (relation_of r).rows
-      replaced =
-          firsts_same (values_of r.columns) no_row (λ (row : Row). renewed e (selector_of s) u (columns_of r.columns r.kinds) (values_of r.columns row)) no_row r.count o.rows r.rows
-          (λ i low. at i low (changed (values_of r.columns (row_at i))) refl)
-          ∙ sym (map-firsts (renewed e (selector_of s) u (columns_of r.columns r.kinds)) (values_of r.columns) no_row r.count r.rows)
-        where
-          at : (i : ℕ) → i < r.count → (b : Bool) → changed (values_of r.columns (row_at i)) ≡ b →
-              values_of r.columns (get_or o.rows i no_row) ≡ renewed e (selector_of s) u (columns_of r.columns r.kinds) (values_of r.columns (row_at i))
-          at i low true h =
-              let f = fits-there i low h in
-              let long : terms.count ≡ r.columns =
-              sym (length-map (terms_in terms) (λ (x : Term). term_got x (row_at i).cells) ∙ length-firsts (λ (t : Term). t) no_component terms.count terms.components)
-              ∙ sym (fits-long (columns_of r.columns r.kinds) (given_by terms (row_at i)) f) ∙ length-firsts (λ (k : ℕ). k) 0 r.columns r.kinds in
-              ap (λ (m : ℕ). values_of m (get_or o.rows i no_row)) (sym long)
-              ∙ is.made i (subst T (sym (flag_is changed changes-marked i low ∙ h)) tt) (T_of d drafts) (fits-got (columns_of r.columns r.kinds) (given_by terms (row_at i)) f)
-              ∙ tuple-same t (row_at i)
-              ∙ sym (ap (λ (b : Bool). cond b (tuple_for e (operands_of s.template) u (values_of r.columns (row_at i))) (values_of r.columns (row_at i))) h)
-          at i low false h =
-              ap (values_of r.columns) (is.rest i (flag_is changed changes-marked i low ∙ h))
-              ∙ sym (ap (λ (b : Bool). cond b (tuple_for e (operands_of s.template) u (values_of r.columns (row_at i))) (values_of r.columns (row_at i))) h)
+    pub replaced : firsts (values_of r.columns) no_row r.count o.rows ≡ updated e (selector_of s) u (columns_of r.columns r.kinds) (relation_of r).rows
+    replaced =
+        firsts_same (values_of r.columns) no_row (λ (row : Row). renewed e (selector_of s) u (columns_of r.columns r.kinds) (values_of r.columns row)) no_row r.count o.rows r.rows
+        (λ i low. at i low (changed (values_of r.columns (row_at i))) refl)
+        ∙ sym (map-firsts (renewed e (selector_of s) u (columns_of r.columns r.kinds)) (values_of r.columns) no_row r.count r.rows)
+      where
+        at : (i : ℕ) → i < r.count → (b : Bool) → changed (values_of r.columns (row_at i)) ≡ b →
+            values_of r.columns (get_or o.rows i no_row) ≡ renewed e (selector_of s) u (columns_of r.columns r.kinds) (values_of r.columns (row_at i))
+        at i low true h =
+            let f = fits-there i low h in
+            let long : terms.count ≡ r.columns =
+            sym (length-map (terms_in terms) (λ (x : Term). term_got x (row_at i).cells) ∙ length-firsts (λ (t : Term). t) no_component terms.count terms.components)
+            ∙ sym (fits-long (columns_of r.columns r.kinds) (given_by terms (row_at i)) f) ∙ length-firsts (λ (k : ℕ). k) 0 r.columns r.kinds in
+            ap (λ (m : ℕ). values_of m (get_or o.rows i no_row)) (sym long)
+            ∙ is.made i (subst T (sym (flag_is changed changes-marked i low ∙ h)) tt) (subst (λ (a : Pass). T (replaces a)) (sym strict) tt) (fits-got (columns_of r.columns r.kinds) (given_by terms (row_at i)) f)
+            ∙ tuple-same t (row_at i)
+            ∙ sym (ap (λ (b : Bool). cond b (tuple_for e (operands_of s.template) u (values_of r.columns (row_at i))) (values_of r.columns (row_at i))) h)
+        at i low false h =
+            ap (values_of r.columns) (is.rest i (flag_is changed changes-marked i low ∙ h))
+            ∙ sym (ap (λ (b : Bool). cond b (tuple_for e (operands_of s.template) u (values_of r.columns (row_at i))) (values_of r.columns (row_at i))) h)
 
 -- ── kinds ──
 

@@ -1,64 +1,16 @@
 -- One pass over an array that marks elements and replaces them, and the elements marked: what has been done after `i` of them, a step, and the end.
 use Prim.Native.Nat.{ℕ, zero, suc, ◌+◌, ◌<◌, ◌≤◌}
-use mathlib.Core.Path.{◌≡◌, refl, sym, ap, ap₂, ◌∙◌, subst}
-use mathlib.Core.Bool.{Bool, true, false, not, ◌&&◌, ◌||◌, beq}
+use mathlib.Core.Path.{◌≡◌, refl, sym, ap, ap₂, ◌∙◌}
+use mathlib.Core.Bool.{Bool, true, false, not, beq}
 use mathlib.Core.List.{List, [], ◌∷◌, ◌++◌, map, append-nil}
 use native.Mathlib.Omega.{arith}
-use borrow.Author.Tests.{eqb-true, eqb-false, leb-true, leb-false, le-ltb}
-use lib.Dec.{T, eqb, leb}
-use lib.ListN.{length, drop, get_or, set, replicate, length-set}
-use lib.Seq.{get_or-set_same, get_or-set_other}
-use Rattle.values.specs.Lists.{agree, firsts, filter, keep, count, bit}
-use Rattle.values.proofs.Firsts.{length-firsts, firsts_cons, firsts_end, firsts-next, firsts_push}
-use Rattle.values.proofs.FlagLaws.{Flagged, flagged-starts, flagged-more}
-use Rattle.rows.proofs.Agreeing.{firsts-unlike}
+use lib.Dec.{T}
+use lib.ListN.{length, get_or, set, length-set}
+use lib.Seq.{get_or-set_other}
+use Rattle.values.specs.Lists.{firsts, filter, keep, count, bit}
+use Rattle.values.proofs.Firsts.{length-firsts, firsts-next, firsts_push}
+use Rattle.values.proofs.FlagLaws.{Flagged}
 use Rattle.row_change.specs.ChangeContracts.{marks, sift}
-
--- ── four places, tested one by one ──
-
--- `n` of them count on the left, `m` on the right
-module _ {A B C D : Type 0} (p : C → D → Bool) (f : A → C) (y : A) (g : B → D) (z : B) (n : ℕ) (k : List A) (l : List B) where
-  from : ℕ → Bool
-  from i = agree p (drop i (firsts f y n k)) (drop i (firsts g z n l))
-
-  place : (i : ℕ) {x : Bool} → x ≡ p (f (get_or k i y)) (g (get_or l i z)) → ((leb n i || x) && from (i + 1)) ≡ from i
-  unfolding from
-  place i {x} q = go (leb n i) refl
-    where
-      go : (b : Bool) → leb n i ≡ b → ((b || x) && agree p (drop (i + 1) (firsts f y n k)) (drop (i + 1) (firsts g z n l))) ≡ agree p (drop i (firsts f y n k)) (drop i (firsts g z n l))
-      go true e =
-          let h = leb-true n i e in
-          ap₂ (agree p) (firsts_end f y n k (i + 1) (omega arith)) (firsts_end g z n l (i + 1) (omega arith)) ∙ sym (ap₂ (agree p) (firsts_end f y n k i h) (firsts_end g z n l i h))
-      go false e =
-          let h = leb-false n i e in
-          ap (◌&& agree p (drop (i + 1) (firsts f y n k)) (drop (i + 1) (firsts g z n l))) q ∙ sym (ap₂ (agree p) (firsts_cons f y n k i h) (firsts_cons g z n l i h))
-
-  pub four-agree : (m : ℕ) → n ≤ 4 → {a b c d : Bool} → a ≡ p (f (get_or k 0 y)) (g (get_or l 0 z)) → b ≡ p (f (get_or k 1 y)) (g (get_or l 1 z)) →
-      c ≡ p (f (get_or k 2 y)) (g (get_or l 2 z)) → d ≡ p (f (get_or k 3 y)) (g (get_or l 3 z)) →
-      (eqb n m && (leb n 0 || a) && (leb n 1 || b) && (leb n 2 || c) && (leb n 3 || d)) ≡ agree p (firsts f y n k) (firsts g z m l)
-  unfolding from
-  four-agree m short {a} {b} {c} {d} pa pb pc pd = go (eqb n m) refl
-    where
-      nest : (a b c d : Bool) → (true && a && b && c && d) ≡ (a && (b && (c && (d && true))))
-      nest true true true true = refl
-      nest true true true false = refl
-      nest true true false d = refl
-      nest true false c d = refl
-      nest false b c d = refl
-
-      ends : from 4 ≡ true
-      ends = ap₂ (agree p) (firsts_end f y n k 4 short) (firsts_end g z n l 4 short)
-
-      go : (e : Bool) → eqb n m ≡ e → (e && (leb n 0 || a) && (leb n 1 || b) && (leb n 2 || c) && (leb n 3 || d)) ≡ agree p (firsts f y n k) (firsts g z m l)
-      go true e =
-          nest (leb n 0 || a) (leb n 1 || b) (leb n 2 || c) (leb n 3 || d)
-          ∙ ap (λ (x : Bool). (leb n 0 || a) && ((leb n 1 || b) && ((leb n 2 || c) && ((leb n 3 || d) && x)))) (sym ends)
-          ∙ ap (λ (x : Bool). (leb n 0 || a) && ((leb n 1 || b) && ((leb n 2 || c) && x))) (place 3 pd)
-          ∙ ap (λ (x : Bool). (leb n 0 || a) && ((leb n 1 || b) && x)) (place 2 pc)
-          ∙ ap (λ (x : Bool). (leb n 0 || a) && x) (place 1 pb)
-          ∙ place 0 pa
-          ∙ ap (λ (x : ℕ). agree p (firsts f y n k) (firsts g z x l)) (eqb-true n m e)
-      go false e = firsts-unlike p f y g z n m k l (eqb-false n m e)
 
 -- ── the pass ──
 

@@ -1,22 +1,22 @@
 -- What the functions on relations give back, part by part.
-use Rattle.std.specs.Prelude.{ℕ, ◌≡◌, Bool, false, not, ◌&&◌, ◌||◌, List, [], ◌∷◌, map, T, ltb, length, get_or, Option, Some, is_some}
+use Rattle.std.specs.Prelude.{ℕ, ◌≡◌, Bool, true, false, ◌&&◌, List, [], ◌∷◌, map, T, ltb, length, get_or, Option, Some, is_some}
 use Rattle.std.specs.Bool.{beq}
 use Rattle.values.specs.declared.Operand.{Operand}
 use Rattle.values.specs.Lists.{keep, firsts}
 use Rattle.std.specs.List.{list_all}
 use Rattle.values.specs.Operands.{Got}
-use Rattle.values.specs.Operands.{Vars, is_got, values_in, value_in}
+use Rattle.values.specs.Operands.{Vars, is_got, values_in}
 use Rattle.rows.specs.declared.Row.{Row}
 use Rattle.rows.specs.declared.Relation.{Relation}
 use Rattle.rows.specs.declared.Term.{Term}
 use Rattle.rows.specs.declared.Terms.{Terms}
 use Rattle.rows.specs.declared.Plan.{Plan}
 use Rattle.rows.specs.Relations as M
-use Rattle.rows.specs.Fit.{of_kind, fits}
-use Rattle.rows.specs.View.{no_row, values_of, columns_of, relation_of, Shaped}
+use Rattle.rows.specs.Fit.{fits}
+use Rattle.rows.specs.View.{no_row, values_of, relation_of, Shaped}
 use Rattle.rows.specs.Plans.{term_got, terms_in, plan_hits}
-use Rattle.row_change.specs.declared.Made.{Made}
-use Rattle.row_change.specs.declared.Renewed.{Renewed}
+use Rattle.row_change.specs.declared.Pass.{Pass}
+use Rattle.row_change.specs.declared.Pass.TheVariants.{Mark, Update, Select}
 use Rattle.row_change.specs.declared.Swept.{Swept}
 use Rattle.row_change.specs.Changes.{draft_for}
 
@@ -30,31 +30,29 @@ pub record Holds (o : Relation) (cs : M.Columns) (rs : List M.Row) : Type 0 wher
 abbrev pub given_by : Terms → Row → List Got
 given_by t r = map (λ (x : Term). term_got x r.cells) (terms_in t)
 
--- a cell made of what is given for a column of kind `k`
-pub record MadeIs (k : ℕ) (g : Got) (m : Made) : Type 0 where
-  pub fits : m.fits ≡ of_kind k g
-  pub value : m.cell ≡ value_in g
-
--- the new row of a row, and whether it fits
-pub record RenewedIs (t : Terms) (n : ℕ) (ks : List ℕ) (r : Row) (o : Renewed) : Type 0 where
-  pub fits : o.fits ≡ fits (columns_of n ks) (given_by t r)
-  pub row : T (list_all is_got (given_by t r)) → values_of t.count o.row ≡ values_in (given_by t r)
-
 -- ── one pass over the rows ──
 
--- the rows that a pass marks: those that the plan selects; with drafts `d` only where the new row fits, unless any will do
-abbrev pub sweeps : Plan → Bool → Bool → Terms → ℕ → List ℕ → Row → Bool
-sweeps p d any t n ks r = plan_hits p r && (not d || (any || fits (columns_of n ks) (given_by t r)))
+-- a marked row gives way to a new one
+abbrev pub replaces : Pass → Bool
+replaces Mark = false
+replaces Update = true
+replaces Select = true
 
--- one row: whether it is marked, and with drafts what stands at its place if it is
-pub record JudgedRow (p : Plan) (d any : Bool) (t : Terms) (n : ℕ) (ks : List ℕ) (r : Row) (o : Option Row) : Type 0 where
-  pub marked : is_some o ≡ sweeps p d any t n ks r
-  pub row : (new : Row) → o ≡ Some new → T d → T (list_all is_got (given_by t r)) → values_of t.count new ≡ values_in (given_by t r)
+-- the rows that a pass marks: those that the plan selects; an update only where the new row fits
+abbrev pub sweeps : Plan → Pass → Terms → M.Columns → Row → Bool
+sweeps p Mark t ks r = plan_hits p r
+sweeps p Update t ks r = plan_hits p r && fits ks (given_by t r)
+sweeps p Select t ks r = plan_hits p r
 
--- of the first `m` rows those that `sweeps` says are marked; with drafts a marked row gives way to the new one at its place; rows that are not marked stay
-pub record SweptIs (p : Plan) (d any : Bool) (t : Terms) (n : ℕ) (ks : List ℕ) (m : ℕ) (rs : List Row) (o : Swept) : Type 0 where
-  pub flags : (k : ℕ) → get_or o.flags k false ≡ (ltb k m && sweeps p d any t n ks (get_or rs k no_row))
-  pub made : (k : ℕ) → T (get_or o.flags k false) → T d → T (list_all is_got (given_by t (get_or rs k no_row))) →
+-- one row: whether it is marked, and what then stands at its place
+pub record JudgedRow (p : Plan) (s : Pass) (t : Terms) (ks : M.Columns) (r : Row) (o : Option Row) : Type 0 where
+  pub marked : is_some o ≡ sweeps p s t ks r
+  pub row : (new : Row) → o ≡ Some new → T (replaces s) → T (list_all is_got (given_by t r)) → values_of t.count new ≡ values_in (given_by t r)
+
+-- of the first `m` rows those that `sweeps` says are marked; one that gives way to a new one has it at its place; rows that are not marked stay
+pub record SweptIs (p : Plan) (s : Pass) (t : Terms) (ks : M.Columns) (m : ℕ) (rs : List Row) (o : Swept) : Type 0 where
+  pub flags : (k : ℕ) → get_or o.flags k false ≡ (ltb k m && sweeps p s t ks (get_or rs k no_row))
+  pub made : (k : ℕ) → T (get_or o.flags k false) → T (replaces s) → T (list_all is_got (given_by t (get_or rs k no_row))) →
       values_of t.count (get_or o.rows k no_row) ≡ values_in (given_by t (get_or rs k no_row))
   pub rest : (k : ℕ) → get_or o.flags k false ≡ false → get_or o.rows k no_row ≡ get_or rs k no_row
 

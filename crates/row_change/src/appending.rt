@@ -1,5 +1,5 @@
 // Rows appended to a relation.
-ghost use Rattle.std.specs.Prelude.{◌≡◌, [], ◌∷◌, ◌++◌, ◌+◌, ◌≤◌, ◌<◌};
+ghost use Rattle.std.specs.Prelude.{◌≡◌, [], ◌∷◌, ◌++◌, ◌+◌, ◌≤◌, ◌<◌, length, map};
 ghost use Rattle.rows.specs.View.{values_of, relation_of, Shaped};
 ghost use Rattle.row_change.specs.ChangeContracts.{Holds};
 
@@ -17,15 +17,14 @@ pub fn push(r: Relation, row: Row) -> Relation
     o
 }
 
-// All rows of another relation with the same columns, in order, at the end.
-pub fn append(r: Relation, s: Relation) -> Relation
-    requires { Shaped r × Shaped s × (s.columns ≡ r.columns) × (r.count + s.count ≤ 16) }
-    ensures { Holds result (relation_of r).columns ((relation_of r).rows ++ (relation_of s).rows) }
+// Other rows, read as the relation's columns, in order at the end.
+pub fn append(r: Relation, more: &[Row]) -> Relation
+    requires { Shaped r × (r.count + length more.now ≤ 16) }
+    ensures { Holds result (relation_of r).columns ((relation_of r).rows ++ map (values_of r.columns) more.now) }
 {
+    let end = r.count + more.len();
     let mut o = r;
-    for i in 0..s.count {
-        let next = push(o, s.rows[i]);
-        o = next;
-    }
+    o.rows[r.count..end].copy_from_slice(more);
+    o.count = end;
     o
 }

@@ -2,23 +2,16 @@
 #![tactic(auto)]
 
 use rows::Row;
-use values::Value;
 
 pub mod appending;
 pub mod sifting;
 
-// A cell made for a column, and whether there is a value of its kind. Both, since a select takes the cell even where it does not fit.
+// What a pass over rows does with those that its plan selects.
 #[derive(Clone, Copy)]
-pub struct Made {
-    pub fits: bool,
-    pub cell: Value,
-}
-
-// What t gives for a row, and whether that fits. Both, for the same reason.
-#[derive(Clone, Copy)]
-pub struct Renewed {
-    pub fits: bool,
-    pub row: Row,
+pub enum Pass {
+    Mark, // they stay as they are
+    Update, // they give way to what t gives for them; where that does not fit, they are not marked
+    Select, // they give way to what t gives for them, whether it fits or not
 }
 
 // The rows after a pass over them, and which are marked.

@@ -6,7 +6,7 @@ ghost use Rattle.row_change.specs.ChangeContracts.{Holds, marks, sift};
 
 use rows::Relation;
 
-// The rows whose mark is as wanted, in order.
+// The rows whose mark is as wanted, in order. They move to the front of their array: with no heap there is nothing to `collect` them in.
 pub fn sifted(r: Relation, flags: [bool; 16], want: bool) -> Relation
     requires { Shaped r }
     ensures { Holds result (relation_of r).columns (sift want (marks r.count flags) (relation_of r).rows) }

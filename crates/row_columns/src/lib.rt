@@ -1,9 +1,9 @@
 // The columns that a select makes: a kind for each component of t.
 #![tactic(auto)]
 
-ghost use Rattle.std.specs.Prelude.{◌≡◌, ◌<◌, get_or};
+ghost use Rattle.std.specs.Prelude.{◌≡◌, ◌≤◌, length};
 ghost use Rattle.values.specs.Operands.{bind};
-ghost use Rattle.rows.specs.View.{no_field, columns_of, operands_of, Short};
+ghost use Rattle.rows.specs.View.{columns_of, operands_of};
 ghost use Rattle.rows.specs.Plans.{origin_kind};
 ghost use Rattle.row_change.specs.Changes.{kinds_of, column_for, selected_columns};
 
@@ -12,8 +12,8 @@ use rows::{Operands, Origin};
 use values::kinds::{INT, LOC, TEXT, kind_in};
 use values::{Operand, Vars};
 
-fn origin_kind(s: Origin, kinds: [u8; 4]) -> u8
-    ensures { result ≡ origin_kind s kinds }
+fn origin_kind(s: Origin, kinds: &[u8; 4]) -> u8
+    ensures { result ≡ origin_kind s kinds.now }
 {
     match s {
         Origin::Fixed(g) => kind_in(g),
@@ -21,10 +21,9 @@ fn origin_kind(s: Origin, kinds: [u8; 4]) -> u8
     }
 }
 
-// The kind of a component of t; 0, which is no kind, of one that gives nothing.
-fn column_kind(op: Operand, template: Operands, kinds: [u8; 4], vars: Vars) -> u8
-    requires { Short template }
-    ensures { result ≡ column_for (bind (operands_of template) (columns_of template.count kinds) (kinds_of vars)) op }
+// The kind of a component of t; 0, which is no kind, of one that gives nothing: the byte that a kinds array holds there.
+fn column_kind(op: Operand, template: &[Operand], kinds: &[u8; 4], vars: Vars) -> u8
+    ensures { length template.now ≤ 4 → result ≡ column_for (bind template.now (columns_of (length template.now) kinds.now) (kinds_of vars)) op }
 {
     match op {
         Operand::ConstInt(_) => INT,
@@ -36,21 +35,9 @@ fn column_kind(op: Operand, template: Operands, kinds: [u8; 4], vars: Vars) -> u
     }
 }
 
-fn kind_for(t: Operands, i: usize, template: Operands, kinds: [u8; 4], vars: Vars) -> u8
-    requires { Short template × (i < 4) }
-    ensures { result ≡ column_for (bind (operands_of template) (columns_of template.count kinds) (kinds_of vars)) (get_or t.fields i no_field) }
+// One column for every component of t.
+pub fn selected_kinds(t: Operands, template: &[Operand], kinds: &[u8; 4], vars: Vars) -> [u8; 4]
+    ensures { length template.now ≤ 4 → columns_of t.count result ≡ selected_columns vars template.now (operands_of t) (columns_of (length template.now) kinds.now) }
 {
-    column_kind(t.fields[i], template, kinds, vars)
-}
-
-// One column for every component of t. Place by place, as in `terms_of` of row_terms.
-pub fn selected_kinds(t: Operands, template: Operands, kinds: [u8; 4], vars: Vars) -> [u8; 4]
-    requires { Short t × Short template }
-    ensures { columns_of t.count result ≡ selected_columns vars (operands_of template) (operands_of t) (columns_of template.count kinds) }
-{
-    let a = kind_for(t, 0, template, kinds, vars);
-    let b = kind_for(t, 1, template, kinds, vars);
-    let c = kind_for(t, 2, template, kinds, vars);
-    let d = kind_for(t, 3, template, kinds, vars);
-    [a, b, c, d]
+    t.fields.map(|op| column_kind(op, template, kinds, vars))
 }

@@ -1,9 +1,9 @@
 // Operands prepared for one relation: where their values come from, and what they give for a row.
 #![tactic(auto)]
 
-ghost use Rattle.std.specs.Prelude.{◌≡◌, map, ◌<◌, get_or, MatchOption};
+ghost use Rattle.std.specs.Prelude.{◌≡◌, map, MatchOption};
 ghost use Rattle.values.specs.Operands.{formal_of};
-ghost use Rattle.rows.specs.View.{operands_of, Short, no_field};
+ghost use Rattle.rows.specs.View.{operands_of};
 ghost use Rattle.rows.specs.Plans.{is_formal_of, formal_place, origin_of, term_of, got_at, origin_got, term_got, terms_in};
 
 use rows::{Operands, Origin, Row, Term, Terms};
@@ -22,44 +22,27 @@ pub fn is_formal_of(i: u8, op: Operand) -> bool
 }
 
 // The last place of T whose formal is variable i, as bindings go from first to last.
-// Four tests in place of a loop: it is asked for every operand of a pick.
-fn formal_place(i: u8, template: Operands) -> Option<u8>
-    requires { Short template }
-    ensures { MatchOption result (formal_place i 4 0 (operands_of template) ≡ 4) (λ at. (at ≡ formal_place i 4 0 (operands_of template)) × (at < 4)) }
+fn formal_place(i: u8, template: &[Operand]) -> Option<usize>
+    ensures { MatchOption result (formal_place i 4 0 template.now ≡ 4) (λ at. at ≡ formal_place i 4 0 template.now) }
 {
-    let count = template.count;
-    let [w, x, y, z] = template.fields;
-    if (3 < count) & is_formal_of(i, z) {
-        return Some(3);
-    }
-    if (2 < count) & is_formal_of(i, y) {
-        return Some(2);
-    }
-    if (1 < count) & is_formal_of(i, x) {
-        return Some(1);
-    }
-    if (0 < count) & is_formal_of(i, w) {
-        return Some(0);
-    }
-    None
+    template.iter().rposition(|op| is_formal_of(i, *op))
 }
 
-pub fn variable_origin(i: u8, template: Operands, vars: Vars) -> Origin
-    requires { Short template }
-    ensures { result ≡ origin_of vars (operands_of template) i }
+// A row has four cells, so a formal at a place past the fourth takes none.
+pub fn variable_origin(i: u8, template: &[Operand], vars: Vars) -> Origin
+    ensures { result ≡ origin_of vars template.now i }
 {
     if 16 <= i {
         return Origin::Fixed(None);
     }
     match formal_place(i, template) {
-        Some(at) => Origin::Column(at),
-        None => Origin::Fixed(held_in(vars, i)),
+        Some(at) if at < 4 => Origin::Column(at as u8),
+        _ => Origin::Fixed(held_in(vars, i)),
     }
 }
 
-pub fn term_of(op: Operand, template: Operands, vars: Vars) -> Term
-    requires { Short template }
-    ensures { result ≡ term_of vars (operands_of template) op }
+pub fn term_of(op: Operand, template: &[Operand], vars: Vars) -> Term
+    ensures { result ≡ term_of vars template.now op }
 {
     match op {
         Operand::ConstInt(i) => Term::Plain(Origin::Fixed(Some(Value::Int(i)))),
@@ -71,14 +54,14 @@ pub fn term_of(op: Operand, template: Operands, vars: Vars) -> Term
     }
 }
 
-fn got_at(row: Row, i: u8) -> Option<Value>
-    ensures { result ≡ got_at row.cells i }
+fn got_at(row: &Row, i: u8) -> Option<Value>
+    ensures { result ≡ got_at row.now.cells i }
 {
     row.cells.get(i as usize).copied()
 }
 
-pub fn origin_got(s: Origin, row: Row) -> Option<Value>
-    ensures { result ≡ origin_got s row.cells }
+pub fn origin_got(s: Origin, row: &Row) -> Option<Value>
+    ensures { result ≡ origin_got s row.now.cells }
 {
     match s {
         Origin::Fixed(g) => g,
@@ -86,8 +69,8 @@ pub fn origin_got(s: Origin, row: Row) -> Option<Value>
     }
 }
 
-pub fn term_got(t: Term, row: Row) -> Option<Value>
-    ensures { result ≡ term_got t row.cells }
+pub fn term_got(t: Term, row: &Row) -> Option<Value>
+    ensures { result ≡ term_got t row.now.cells }
 {
     match t {
         Term::Plain(s) => origin_got(s, row),
@@ -97,24 +80,12 @@ pub fn term_got(t: Term, row: Row) -> Option<Value>
 
 // ---- tuples prepared for rows that match T
 
-fn component_of(t: Operands, i: usize, template: Operands, vars: Vars) -> Term
-    requires { Short template × (i < 4) }
-    ensures { result ≡ term_of vars (operands_of template) (get_or t.fields i no_field) }
+pub fn terms_of(t: Operands, template: &[Operand], vars: Vars) -> Terms
+    ensures { (terms_in result ≡ map (term_of vars template.now) (operands_of t)) × (result.count ≡ t.count) }
 {
-    term_of(t.fields[i], template, vars)
-}
-
-// Place by place: with `map` over the array the proof did not close.
-pub fn terms_of(t: Operands, template: Operands, vars: Vars) -> Terms
-    requires { Short t × Short template }
-    ensures { (terms_in result ≡ map (term_of vars (operands_of template)) (operands_of t)) × (result.count ≡ t.count) }
-{
-    let a = component_of(t, 0, template, vars);
-    let b = component_of(t, 1, template, vars);
-    let c = component_of(t, 2, template, vars);
-    let d = component_of(t, 3, template, vars);
+    let components = t.fields.map(|op| term_of(op, template, vars));
     Terms {
-        components: [a, b, c, d],
+        components,
         count: t.count,
     }
 }

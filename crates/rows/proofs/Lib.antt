@@ -3,4 +3,5 @@ pub mod Agreeing
 pub mod FitLaws
 pub mod Fours
 pub mod Lengths
+pub mod Maps
 pub mod PlanLaws

@@ -1,7 +1,7 @@
 -- Plans and rules: what a template's formals bind, and that sources, terms and wants give for a row what operands and templates give. Assumes nothing.
-use Prim.Native.Nat.{ℕ, zero, suc, ◌+◌, ◌≤◌, ◌<◌}
+use Prim.Native.Nat.{ℕ, suc, ◌+◌, ◌≤◌, ◌<◌}
 use mathlib.Core.Path.{◌≡◌, refl, ap, ap₂, sym, ◌∙◌, subst}
-use mathlib.Core.Bool.{Bool, true, false, cond, ◌&&◌, ◌||◌}
+use mathlib.Core.Bool.{Bool, true, false, cond, ◌&&◌}
 use mathlib.Core.List.{List, [], ◌∷◌, map}
 use Rattle.std.specs.Prelude.{Option, None, Some}
 use native.Mathlib.Omega.{arith}
@@ -21,10 +21,9 @@ use Rattle.rows.specs.declared.Row.{Row}
 use Rattle.rows.specs.declared.Origin.{Origin}
 use Rattle.rows.specs.declared.Origin.TheVariants.{Fixed, Column}
 use Rattle.rows.specs.declared.Want.{Want}
-use Rattle.rows.specs.declared.Want.TheVariants.{Anything, Like}
 use Rattle.rows.specs.Matching.{matches, matches1, row_vars}
-use Rattle.rows.specs.View.{no_cell, no_field, values_of}
-use Rattle.rows.specs.Plans.{is_formal_of, formal_place, origin_of, term_of, got_at, origin_got, term_got, want_of, meets, is_anything, wants_met, no_wanted}
+use Rattle.rows.specs.View.{no_cell, values_of}
+use Rattle.rows.specs.Plans.{is_formal_of, formal_place, origin_of, term_of, got_at, origin_got, term_got, want_of, meets, wants_met, no_wanted, want_at}
 
 -- ── what formals bind ──
 
@@ -113,54 +112,18 @@ want_meets e (Var i) v = refl
 want_meets e (Plus i k) v = refl
 want_meets e (Formal i) v = refl
 
--- wants of anything are met by any row
-any-meets : (w : Want) (v : Value) → is_anything w ≡ true → meets w v ≡ true
-any-meets Anything v h = refl
-any-meets (Like g) v h = cc
-
-all_meet : (ws : List Want) (cs : List Value) → length ws ≡ length cs → ((k : ℕ) → k < length ws → is_anything (get_or ws k no_wanted) ≡ true) → wants_met ws cs ≡ true
-all_meet [] [] same any = refl
-all_meet [] (c ∷ cs) same any = absurd (omega arith)
-all_meet (w ∷ ws) [] same any = absurd (omega arith)
-all_meet (w ∷ ws) (c ∷ cs) same any = ap₂ ◌&&◌ (any-meets w c (any 0 (omega arith))) (all_meet ws cs (omega arith) (λ k h. any (suc k) (omega arith)))
-
-pub free-met : (ws : List Want) (cs : List Value) → length ws ≡ 4 → length cs ≡ 4 → {a b c d : Bool} → a ≡ is_anything (get_or ws 0 no_wanted) →
-    b ≡ is_anything (get_or ws 1 no_wanted) → c ≡ is_anything (get_or ws 2 no_wanted) → d ≡ is_anything (get_or ws 3 no_wanted) →
-    ((a && b && c && d) || wants_met ws cs) ≡ wants_met ws cs
-free-met ws cs hw hc {a} {b} {c} {d} p q r s = go a p b q c r d s
-  where
-    at : true ≡ is_anything (get_or ws 0 no_wanted) → true ≡ is_anything (get_or ws 1 no_wanted) → true ≡ is_anything (get_or ws 2 no_wanted) →
-        true ≡ is_anything (get_or ws 3 no_wanted) → (k : ℕ) → k < length ws → is_anything (get_or ws k no_wanted) ≡ true
-    at p q r s zero h = sym p
-    at p q r s (suc zero) h = sym q
-    at p q r s (suc (suc zero)) h = sym r
-    at p q r s (suc (suc (suc zero))) h = sym s
-    at p q r s (suc (suc (suc (suc k)))) h = absurd (omega arith)
-
-    go : (a : Bool) → a ≡ is_anything (get_or ws 0 no_wanted) → (b : Bool) → b ≡ is_anything (get_or ws 1 no_wanted) →
-        (c : Bool) → c ≡ is_anything (get_or ws 2 no_wanted) → (d : Bool) → d ≡ is_anything (get_or ws 3 no_wanted) →
-        ((a && b && c && d) || wants_met ws cs) ≡ wants_met ws cs
-    go true p true q true r true s = sym (all_meet ws cs (omega arith) (at p q r s))
-    go true p true q true r false s = refl
-    go true p true q false r d s = refl
-    go true p false q c r d s = refl
-    go false p b q c r d s = refl
-
 -- wants of T's places, and of anything past them, are met exactly by the rows that T matches
 module _ (e : Vars) where
-  pub wants_met_lem : (ws : List Want) (cs : List Value) (fs : List Operand) (n : ℕ) → length ws ≡ length cs → n ≤ length ws →
-      ((k : ℕ) → k < length ws → (get_or ws k no_wanted) ≡ cond (ltb k n) (want_of e (get_or fs k no_field)) Anything) →
-      wants_met ws cs ≡ matches e (firsts (λ (o : Operand). o) no_field n fs) (firsts (λ (v : Value). v) no_cell n cs)
+  pub wants_met_lem : (ws : List Want) (cs : List Value) (t : List Operand) → length ws ≡ length cs → length t ≤ length ws →
+      ((k : ℕ) → k < length ws → (get_or ws k no_wanted) ≡ want_at e t k) →
+      wants_met ws cs ≡ matches e t (firsts (λ (v : Value). v) no_cell (length t) cs)
   unfolding matches
-  wants_met_lem [] [] fs zero same short wants = refl
-  wants_met_lem [] [] fs (suc n) same short wants = absurd (omega arith)
-  wants_met_lem [] (c ∷ cs) fs n same short wants = absurd (omega arith)
-  wants_met_lem (w ∷ ws) [] fs n same short wants = absurd (omega arith)
-  wants_met_lem (w ∷ ws) (c ∷ cs) fs zero same short wants =
-      ap₂ ◌&&◌ (ap (λ x. meets x c) (wants 0 (omega arith))) (wants_met_lem ws cs [] zero (omega arith) (omega arith) (λ k h. rw leb-suc-zero (rw leb-suc-zero at (wants (suc k) (omega arith)))))
-  wants_met_lem (w ∷ ws) (c ∷ cs) [] (suc n) same short wants =
-      ap₂ ◌&&◌ (ap (λ x. meets x c) (rw (lt-ltb 0 (suc n) (omega arith)) at (wants 0 (omega arith))) ∙ want_meets e Absent c)
-      (wants_met_lem ws cs [] n (omega arith) (omega arith) (λ k h. rw leb-suc-suc at (wants (suc k) (omega arith))))
-  wants_met_lem (w ∷ ws) (c ∷ cs) (f ∷ fs) (suc n) same short wants =
-      ap₂ ◌&&◌ (ap (λ x. meets x c) (rw (lt-ltb 0 (suc n) (omega arith)) at (wants 0 (omega arith))) ∙ want_meets e f c)
-      (wants_met_lem ws cs fs n (omega arith) (omega arith) (λ k h. rw leb-suc-suc at (wants (suc k) (omega arith))))
+  wants_met_lem [] [] [] same short wants = refl
+  wants_met_lem [] [] (f ∷ t) same short wants = absurd (omega arith)
+  wants_met_lem [] (c ∷ cs) t same short wants = absurd (omega arith)
+  wants_met_lem (w ∷ ws) [] t same short wants = absurd (omega arith)
+  wants_met_lem (w ∷ ws) (c ∷ cs) [] same short wants =
+      ap₂ ◌&&◌ (ap (λ x. meets x c) (wants 0 (omega arith))) (wants_met_lem ws cs [] (omega arith) (omega arith) (λ k h. rw leb-suc-zero (rw leb-suc-zero at (wants (suc k) (omega arith)))))
+  wants_met_lem (w ∷ ws) (c ∷ cs) (f ∷ t) same short wants =
+      ap₂ ◌&&◌ (ap (λ x. meets x c) (rw (lt-ltb 0 (suc (length t)) (omega arith)) at (wants 0 (omega arith))) ∙ want_meets e f c)
+      (wants_met_lem ws cs t (omega arith) (omega arith) (λ k h. rw leb-suc-suc at (wants (suc k) (omega arith))))

@@ -1,5 +1,5 @@
 -- Selectors and tuples prepared for one relation. Only the code speaks of plans: the rules are `hits` and `draft_for`, and laws tie the two.
-use Rattle.std.specs.Prelude.{ℕ, suc, ◌<◌, ◌≡◌, Bool, true, false, cond, ◌&&◌, ◌||◌, List, [], ◌∷◌, eqb, ltb, length, get_or, Option, None, Some}
+use Rattle.std.specs.Prelude.{ℕ, suc, ◌<◌, ◌≤◌, ◌≡◌, Bool, true, false, cond, ◌&&◌, List, [], ◌∷◌, eqb, ltb, length, get_or, Option, None, Some}
 use Rattle.values.specs.declared.Value.{Value}
 use Rattle.values.specs.declared.Value.TheVariants.{Int, Text, Loc}
 use Rattle.values.specs.Operands.{Got}
@@ -16,9 +16,8 @@ use Rattle.rows.specs.declared.Terms.{Terms}
 use Rattle.rows.specs.declared.Want.{Want}
 use Rattle.rows.specs.declared.Want.TheVariants.{Anything, Like}
 use Rattle.rows.specs.declared.Plan.{Plan}
-use Rattle.rows.specs.declared.Operands.{Operands}
 use Rattle.rows.specs.Matching.{is_same, agrees, matches}
-use Rattle.rows.specs.View.{no_cell, no_field, operands_of, values_of}
+use Rattle.rows.specs.View.{no_cell, no_field, values_of}
 
 -- ── where a variable's value comes from ──
 
@@ -74,8 +73,8 @@ want_of e (Plus i k) = Like (eval e (Plus i k))
 want_of e (Formal i) = Anything
 
 -- the want at a place of T; past its end anything will do
-abbrev pub want_at : Vars → Operands → ℕ → Want
-want_at e t i = cond (ltb i t.count) (want_of e (get_or t.fields i no_field)) Anything
+abbrev pub want_at : Vars → List Operand → ℕ → Want
+want_at e t i = cond (ltb i (length t)) (want_of e (get_or t i no_field)) Anything
 
 abbrev pub meets : Want → Value → Bool
 meets Anything v = true
@@ -92,18 +91,19 @@ wants_met ws cs = agree (λ (w : Want) (c : Value). meets w c) ws cs
 abbrev pub no_wanted : Want
 no_wanted = Anything
 
--- the first `n` wants
-abbrev pub wants_in : ℕ → List Want → List Want
-wants_in n ws = firsts (λ (w : Want). w) no_wanted n ws
-
--- the wants of T: place by place, and so they are met by exactly the rows that T matches
-pub record WantsAre (e : Vars) (t : Operands) (ws : List Want) : Type 0 where
+-- the wants of T: place by place, and so those of a T of at most four places are met by exactly the rows that it matches
+pub record WantsAre (e : Vars) (t : List Operand) (ws : List Want) : Type 0 where
   pub places : (i : ℕ) → i < 4 → (get_or ws i no_wanted) ≡ want_at e t i
-  pub matching : (row : Row) → length row.cells ≡ 4 → wants_met ws row.cells ≡ matches e (operands_of t) (values_of t.count row)
+  pub matching : length t ≤ 4 → (row : Row) → length row.cells ≡ 4 → wants_met ws row.cells ≡ matches e t (values_of (length t) row)
+
+-- where there are wants, they are met
+abbrev pub as_wanted : Option (List Want) → List Value → Bool
+as_wanted None cs = true
+as_wanted (Some ws) cs = wants_met ws cs
 
 -- the row's cells are as the plan wants them
 unfoldable pub plan_hits : Plan → Row → Bool
-plan_hits p r = (p.free || wants_met p.wants r.cells) && agrees p.test (compared (term_got p.left r.cells) (term_got p.right r.cells))
+plan_hits p r = as_wanted p.wants r.cells && agrees p.test (compared (term_got p.left r.cells) (term_got p.right r.cells))
 
 -- ── tuples ──
 

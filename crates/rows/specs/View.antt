@@ -47,7 +47,7 @@ operands_of t = firsts (λ (o : Operand). o) no_field t.count t.fields
 abbrev pub selector_of : Selector → M.Selector
 selector_of s = record { template = operands_of s.template; test = s.test; left = s.left; right = s.right }
 
--- ── counts within the arrays ──
+-- ── counts within the arrays: no invariants of the structs, since nets with any bytes are handed in from outside ──
 
 pub record Shaped (r : Relation) : Type 0 where
   pub columns : r.columns ≤ 4

@@ -1,9 +1,9 @@
 // Rows and relations, templates and tuples, and what is prepared of them. All by value.
 #![tactic(auto)]
 
-ghost use Rattle.std.specs.Prelude.{◌≡◌, ◌<◌, ◌≤◌, get_or, Some};
+ghost use Rattle.std.specs.Prelude.{◌≡◌, ◌<◌, ◌≤◌, get_or, Some, map, length};
 ghost use Rattle.rows.specs.Fit.{of_kind};
-ghost use Rattle.rows.specs.View.{columns_of, draft_of};
+ghost use Rattle.rows.specs.View.{values_of, columns_of, relation_of, operands_of, draft_of};
 
 use values::kinds::kind_of;
 use values::{Operand, Value};
@@ -14,7 +14,18 @@ pub struct Row {
     pub cells: [Value; 4],
 }
 
+impl Row {
+    // The values of a row with that many columns.
+    pub fn values(&self, columns: usize) -> &[Value]
+        requires { columns ≤ 4 }
+        ensures { result.now ≡ values_of columns self.now }
+    {
+        &self.cells[..columns]
+    }
+}
+
 // The inside of a table and of a table variable: column kinds (1 Int, 2 Text, 3 Loc) and rows.
+// No invariant says that the counts are within the arrays (`Shaped`): nets with any bytes are handed in from outside, and judged before they are trusted.
 #[derive(Clone, Copy, PartialEq, Eq)]
 pub struct Relation {
     pub columns: usize,
@@ -31,13 +42,33 @@ impl Relation {
     {
         &self.kinds[..self.columns]
     }
+
+    // The rows in use.
+    #[tactic(auto, using(values::proofs::Firsts::firsts_taken))]
+    pub fn used(&self) -> &[Row]
+        requires { self.now.count ≤ 16 }
+        ensures rows { map (values_of self.now.columns) result.now ≡ (relation_of self.now).rows }
+        ensures count { length result.now ≡ self.now.count }
+    {
+        &self.rows[..self.count]
+    }
 }
 
-// A template T or a tuple t: the first `count` fields.
+// A template T or a tuple t: the first `count` fields. No invariant says that they are at most four (`Short`), for the same reason.
 #[derive(Clone, Copy, PartialEq, Eq)]
 pub struct Operands {
     pub fields: [Operand; 4],
     pub count: usize,
+}
+
+impl Operands {
+    // The fields in use.
+    pub fn used(&self) -> &[Operand]
+        requires { self.now.count ≤ 4 }
+        ensures { result.now ≡ operands_of self.now }
+    {
+        &self.fields[..self.count]
+    }
 }
 
 // The predicates 0..4.
@@ -69,14 +100,14 @@ pub enum Function {
     Largest,
 }
 
-// Where a variable's value comes from once T is known: the same for every row, or a column of the row.
+// Where a variable's value comes from once T is known: the same for every row, or a column of the row. Neither is a failure, and what is the same may be nothing: no `Option` or `Result`.
 #[derive(Clone, Copy, PartialEq, Eq)]
 pub enum Origin {
     Fixed(Option<Value>),
     Column(u8),
 }
 
-// An operand prepared for one relation: its source, plus an Int.
+// An operand prepared for one relation: its source alone, or plus an Int. Two kinds of terms, and neither stands for nothing.
 #[derive(Clone, Copy, PartialEq, Eq)]
 pub enum Term {
     Plain(Origin),
@@ -97,18 +128,17 @@ pub enum Want {
     Like(Option<Value>),
 }
 
-// What matching answers: whether the row matches, and how many of its fields were looked at.
+// What matching answers: whether the row matches, and how many of its fields were looked at. Both, since fields are looked at of either.
 #[derive(Clone, Copy, PartialEq, Eq)]
 pub struct Matched {
     pub matches: bool,
     pub looked: usize,
 }
 
-// A selector prepared for one relation: its operands read the thread's variables once, and not for each row. It is free where any row matches T.
+// A selector prepared for one relation: its operands read the thread's variables once, and not for each row. There are no wants where any row matches T.
 #[derive(Clone, Copy, PartialEq, Eq)]
 pub struct Plan {
-    pub wants: [Want; 4],
-    pub free: bool,
+    pub wants: Option<[Want; 4]>,
     pub test: Test,
     pub left: Term,
     pub right: Term,
@@ -139,9 +169,8 @@ pub fn fits_column(kind: u8, v: Value) -> bool
 }
 
 // The kind of a column, 0 past the last one.
-pub fn kind_at(columns: usize, kinds: [u8; 4], i: usize) -> u8
-    requires { i < 4 }
-    ensures { result ≡ get_or (columns_of columns kinds) i 0 }
+pub fn kind_at(kinds: &[u8], i: usize) -> u8
+    ensures { result ≡ get_or kinds.now i 0 }
 {
-    if i < columns { kinds[i] } else { 0 }
+    kinds.get(i).copied().unwrap_or(0)
 }

@@ -12,6 +12,7 @@ use value_totals::{Total, add_count, zero};
 #[derive(Clone, Copy)]
 pub struct Ran {
     pub net: Net,
+    // A plain answer, and no sign of what stands beside it: an unsound net is there too, as it came.
     pub sound: bool,
     pub added: Total,
     pub taken: Total,
@@ -23,7 +24,7 @@ pub fn begin(net: Net) -> Ran
 {
     Ran {
         net,
-        sound: sound_net(net),
+        sound: sound_net(&net),
         added: zero(),
         taken: zero(),
     }

@@ -2,7 +2,7 @@
 ghost use Rattle.step_bytes.specs.PickBytes.{picks_in};
 ghost use Rattle.runs.specs.Runs.{RunIs};
 
-use net_sound::whole::sound_parts;
+use net_sound::whole::sound_net;
 use nets::Net;
 use run_state::Ran;
 use step_left::left_by;
@@ -13,22 +13,7 @@ use steps::count_if;
 pub fn run_bytes(net: Net, picks: &[u8]) -> Ran
     ensures { RunIs net (picks_in picks.now) result }
 {
-    let aliases = net.aliases;
-    let tables = net.tables;
-    let nodes = net.nodes;
-    let threads = net.threads;
-    let saved = net.saved;
-    let sound = sound_parts(
-        aliases,
-        net.aliascount,
-        tables,
-        net.tablecount,
-        nodes,
-        net.nodecount,
-        threads,
-        net.threadcount,
-        saved,
-    );
+    let sound = sound_net(&net);
     let length = count_if(sound, picks.len());
     let mut unused = [0u8; 0];
     let g = carry_out(net, &picks[..length], &mut unused);

@@ -6,6 +6,9 @@ ghost use Rattle.nets.specs.Answers.{step_said, said_of};
 ghost use Rattle.nets.specs.View.{kind_at};
 ghost use Rattle.step_effect.specs.EffectContracts.{parts_of, StepReady, JudgedIs, is_step};
 
+use nets::kinds::{
+    AGGREGATE, CREATE, DELETE, INSERT, INSERT_TABLE, SELECT, SELECT_RELATION, UPDATE,
+};
 use nets::{Answer, Done, Node, Refusal};
 use row_change::sifting::count_marks;
 use rows::Relation;
@@ -13,6 +16,7 @@ use step_effect::Judged;
 use step_effect::saying::{checked, column_fits, insert_answer, insert_table_answer, takes};
 use values::Vars;
 
+// `held` is what check 17 asks, and found where the stack is. A `match` by kind, as a node's kind is a byte.
 pub fn says(
     node: Node,
     content: Relation,
@@ -34,24 +38,24 @@ pub fn says(
     let g = j.result;
     let long = template.count == source.columns;
     match kind {
-        16 => insert_answer(node, content, vars),
-        17 => insert_table_answer(node, content, source, vars),
-        18 => {
+        INSERT => insert_answer(node, content, vars),
+        INSERT_TABLE => insert_table_answer(node, content, source, vars),
+        DELETE => {
             let done = Ok(Done {
                 added: 0,
                 taken: count_marks(flags),
             });
             checked(long, Refusal::Misfit, checked(!held, Refusal::Held, done))
         }
-        19 | 20 => {
+        SELECT | SELECT_RELATION => {
             let bound = Ok(Done { added: 0, taken: 0 });
             checked(long, Refusal::Misfit, checked(!held, Refusal::Held, bound))
         }
-        21 => {
+        UPDATE => {
             let n = count_marks(flags);
             checked(long, Refusal::Misfit, Ok(Done { added: n, taken: n }))
         }
-        22 => {
+        AGGREGATE => {
             let fits = long & column_fits(function, node.column, source);
             let there = takes(result, g, vars);
             checked(
@@ -60,7 +64,7 @@ pub fn says(
                 checked(there, Refusal::NoResult, Ok(Done { added: 0, taken: 0 })),
             )
         }
-        23 => checked(tables < 8, Refusal::Full, Ok(Done { added: 0, taken: 0 })),
+        CREATE => checked(tables < 8, Refusal::Full, Ok(Done { added: 0, taken: 0 })),
         _ => Ok(Done {
             added: 0,
             taken: content.count,

@@ -9,7 +9,7 @@ ghost use Rattle.step_effect.specs.EffectContracts.{parts_of, puts_rows, Doing, 
 
 use crate::Judged;
 use nets::Node;
-use nets::kinds::{is_aggregate, is_select};
+use nets::kinds::{INSERT, INSERT_TABLE, UPDATE, is_aggregate, is_select};
 use row_change::appending::{append, push};
 use row_change::sifting::sifted;
 use row_fit::fit::{draft_of, row_of};
@@ -17,6 +17,7 @@ use rows::Relation;
 use value_eval::bind_to;
 use values::Vars;
 
+// A `match` by kind: a node's kind is a byte, since a net may be handed in with any.
 pub fn content_after(
     node: Node,
     content: Relation,
@@ -30,7 +31,7 @@ pub fn content_after(
     let kind = node.kind;
     let tuple = node.tuple;
     match kind {
-        21 => {
+        UPDATE => {
             let kinds = source.kinds;
             let rows = j.rows;
             Relation {
@@ -40,8 +41,8 @@ pub fn content_after(
                 count: source.count,
             }
         }
-        16 => push(content, row_of(draft_of(tuple, vars))),
-        17 => append(content, source),
+        INSERT => push(content, row_of(draft_of(tuple, vars))),
+        INSERT_TABLE => append(content, source.used()),
         _ => {
             let flags = j.flags;
             sifted(source, flags, false)

@@ -3,6 +3,7 @@ ghost use Rattle.std.specs.Prelude.{◌≡◌, []};
 ghost use Rattle.step_effect.specs.EffectContracts.{puts_rows};
 ghost use Rattle.nets.specs.View.{kind_at, table_of, node_of};
 
+use nets::kinds::{DELETE, INSERT, INSERT_TABLE, UPDATE};
 use nets::{Node, Table};
 use rows::Relation;
 use values::Site;
@@ -31,8 +32,5 @@ pub fn created(site: Site, node: Node, content: Relation) -> Table
 pub fn puts_rows(kind: u8) -> bool
     ensures { result ≡ puts_rows (kind_at kind) }
 {
-    match kind {
-        16 | 17 | 18 | 21 => true,
-        _ => false,
-    }
+    matches!(kind, INSERT | INSERT_TABLE | DELETE | UPDATE)
 }

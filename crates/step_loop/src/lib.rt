@@ -46,10 +46,10 @@ fn ready_places(template: Operands, source: Relation, visit: [bool; 16], vars: V
     requires { Shaped source × Short template × (template.count ≡ source.columns) }
     ensures { (i : ℕ) → flag_at result i ≡ (ltb i source.count && flag_at visit i && ready_at vars (operands_of template) (relation_of source) i) }
 {
-    let wants = wants_of(template, vars);
+    let wants = wants_of(template.used(), vars);
     let mut ready = [false; 16];
     for i in 0..source.count {
-        ready[i] = visit[i] & row_matches(wants, source.rows[i]);
+        ready[i] = visit[i] & row_matches(&wants, &source.rows[i]);
     }
     ready
 }
@@ -71,11 +71,11 @@ fn opened(template: Operands, source: Relation, visit: [bool; 16], vars: Vars, r
     left[at] = false;
     Opened {
         visit: left,
-        vars: bind_row(template, picked, vars),
+        vars: bind_row(template.used(), picked.values(source.columns), vars),
     }
 }
 
-// A loop's pick. Every place to visit is a row of the source.
+// A loop's pick. Every place to visit is a row of the source. `room` is what check 20 asks: only the caller knows whether of threads or of the stack.
 pub fn round(
     template: Operands,
     source: Relation,

@@ -3,7 +3,7 @@ use Prim.Native.Nat.{ℕ}
 use mathlib.Core.Path.{◌≡◌, refl, ap, ap₂, sym, subst, ◌∙◌}
 use mathlib.Core.Bool.{Bool, true, false, not, cond, ◌&&◌, ◌||◌}
 use mathlib.Core.List.{List, [], ◌++◌, append-nil}
-use Rattle.std.specs.Prelude.{Some, is_some, Err, Ok}
+use Rattle.std.specs.Prelude.{Some, is_some, Result, Err, Ok}
 use lib.Dec.{T, eqb, ltb}
 use lib.ListN.{set, length}
 use Rattle.values.proofs.Bools.{and_r, T_of}
@@ -16,7 +16,7 @@ use Rattle.nets.specs.Answers.{Answer}
 use Rattle.nets.specs.declared.Node.{Node}
 use Rattle.values.specs.Operands.{Got}
 use Rattle.step_meets.specs.declared.Decided.{Decided}
-use Rattle.step_meets.specs.Situations.{Situation, Change, moved, saved_after}
+use Rattle.step_meets.specs.Situations.{Situation, Change, moved, saved_after, answer_in, starts_thread}
 use Rattle.nets.specs.Nets as M
 use Rattle.nets.specs.Nets.{Kind, code, is_loop, has_locality, needs_table, is_create, binds_relation}
 use Rattle.nets.specs.Tables.{rows_of, columns_of, table_at}
@@ -26,7 +26,7 @@ use Rattle.nets.specs.Answers.{refusing, is_doing, step_said, answer_of, said_of
 use Rattle.nets.specs.View.{kind_at, bindings_of, thread_of}
 use Rattle.step_effect.specs.EffectContracts.{is_step, puts_rows, parts_of, Doing}
 use Rattle.step_thread.specs.ThreadContracts.{goes_on, forks_of}
-use Rattle.step_meets.specs.MeetContracts.{outcome_at, Meets, parts_in, becomes, Made, new_thread, changed, DecidedAt, DecidedIs, ChangeIs}
+use Rattle.step_meets.specs.MeetContracts.{outcome_at, Meets, parts_in, becomes, Made, new_thread, changed, Framed, DecidedAt, DecidedIs, ChangeIs}
 use Rattle.nets.proofs.AnswerLaws.{said-passed}
 use Rattle.nets.proofs.KindLaws.{at_one}
 use Rattle.step_meets.proofs.EffectTies.{puts_rows_lem, effect_answer, effect_threads}
@@ -34,8 +34,22 @@ use Rattle.step_meets.proofs.MeetTies.{met-kind, met-parts}
 
 -- ── refusals ──
 
-pub never_done : (r : Decided) (why : Refusal) → r.answer ≡ Err why → T (is_doing (said_of r.answer)) → ⊥
-never_done r why e h = subst (λ (x : Answer). T (is_doing (said_of x))) e h
+pub never_done : (r : Result Decided Refusal) (why : Refusal) → r ≡ Err why → T (is_doing (said_of (answer_in r))) → ⊥
+never_done r why e h = subst (λ (x : Result Decided Refusal). T (is_doing (said_of (answer_in x)))) e h
+
+-- a pick that is carried out is no refusal
+does-done : (r : Result Decided Refusal) (d : Decided) → r ≡ Ok d → T (is_doing (said_of (answer_in r)))
+does-done r d e = subst (λ (x : Result Decided Refusal). T (is_doing (said_of (answer_in x)))) (sym e) tt
+
+abbrev carried : Decided → Result Decided Refusal
+carried r = Ok r
+
+done-is : (r d : Decided) → carried r ≡ Ok d → r ≡ d
+done-is r d e = ap (λ (x : Result Decided Refusal). done_or r x) e
+  where
+    done_or : Decided → Result Decided Refusal → Decided
+    done_or r (Ok x) = x
+    done_or r (Err why) = r
 
 -- the change with another word for its answer, and for whether it forks
 abbrev pub changed_to : (s : Situation) (q : Code.Relation) (r : Decided) → Made s q r → Answer → Bool → Change
@@ -52,11 +66,26 @@ changed_to s q r x a b =
 
 module _ (c : Scene) where
   -- a refusal changes nothing
-  pub refused-at : (s : Situation) (q : Code.Relation) (r : Decided) (why : Refusal) → r.answer ≡ Err why → said_of (Err why) ≡ answer_of (outcome_at c) → DecidedAt s q c r
-  refused-at s q r why e a = record { answer = ap said_of e ∙ a; change = λ h. absurd (never_done r why e h); framed = λ h. absurd (never_done r why e h) }
+  pub refused-at : (s : Situation) (q : Code.Relation) (r : Result Decided Refusal) (why : Refusal) → r ≡ Err why → said_of (Err why) ≡ answer_of (outcome_at c) → DecidedAt s q c r
+  refused-at s q r why e a =
+      record {
+        answer = ap (λ (x : Result Decided Refusal). said_of (answer_in x)) e ∙ a;
+        change = λ d k. absurd (never_done r why e (does-done r d k));
+        framed = λ d k. absurd (never_done r why e (does-done r d k));
+      }
+
+  -- what is carried out changes what the step changes
+  pub done-at :
+      (s : Situation) (q : Code.Relation) (r : Decided) → said_of (Ok r.done) ≡ answer_of (outcome_at c) → ((m : Made s q r) → ChangeIs c (changed s q r m)) → Framed s r → DecidedAt s q c (Ok r)
+  done-at s q r said change framed =
+      record {
+        answer = said;
+        change = λ d k. subst (λ (x : Decided). (m : Made s q x) → ChangeIs c (changed s q x m)) (done-is r d k) change;
+        framed = λ d k. subst (Framed s) (done-is r d k) framed;
+      }
 
   pub change_as :
-      (s : Situation) (q : Code.Relation) (r : Decided) (x : Made s q r) {a : Answer} {b : Bool} → r.answer ≡ a → r.forks ≡ b →
+      (s : Situation) (q : Code.Relation) (r : Decided) (x : Made s q r) {a : Answer} {b : Bool} → Ok r.done ≡ a → starts_thread r ≡ b →
       ChangeIs c (changed_to s q r x a b) → ChangeIs c (changed s q r x)
   change_as s q r x e f = subst (λ (z : Bool × Answer). ChangeIs c (changed_to s q r x z.1 z.0)) (λ i. (sym f i, sym e i))
 
@@ -79,7 +108,7 @@ module _ (c : Scene) where
       refuses_15 fourteen e = rw (twelve, thirteen, fourteen, e)
 
 -- at every scene
-pub refused-is : (s : Situation) (q : Code.Relation) (r : Decided) (why : Refusal) → r.answer ≡ Err why → ((c : Scene) → Meets s c → said_of (Err why) ≡ answer_of (outcome_at c)) → DecidedIs s q r
+pub refused-is : (s : Situation) (q : Code.Relation) (r : Result Decided Refusal) (why : Refusal) → r ≡ Err why → ((c : Scene) → Meets s c → said_of (Err why) ≡ answer_of (outcome_at c)) → DecidedIs s q r
 refused-is s q r why e a =
     record { at = λ c m. refused-at c s q r why e (a c m); known = λ h. absurd (never_done r why e h); does = λ h. absurd (never_done r why e h) }
 
@@ -170,12 +199,12 @@ module _ (s : Situation) (c : Scene) (m : Meets s c) (step : T (is_step (kind_at
           ∙ sym (λ i. record { vars = v i; relations = x.bound i })
 
       pub act_change :
-          {a t : ℕ} → r.answer ≡ Ok (record { added = a; taken = t }) → said_of r.answer ≡ step_said (parts_in s q) s.held s.tables → r.forks ≡ false → r.vars ≡ vars_by kind (parts_in s q) →
+          said_of (Ok r.done) ≡ step_said (parts_in s q) s.held s.tables → starts_thread r ≡ false → r.vars ≡ vars_by kind (parts_in s q) →
           goes_on (becomes c.net.nodes (changed s q r x)) ≡ go_on c.net.nodes s.node.next (with_bindings (thread_of s.saved s.thread) (bindings_of r.vars x.relations)) (below (thread_of s.saved s.thread).stack) →
           ChangeIs c (changed s q r x)
-      act_change e said f v goes_on_lem =
+      act_change said f v goes_on_lem =
           record {
-            answer = act_answers r.answer said;
+            answer = act_answers (Ok r.done) said;
             content = λ h k. act_content k;
             room = λ h. absurd (subst T f h);
             threads = λ h.

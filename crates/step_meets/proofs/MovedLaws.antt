@@ -24,7 +24,7 @@ use Rattle.nets.proofs.StackView.{stack_same}
 use Rattle.step_thread.specs.ThreadContracts.{is_run, Stacked, goes_on}
 use Rattle.step_thread.proofs.ThreadLaws.{stack-past, stack_set}
 use Rattle.step_meets.specs.declared.Decided.{Decided}
-use Rattle.step_meets.specs.Situations.{Situation, over_of, moved, saved_after, Onward}
+use Rattle.step_meets.specs.Situations.{Situation, over_of, moved, saved_after, Onward, starts_thread}
 use Rattle.step_meets.specs.MeetContracts.{Framed}
 
 -- ── stacks ──
@@ -167,7 +167,7 @@ run_or-loop : {n i : ℕ} → Run n ≡ Loop i → ⊥
 run_or-loop e = subst (λ (x : Entry). T (is_run x)) e tt
 
 -- going on leaves no loop's frame there
-pub onward_framed : (s : Situation) (r : Decided) (next : ℕ) → 1 ≤ s.thread.depth → r.forks ≡ false → Onward s.thread.depth next r → Framed s r
+pub onward_framed : (s : Situation) (r : Decided) (next : ℕ) → 1 ≤ s.thread.depth → starts_thread r ≡ false → Onward s.thread.depth next r → Framed s r
 onward_framed s r next deep f o = go (eqb next 255) refl
   where
     go : (b : Bool) → eqb next 255 ≡ b → Framed s r

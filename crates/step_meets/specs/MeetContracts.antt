@@ -1,5 +1,5 @@
 -- What the functions that decide on a step require and give back, part by part.
-use Rattle.std.specs.Prelude.{ℕ, ◌+◌, ◌-◌, ◌≤◌, ◌<◌, ◌≡◌, Bool, false, cond, List, [], ◌∷◌, ◌++◌, map, T, ltb, get_or, set, length, drop, Option, None, Some, is_some}
+use Rattle.std.specs.Prelude.{ℕ, ◌+◌, ◌-◌, ◌≤◌, ◌<◌, ◌≡◌, Bool, false, cond, List, [], ◌∷◌, ◌++◌, map, T, ltb, get_or, set, length, drop, Option, None, Some, is_some, Result, Ok}
 use Rattle.std.specs.List.{list_all}
 use Rattle.rows.specs.declared.Relation as Code
 use Rattle.rows.specs.Relations.{Relation}
@@ -7,9 +7,10 @@ use Rattle.rows.specs.View.{relation_of, Shaped}
 use Rattle.row_change.specs.ChangeContracts.{Holds}
 use Rattle.nets.specs.declared.Entry.TheVariants.{Run, Loop}
 use Rattle.nets.specs.declared.Frame.{Frame}
+use Rattle.nets.specs.declared.Refusal.{Refusal}
 use Rattle.nets.specs.View.{TableVariable}
 use Rattle.step_meets.specs.declared.Decided.{Decided}
-use Rattle.step_meets.specs.Situations.{Situation, Rest, Change, over_of, moved, saved_after}
+use Rattle.step_meets.specs.Situations.{Situation, Rest, Change, over_of, moved, saved_after, answer_in, starts_thread, vars_started}
 use Rattle.nets.specs.Nets as M
 use Rattle.nets.specs.Nets.{is_loop, reads_relation, binds_relation, to_run, Outcome, refused}
 use Rattle.nets.specs.Tables.{table_at, content_of, rows_of, columns_of}
@@ -116,18 +117,18 @@ pub record Made (s : Situation) (q : Code.Relation) (r : Decided) : Type 0 where
 
 -- the new thread of a parallel round
 abbrev pub new_thread : Situation → Decided → List TableVariable → M.Thread
-new_thread s r vs = record { site = s.thread.site; bindings = bindings_of r.inner vs; stack = to_run s.node.body ∷ [] }
+new_thread s r vs = record { site = s.thread.site; bindings = bindings_of (vars_started r) vs; stack = to_run s.node.body ∷ [] }
 
 -- the change that it makes
 abbrev pub changed : (s : Situation) (q : Code.Relation) (r : Decided) → Made s q r → Change
 changed s q r m =
     record {
-      answer = r.answer;
+      answer = Ok r.done;
       content = m.content;
       thread = moved s.thread r m.above m.body m.relations;
       saved = saved_after s r;
       ends = ltb r.depth s.thread.depth;
-      forks = r.forks;
+      forks = starts_thread r;
       fork = new_thread s r m.relations;
     }
 
@@ -136,18 +137,18 @@ pub record Framed (s : Situation) (r : Decided) : Type 0 where
   -- at most a body goes above the top, at most the top is removed, and a fork removes no entry
   pub height : r.depth ≤ s.thread.depth + 1
   pub low : s.thread.depth ≤ r.depth + 1
-  pub fork : T r.forks → s.thread.depth ≤ r.depth
+  pub fork : T (starts_thread r) → s.thread.depth ≤ r.depth
   -- a loop's frame is that of the loop met, whose entry holds the bindings from its first round on
   pub loop : (i : ℕ) → s.thread.depth ≤ r.depth → r.frame.entry ≡ Loop i → (i ≡ node_in s.frame.entry) × T (is_loop (kind_at s.node.kind)) × (r.saves ≡ is_run s.frame.entry)
 
 -- what is decided, beside the rule at a scene that the situation meets
-pub record DecidedAt (s : Situation) (q : Code.Relation) (c : Scene) (r : Decided) : Type 0 where
-  pub answer : said_of r.answer ≡ answer_of (outcome_at c)
-  pub change : T (is_doing (said_of r.answer)) → (m : Made s q r) → ChangeIs c (changed s q r m)
-  pub framed : T (is_doing (said_of r.answer)) → Framed s r
+pub record DecidedAt (s : Situation) (q : Code.Relation) (c : Scene) (r : Result Decided Refusal) : Type 0 where
+  pub answer : said_of (answer_in r) ≡ answer_of (outcome_at c)
+  pub change : (d : Decided) → r ≡ Ok d → (m : Made s q d) → ChangeIs c (changed s q d m)
+  pub framed : (d : Decided) → r ≡ Ok d → Framed s d
 
-pub record DecidedIs (s : Situation) (q : Code.Relation) (r : Decided) : Type 0 where
+pub record DecidedIs (s : Situation) (q : Code.Relation) (r : Result Decided Refusal) : Type 0 where
   pub at : (c : Scene) → Meets s c → DecidedAt s q c r
   -- a done step passed check 12; one that is no loop also 16, and 20 for some number of tables
-  pub known : T (is_doing (said_of r.answer)) → Known s
-  pub does : T (is_doing (said_of r.answer)) → T (is_step (kind_at s.node.kind)) → Doing s.node s.content q s.thread.vars
+  pub known : T (is_doing (said_of (answer_in r))) → Known s
+  pub does : T (is_doing (said_of (answer_in r))) → T (is_step (kind_at s.node.kind)) → Doing s.node s.content q s.thread.vars

@@ -1,8 +1,9 @@
 -- What a pick meets and what it changes, put together from the parts that the code holds. Only the code speaks of it: the rules are in `Steps`.
-use Rattle.std.specs.Prelude.{ℕ, ◌-◌, ◌≡◌, Bool, true, false, cond, ◌&&◌, List, eqb, ltb, set, length, Option}
+use Rattle.std.specs.Prelude.{ℕ, ◌-◌, ◌≡◌, Bool, true, false, cond, ◌&&◌, List, eqb, ltb, set, length, Option, is_some, unwrap_or, Result, Err, Ok}
 use Rattle.values.specs.declared.Site.{Site}
 use Rattle.values.specs.Operands.{Got}
 use Rattle.rows.specs.declared.Relation.{Relation}
+use Rattle.nets.specs.declared.Refusal.{Refusal}
 use Rattle.nets.specs.Answers.{Answer}
 use Rattle.nets.specs.declared.Frame.{Frame}
 use Rattle.nets.specs.declared.Node.{Node}
@@ -92,6 +93,18 @@ moved t r i f vs =
 -- the top entry is that of a loop whose first round opens: it holds the bindings before the round
 abbrev pub saved_after : Situation → Decided → ℕ → M.Bindings
 saved_after s r j = cond (r.saves && eqb j (s.thread.depth - 1)) (bindings_of s.thread.vars s.thread.relations) (s.saved j)
+
+-- the answer of a decision
+abbrev pub answer_in : Result Decided Refusal → Answer
+answer_in (Err why) = Err why
+answer_in (Ok r) = Ok r.done
+
+-- whether a new thread starts, and its variables; where none does the thread's own, which nothing looks at
+abbrev pub starts_thread : Decided → Bool
+starts_thread r = is_some r.inner
+
+abbrev pub vars_started : Decided → List Got
+vars_started r = unwrap_or r.inner r.vars
 
 -- to next, or the top entry is removed
 pub record Onward (depth : ℕ) (next : ℕ) (r : Decided) : Type 0 where

@@ -15,16 +15,6 @@ pub fn site_or_any(l: Option<Site>) -> Site
     l.unwrap_or(Site(0))
 }
 
-// The place found; where none is, the first place of the array.
-pub fn place_or_first(at: usize, count: usize) -> usize
-    ensures { result ≡ cond (ltb at count) at 0 }
-{
-    if at < count {
-        return at;
-    }
-    0
-}
-
 // The place above the top of a stack; of a full one the top itself.
 pub fn over(depth: usize, top: usize) -> usize
     ensures { result ≡ cond (ltb depth 8) depth top }

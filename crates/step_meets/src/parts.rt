@@ -1,64 +1,47 @@
-// The parts of a decision: a refusal, where the thread goes on, which table variables are bound, and the rows spoken of.
-ghost use Rattle.std.specs.Prelude.{◌≡◌, false, cond, ◌&&◌, map, ℕ, ◌≤◌, length, Err, Ok, unwrap_or};
+// The parts of a decision: its answer, where the thread goes on, which table variables are bound, and the rows spoken of.
+ghost use Rattle.std.specs.Prelude.{◌≡◌, cond, ◌&&◌, map, ℕ, ◌≤◌, length, None, unwrap_or};
 ghost use Rattle.nets.specs.Nets.{reads_relation};
 ghost use Rattle.nets.specs.Steps.{is_bound_table};
 ghost use Rattle.nets.specs.View.{kind_at, variable_of};
 ghost use Rattle.step_reads.specs.ReadContracts.{flag_at};
-ghost use Rattle.step_meets.specs.Situations.{Onward};
+ghost use Rattle.step_meets.specs.Situations.{Onward, answer_in};
 
-use crate::Decided;
+use crate::{Decided, Decision};
 use nets::kinds::reads_relation;
-use nets::{Answer, Done, Frame, Refusal, TableVariable, Thread};
+use nets::{Answer, Done, Frame, TableVariable, Thread};
 use rows::Relation;
 use step_thread::run_frame;
 use values::Vars;
 
-// Refused: of the other parts none is looked at.
-pub fn refuses(r: Refusal, vars: Vars, depth: usize, frame: Frame) -> Decided
-    ensures { (result.answer ≡ Err r) × (result.forks ≡ false) }
+// The answer of a decision.
+pub fn answer_of(decision: Decision) -> Answer
+    ensures { result ≡ answer_in decision }
 {
-    Decided {
-        answer: Err(r),
-        forks: false,
+    Ok(decision?.done)
+}
+
+// Done: to next, or with 255 the entry is removed.
+pub fn onward(depth: usize, frame: Frame, next: u8, vars: Vars, done: Done) -> Decided
+    requires { 1 ≤ depth }
+    ensures { (result.done ≡ done) × (result.inner ≡ None) × (result.vars ≡ vars) × Onward depth next result }
+{
+    let stays = Decided {
+        done,
         saves: false,
         frame,
         depth,
         vars,
-        inner: vars,
-    }
-}
-
-// Done: to next, or with 255 the entry is removed.
-pub fn onward(
-    depth: usize,
-    frame: Frame,
-    next: u8,
-    vars: Vars,
-    added: usize,
-    taken: usize,
-) -> Decided
-    requires { 1 ≤ depth }
-    ensures { (result.answer ≡ Ok (record { added = added; taken = taken })) × (result.forks ≡ false) × (result.vars ≡ vars) × Onward depth next result }
-{
+        inner: None,
+    };
     if next == 255 {
         return Decided {
-            answer: Ok(Done { added, taken }),
-            forks: false,
-            saves: false,
-            frame,
             depth: depth - 1,
-            vars,
-            inner: vars,
+            ..stays
         };
     }
     Decided {
-        answer: Ok(Done { added, taken }),
-        forks: false,
-        saves: false,
         frame: run_frame(next),
-        depth,
-        vars,
-        inner: vars,
+        ..stays
     }
 }
 

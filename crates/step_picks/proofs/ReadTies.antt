@@ -47,8 +47,8 @@ abbrev pub top_entry : Net → Pick → Frame → M.Entry
 top_entry net p f = entry_of (saved_in net p.thread ((thread_in net p.thread).depth - 1)) f
 
 -- the top frame `f`, its node's number `k`, whether a loop entry holds the table variable that the node binds, what L gives and where it leads, and
--- the place and content of the table there
-pub record Read (net : Net) (p : Pick) (f : Frame) (k : ℕ) (h : Bool) (g : Got) (l : Option Site) (s : Site) (at : ℕ) (q : Code.Relation) : Type 0 where
+-- the place of the table there, whether it is one, and its content
+pub record Read (net : Net) (p : Pick) (f : Frame) (k : ℕ) (h : Bool) (g : Got) (l : Option Site) (s : Site) (at : ℕ) (b : Bool) (q : Code.Relation) : Type 0 where
   pub frame : top_entry net p f ≡ top (thread_seen net p.thread).stack
   pub number : k ≡ node_in f.entry
   pub held : T (binds_relation (kind_at (node_read net k).kind)) → h ≡ list_any (holds (nodes_of net.nodecount net.nodes) (node_read net k).bound) (thread_seen net p.thread).stack
@@ -56,13 +56,14 @@ pub record Read (net : Net) (p : Pick) (f : Frame) (k : ℕ) (h : Bool) (g : Got
   pub located : l ≡ site_of_got (aliases_of net.aliascount net.aliases) (thread_in net p.thread).site g
   pub site : s ≡ or_else no_site l
   pub place : at ≡ place_at s (node_read net k).name (tables_of net.tablecount net.tables)
+  pub found : b ≡ ltb at net.tablecount
   pub content : relation_of q ≡ content_of (cond (ltb at net.tablecount) (Some (get_or (tables_of net.tablecount net.tables) at (table_of no_table))) None)
 
 -- the situation made of it
-abbrev pub situation_in : Net → Pick → Frame → ℕ → Bool → Option Site → ℕ → Code.Relation → Situation
-situation_in net p f k h l at q =
+abbrev pub situation_in : Net → Pick → Frame → ℕ → Bool → Option Site → Bool → Code.Relation → Situation
+situation_in net p f k h l b q =
     situation (thread_in net p.thread) (saved_in net p.thread) f (node_read net k) q
-    (record { located = l; found = ltb at net.tablecount; held = h; tables = net.tablecount; threads = net.threadcount; row = p.row })
+    (record { located = l; found = b; held = h; tables = net.tablecount; threads = net.threadcount; row = p.row })
 
 -- the content of the table at a place, or none
 pub shown_content : (net : Net) (at slot : ℕ) (found : Bool) (q : Code.Relation) → slot ≡ cond (ltb at net.tablecount) at 0 → found ≡ ltb at net.tablecount →
@@ -121,7 +122,7 @@ module _ (net : Net) (p : Pick) (ok : T (sound (view net))) (there : p.thread < 
 
   -- ── all that is read ──
 
-  module _ {f : Frame} {k : ℕ} {h : Bool} {g : Got} {l : Option Site} {s : Site} {at : ℕ} {q : Code.Relation} (r : Read net p f k h g l s at q) where
+  module _ {f : Frame} {k : ℕ} {h : Bool} {g : Got} {l : Option Site} {s : Site} {at : ℕ} {b : Bool} {q : Code.Relation} (r : Read net p f k h g l s at b q) where
     pub node-read : (scene_of (view net) p).node ≡ node_of (node_read net k)
     node-read = scene_node r.frame (r.number ∙ sym (entry-node_in (saved_in net p.thread ((thread_in net p.thread).depth - 1)) f))
 
@@ -146,7 +147,7 @@ module _ (net : Net) (p : Pick) (ok : T (sound (view net))) (there : p.thread < 
         r.held (subst (λ (d : M.Node). T (binds_relation d.kind)) node-read t)
         ∙ sym (ap₂ (λ (u : M.Thread) (d : M.Node). list_any (holds (nodes_of net.nodecount net.nodes) d.bound) u.stack) (scene_thread net p ok there) node-read)
 
-    pub read_meets : Meets (situation_in net p f k h l at q) (scene_of (view net) p)
+    pub read_meets : Meets (situation_in net p f k h l b q) (scene_of (view net) p)
     unfolding scene_of view
     read_meets =
         record {
@@ -154,7 +155,7 @@ module _ (net : Net) (p : Pick) (ok : T (sound (view net))) (there : p.thread < 
           entry = scene_entry r.frame;
           node = node-read;
           located = located-read;
-          found = ap (λ (i : ℕ). ltb i net.tablecount) r.place ∙ sym (ap is_some found-read ∙ table-found s (node_read net k).name net.tablecount net.tables);
+          found = r.found ∙ ap (λ (i : ℕ). ltb i net.tablecount) r.place ∙ sym (ap is_some found-read ∙ table-found s (node_read net k).name net.tablecount net.tables);
           content =
               r.content
               ∙ ap (λ (i : ℕ). content_of (cond (ltb i net.tablecount) (Some (get_or (tables_of net.tablecount net.tables) i (table_of no_table))) None)) r.place
@@ -165,8 +166,8 @@ module _ (net : Net) (p : Pick) (ok : T (sound (view net))) (there : p.thread < 
           row = refl;
         }
 
-    pub read-fine : Fine (situation_in net p f k h l at q)
-    read-fine = situation-fine net p ok there (situation_in net p f k h l at q) read_meets
+    pub read-fine : Fine (situation_in net p f k h l b q)
+    read-fine = situation-fine net p ok there (situation_in net p f k h l b q) read_meets
 
 -- ── places that are read ──
 

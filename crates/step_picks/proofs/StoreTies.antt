@@ -100,7 +100,7 @@ net_with net ts n hs m given =
 
 module _
     (net : Net) (p : Pick) (ok : T (sound (view net))) (there : p.thread < net.threadcount)
-    {f : Frame} {k : ℕ} {h : Bool} {g : Got} {l : Option Site} {s : Site} {at : ℕ} {q : Code.Relation} (r : Read net p f k h g l s at q)
+    {f : Frame} {k : ℕ} {h : Bool} {g : Got} {l : Option Site} {s : Site} {at : ℕ} {b : Bool} {q : Code.Relation} (r : Read net p f k h g l s at b q)
     {d : Change} (is : ChangeIs (scene_of (view net) p) d) where
   module _ {a t : ℕ} (says : d.answer ≡ Ok (record { added = a; taken = t })) where
     is-doing : T (is_doing (said_of d.answer))

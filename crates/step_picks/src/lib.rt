@@ -9,7 +9,7 @@ ghost use Rattle.step_bytes.specs.PickBytes.{picks_in};
 ghost use Rattle.step_bytes.specs.AnswerBytes.{answers_put};
 ghost use Rattle.step_left.specs.Carried.{CarriedIs, reached_by};
 
-use nets::kinds::binds_relation;
+use nets::kinds::{CREATE, DROP, binds_relation};
 use nets::tables::find_table;
 use nets::{Entry, Net, Refusal, Saved, Table, TableVariable};
 use step_bytes::answers::{has_room, put_answer_at};
@@ -19,8 +19,8 @@ use step_effect::effects::{bound_after, content_after};
 use step_effect::tables::{created, puts_rows};
 use step_left::Carried;
 use step_meets::Setting;
-use step_meets::found::{over, place_or_first, shown, site_or_any};
-use step_meets::parts::{bound_tables, source_of};
+use step_meets::found::{over, shown, site_or_any};
+use step_meets::parts::{answer_of, bound_tables, source_of};
 use step_meets::sites::site_of;
 use step_rows::judged;
 use step_thread::{ends_round, forked, node_of, run_frame};
@@ -78,16 +78,16 @@ pub fn carry_out(from: Net, picks: &[u8], out: &mut [u8]) -> Carried
         let vars = thread.vars;
         let home = thread.site;
         let locality = node.locality;
-        let aliases = net.aliases;
-        let located = site_of(aliases, net.aliascount, home, eval_in(locality, vars));
+        let aliases = &net.aliases[..net.aliascount];
+        let located = site_of(aliases, home, eval_in(locality, vars));
         let site = site_or_any(located);
-        let tables = net.tables;
         let tablecount = net.tablecount;
-        let at = find_table(tables, tablecount, site, node.name);
-        let slot = place_or_first(at, tablecount);
+        let place = find_table(&net.tables[..tablecount], site, node.name);
+        let found = place.is_some();
+        // Where none is found the first place of the array: what stands there is not shown.
+        let slot = place.unwrap_or(0);
         let table = net.tables[slot];
         let inside = table.content;
-        let found = at < tablecount;
         let content = shown(found, inside);
 
         // ---- checks 12 to 20: what the pick comes to. Rows are judged before the checks, also for a pick that is then refused: it saves a done pick a branch.
@@ -104,7 +104,7 @@ pub fn carry_out(from: Net, picks: &[u8], out: &mut [u8]) -> Carried
             row: pick.row,
         };
         let bound_flags = bound_tables(thread);
-        let decided = decide(
+        let decision = decide(
             vars,
             depth,
             bound_flags,
@@ -115,13 +115,13 @@ pub fn carry_out(from: Net, picks: &[u8], out: &mut [u8]) -> Carried
             rows_judged,
             setting,
         );
-        answer = decided.answer;
+        answer = answer_of(decision);
         put_answer_at(out, room, i, answer);
-        let Ok(done) = answer else {
+        let Ok(decided) = decision else {
             continue;
         };
-        added = add_count(added, done.added);
-        taken = add_count(taken, done.taken);
+        added = add_count(added, decided.done.added);
+        taken = add_count(taken, decided.done.taken);
 
         // ---- the thread after it: its variables, its top frame with the body above it, and the table variable bound
         let vars_after = decided.vars;
@@ -137,20 +137,15 @@ pub fn carry_out(from: Net, picks: &[u8], out: &mut [u8]) -> Carried
             thread.relations[bound] = Some(content_bound);
         }
 
-        // ---- the tables: the one found gives way, a new one goes last, a removed one closes up
+        // ---- the tables: the one found gives way, a new one goes last, a removed one closes up. A `match` and no closure handed in: each arm stores in the net, which is not handed on.
         match kind {
-            23 => {
+            CREATE => {
                 net.tables[tablecount] = created(site, node, content);
                 net.tablecount = tablecount + 1;
             }
-            24 => {
-                let last = tablecount - 1;
-                for gap in at..last {
-                    let next = gap + 1;
-                    let moved = net.tables[next];
-                    net.tables[gap] = moved;
-                }
-                net.tablecount = last;
+            DROP => {
+                net.tables.copy_within(slot + 1..tablecount, slot);
+                net.tablecount = tablecount - 1;
             }
             _ => {
                 if puts_rows(kind) {
@@ -187,11 +182,8 @@ pub fn carry_out(from: Net, picks: &[u8], out: &mut [u8]) -> Carried
         // ---- the threads: one without entries is removed, and the list closes up, with what entries of its threads hold; a fork goes last
         if decided.depth == 0 {
             let last = threadcount - 1;
-            for gap in thread_place..last {
-                let next = gap + 1;
-                let moved = net.threads[next];
-                net.threads[gap] = moved;
-            }
+            net.threads
+                .copy_within(thread_place + 1..threadcount, thread_place);
             net.threadcount = last;
             let end = last * 8;
             let first = thread_place * 8;
@@ -205,8 +197,7 @@ pub fn carry_out(from: Net, picks: &[u8], out: &mut [u8]) -> Carried
             continue;
         }
         net.threads[thread_place] = thread;
-        if decided.forks {
-            let inner = decided.inner;
+        if let Some(inner) = decided.inner {
             net.threads[threadcount] = forked(thread, inner, node.body);
             net.threadcount = threadcount + 1;
             continue;

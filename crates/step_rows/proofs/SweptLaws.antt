@@ -1,9 +1,10 @@
 -- The rows judged: from what a pass over the source gave to what the step's kind wants of it. Assumes nothing.
 use Prim.Native.Nat.{ℕ, ◌≤◌}
 use mathlib.Core.Path.{◌≡◌, ap, ap₂, sym, ◌∙◌, subst}
-use mathlib.Core.Bool.{Bool, true, false, not, ◌||◌}
+use mathlib.Core.Bool.{Bool, true, false}
 use mathlib.Core.List.{List, map}
 use mathlib.Core.Logic.{◌⊎◌, inl, inr}
+use native.Mathlib.Omega.{arith}
 use lib.Dec.{T}
 use lib.ListN.{length}
 use mir.Val.{Val}
@@ -12,13 +13,19 @@ use Rattle.values.specs.Operands.{Got}
 use Rattle.values.specs.Lists.{count, firsts}
 use Rattle.rows.specs.declared.Row.{Row}
 use Rattle.rows.specs.declared.Relation as Code
+use Rattle.rows.specs.declared.Term.{Term}
 use Rattle.rows.specs.declared.Terms.{Terms}
+use Rattle.rows.specs.declared.Operands.{Operands}
+use Rattle.values.specs.declared.Operand.{Operand}
+use Rattle.values.proofs.Firsts.{length-firsts}
 use Rattle.rows.specs.declared.Plan.{Plan}
 use Rattle.rows.specs.Matching.{hits}
-use Rattle.rows.specs.View.{no_row, values_of, columns_of, relation_of, operands_of, selector_of, Ready}
+use Rattle.rows.specs.View.{no_row, no_field, values_of, columns_of, relation_of, operands_of, selector_of, Ready}
 use Rattle.rows.specs.Plans.{term_of, terms_in, plan_hits}
 use Rattle.rows.specs.contracts.Relation as R
 use Rattle.row_change.specs.declared.Swept.{Swept}
+use Rattle.row_change.specs.declared.Pass.{Pass}
+use Rattle.row_change.specs.declared.Pass.TheVariants.{Mark, Update}
 use Rattle.row_change.specs.Changes.{selected_columns}
 use Rattle.row_change.specs.Aggregates.{aggregated, column_fits}
 use Rattle.row_change.specs.ChangeContracts.{marks, sift, SweptIs}
@@ -27,6 +34,7 @@ use Rattle.row_change.proofs.SweepLaws.{sift-marked}
 use Rattle.nets.specs.declared.Node.{Node}
 use Rattle.nets.specs.Nets.{is_select, is_update}
 use Rattle.nets.specs.View.{kind_at}
+use Rattle.step_rows.specs.Passes.{pass_by}
 use Rattle.step_effect.specs.EffectContracts.{Long, hit_in, changed_in, JudgeReady, JudgedIs}
 
 never : {A : Type 0} {b : Bool} → b ≡ true → b ≡ false → A
@@ -50,21 +58,36 @@ module _ (d : Node) (q : Code.Relation) (vars : List Got) {x : Bool} (sel : x �
   pub shape-own : x ≡ false → q.columns ≤ 4 → columns ≡ q.columns → kinds ≡ q.kinds → ShapeIs d q vars columns kinds
   shape-own is short e f = record { short = rw e short; select = λ k. never k (sym sel ∙ is); own = λ k. (e, f) }
 
+-- what is read of T as a slice
+module _ (T' : Operands) {t : List Operand} (read : t ≡ operands_of T') where
+  used-long : length t ≡ T'.count
+  used-long = ap length read ∙ length-firsts (λ (o : Operand). o) no_field T'.count T'.fields
+
+  pub used-short : T'.count ≤ 4 → length t ≤ 4
+  used-short h = omega (arith, used-long)
+
+  pub kinds-made : (vars : List Got) (u : List Operand) (kinds : List ℕ) {made : List ℕ} → made ≡ selected_columns vars t u (columns_of (length t) kinds) →
+      made ≡ selected_columns vars (operands_of T') u (columns_of T'.count kinds)
+  kinds-made vars u kinds h = h ∙ ap₂ (λ l n. selected_columns vars l u (columns_of n kinds)) read used-long
+
+  pub terms-made : (vars : List Got) (u : List Operand) {made : List Term} → made ≡ map (term_of vars t) u → made ≡ map (term_of vars (operands_of T')) u
+  terms-made vars u h = h ∙ ap (λ l. map (term_of vars l) u) read
+
 -- ── which kinds are judged how ──
 
 -- a delete or an aggregate has no new rows
-plain : {b : ℕ} → (b ≡ 18) ⊎ (b ≡ 22) → not (is_select (kind_at b) || is_update (kind_at b)) ≡ true
+plain : {b : ℕ} → (b ≡ 18) ⊎ (b ≡ 22) → pass_by (is_select (kind_at b)) (is_update (kind_at b)) ≡ Mark
 unfolding kind_at
-plain (inl e) = ap (λ (i : ℕ). not (is_select (kind_at i) || is_update (kind_at i))) e
-plain (inr e) = ap (λ (i : ℕ). not (is_select (kind_at i) || is_update (kind_at i))) e
+plain (inl e) = ap (λ (i : ℕ). pass_by (is_select (kind_at i)) (is_update (kind_at i))) e
+plain (inr e) = ap (λ (i : ℕ). pass_by (is_select (kind_at i)) (is_update (kind_at i))) e
 
 update-kind : {b : ℕ} → b ≡ 21 → is_select (kind_at b) ≡ false
 unfolding kind_at
 update-kind e = ap (λ (i : ℕ). is_select (kind_at i)) e
 
-update_byte : {b : ℕ} → b ≡ 21 → is_update (kind_at b) ≡ true
+update-pass : {b : ℕ} → b ≡ 21 → pass_by (is_select (kind_at b)) (is_update (kind_at b)) ≡ Update
 unfolding kind_at
-update_byte e = ap (λ (i : ℕ). is_update (kind_at i)) e
+update-pass e = ap (λ (i : ℕ). pass_by (is_select (kind_at i)) (is_update (kind_at i))) e
 
 -- ── the rows judged ──
 
@@ -77,8 +100,8 @@ module _ (d : Node) (q : Code.Relation) (vars : List Got) (sixteen : length vars
     {columns : ℕ} {kinds : List ℕ} (shape : ShapeIs d q vars columns kinds) (plan : Plan)
     (plans : (row : Row) → length row.cells ≡ 4 → plan_hits plan row ≡ hits vars (selector_of d.selector) (values_of d.selector.template.count row))
     (terms : Terms) (made : terms_in terms ≡ map (term_of vars (operands_of d.selector.template)) (operands_of d.tuple)) (as_many : terms.count ≡ d.tuple.count)
-    {n : ℕ} (all-rows : Long d q → n ≡ q.count) {x u : Bool} (sel : x ≡ is_select (kind_at d.kind)) (upd : u ≡ is_update (kind_at d.kind)) (o : Swept)
-    (swept : SweptIs plan (x || u) x terms columns kinds n q.rows o) (g : Got)
+    {pass : Pass} (by : pass ≡ pass_by (is_select (kind_at d.kind)) (is_update (kind_at d.kind))) (o : Swept)
+    (swept : SweptIs plan pass terms (columns_of columns kinds) q.count q.rows o) (g : Got)
     (res : ResultIs d q o.flags g) where
   fine : Long d q → Ready q d.selector
   fine l = record { columns = ready.source.columns; count = ready.source.count; long = l }
@@ -89,15 +112,11 @@ module _ (d : Node) (q : Code.Relation) (vars : List Got) (sixteen : length vars
   t : Long d q → Termed q d.selector vars (operands_of d.tuple) terms
   t l = termed (fine l) vars sixteen d.tuple terms made
 
-  all-swept : Long d q → SweptIs plan (x || u) x terms columns kinds q.count q.rows o
-  all-swept l = subst (λ (m : ℕ). SweptIs plan (x || u) x terms columns kinds m q.rows o) (all-rows l) swept
-
   hit-is : (d.kind ≡ 18) ⊎ (d.kind ≡ 22) → Long d q →
       (marks q.count o.flags ≡ map (hit_in d vars) (relation_of q).rows) × (count (λ (b : Bool). b) o.flags ≡ count (hit_in d vars) (relation_of q).rows)
   hit-is k l =
-      let a = all-swept l in
-      let free : not (x || u) ≡ true = ap₂ (λ (a b : Bool). not (a || b)) sel upd ∙ plain k in
-      (marks_are (p l) (t l) a (hit_in d vars) (hits-marked (p l) (t l) a free), number_is (p l) (t l) a (hit_in d vars) (hits-marked (p l) (t l) a free))
+      let stay = by ∙ plain k in
+      (marks_are (p l) (t l) swept (hit_in d vars) (hits-marked (p l) (t l) swept stay), number_is (p l) (t l) swept (hit_in d vars) (hits-marked (p l) (t l) swept stay))
 
   pub judged-is : JudgedIs d q vars (record { columns = columns; kinds = kinds; rows = o.rows; flags = o.flags; result = g })
   judged-is =
@@ -106,19 +125,16 @@ module _ (d : Node) (q : Code.Relation) (vars : List Got) (sixteen : length vars
         hit = hit-is;
         update =
             λ k l.
-            let a = all-swept l in
             let own = shape.own (update-kind k) in
-            let strict = sel ∙ update-kind k in
-            let drafts : (x || u) ≡ true = ap₂ ◌||◌ strict (upd ∙ update_byte k) in
-            (replaced (p l) (t l) a drafts strict own.0 own.1, number_is (p l) (t l) a (changed_in d q vars) (changes-marked (p l) (t l) a drafts strict own.0 own.1));
+            let same = ap₂ columns_of own.0 own.1 in
+            let strict = by ∙ update-pass k in
+            (replaced (p l) (t l) swept strict same, number_is (p l) (t l) swept (changed_in d q vars) (changes-marked (p l) (t l) swept strict same));
         select =
             λ k l complete.
-            let a = all-swept l in
-            let loose = sel ∙ k in
-            let drafts : (x || u) ≡ true = ap (◌|| u) loose in (
+            let loose = by ∙ ap (λ b. pass_by b (is_update (kind_at d.kind))) k in (
               columns-same (fine l) vars (operands_of d.tuple) (shape.select k).1,
               ap (λ (m : ℕ). sift true (marks q.count o.flags) (firsts (values_of m) no_row q.count o.rows)) ((shape.select k).0 ∙ sym as_many)
-                  ∙ picked (p l) (t l) a drafts loose complete,
+                  ∙ picked (p l) (t l) swept loose complete,
             );
         result =
             λ k l f.

@@ -6,7 +6,7 @@ ghost use Rattle.nets.specs.Sound.{sound};
 ghost use Rattle.nets.specs.Answers.{StepIs};
 ghost use Rattle.nets.specs.View.{view};
 
-use net_sound::whole::sound_parts;
+use net_sound::whole::sound_net;
 use nets::{Net, Pick, Stepped};
 use step_left::left_by;
 use step_picks::carry_out;
@@ -38,22 +38,7 @@ pub fn step_sound(net: Net, pick: Pick) -> Stepped
 pub fn step(net: Net, pick: Pick) -> Stepped
     ensures { StepIs net pick result }
 {
-    let aliases = net.aliases;
-    let tables = net.tables;
-    let nodes = net.nodes;
-    let threads = net.threads;
-    let saved = net.saved;
-    let sure = sound_parts(
-        aliases,
-        net.aliascount,
-        tables,
-        net.tablecount,
-        nodes,
-        net.nodecount,
-        threads,
-        net.threadcount,
-        saved,
-    );
+    let sure = sound_net(&net);
     let picks = [pick.thread, pick.row];
     let length = count_if(sure, 2);
     let mut unused = [0u8; 0];

@@ -10,7 +10,7 @@ use crate::saved::saved_of;
 use crate::stacks::{nested, thread_of};
 use crate::threads::{busy_thread, eight_entries, no_thread};
 use nets::{Alias, Net, Node, Table, Thread};
-use record_bytes::text_in;
+use record_bytes::{field, text_in};
 use rows::Relation;
 use values::{Locality, Site};
 
@@ -66,7 +66,7 @@ fn eight_tables() -> [Table; 8] {
 }
 
 fn tables_of(e: [u8; 24]) -> [Table; 8] {
-    let name = text_in(&e[16..20]);
+    let name = text_in(field(&e, 16));
     if e[2] == 1 {
         return eight_tables();
     }

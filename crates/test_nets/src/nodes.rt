@@ -1,7 +1,7 @@
 // Nodes with some fields exchanged, by bytes.
 use crate::programs::{bare, four, giving, matching, placed, selecting, two};
 use nets::Node;
-use record_bytes::text_in;
+use record_bytes::{field, text_in};
 use record_nodes::nodes::{function_at, test_at};
 use record_nodes::operands::operand_in;
 use rows::{Operands, Selector, Test};
@@ -22,7 +22,7 @@ fn numbered(node: Node, e: [u8; 24]) -> Node {
         body: e[5],
         bound: e[6],
         read: e[7],
-        name: text_in(&e[16..20]),
+        name: text_in(field(&e, 16)),
         ..node
     }
 }
@@ -49,8 +49,8 @@ fn testing(node: Node, test: Test, left: Operand, right: Operand) -> Node {
 
 // 4 another kind, 5 body, table variables and name, 6 function and column, 7 columns, 8 a drop with another next, 9 L, 10 T, 11 t, 12 the predicate, 13 T'.
 pub fn node_of(node: Node, e: [u8; 24]) -> Node {
-    let a = operand_in(&e[8..16]);
-    let b = operand_in(&e[16..24]);
+    let a = operand_in(field(&e, 8));
+    let b = operand_in(field(&e, 16));
     match e[3] {
         4 => bare(e[5], 255),
         5 => numbered(node, e),

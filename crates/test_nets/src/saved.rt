@@ -3,7 +3,7 @@ use crate::contents::content_of;
 use crate::stacks::value_of;
 use crate::threads::{no_variable, no_vars};
 use nets::{Entry, Frame, Saved, TableVariable, Thread};
-use record_bytes::text_in;
+use record_bytes::{field, text_in};
 use values::Vars;
 
 fn no_saved() -> Saved {
@@ -45,7 +45,7 @@ fn vars_of(vars: Vars, e: [u8; 24]) -> Vars {
         return [None; 16];
     }
     let mut next = vars;
-    next[15] = Some(value_of(e[17], text_in(&e[20..24]), e[20]));
+    next[15] = Some(value_of(e[17], text_in(field(&e, 20)), e[20]));
     next
 }
 

@@ -4,7 +4,7 @@ ghost use Rattle.std.specs.Prelude.{◌<◌};
 use crate::contents::{content_of, turned};
 use crate::threads::{to_run, visiting};
 use nets::{Entry, Frame, TableVariable, Thread};
-use record_bytes::text_in;
+use record_bytes::{field, text_in};
 use rows::Relation;
 use values::{Locality, Site, Value};
 
@@ -42,7 +42,7 @@ fn binding(thread: Thread, at: usize, bound: bool, content: Relation) -> Thread
     t
 }
 
-// An entry to run, or a loop entry with one row still to visit, or none.
+// An entry to run, or a loop entry with one row still to visit, or none. The kind is a byte of the test's input, where any byte stands for one of the three.
 fn frame_of(kind: u8, node: u8, at: u8) -> Frame {
     match kind {
         0 => to_run(node),
@@ -97,7 +97,7 @@ pub fn nested(thread: Thread, e: [u8; 24]) -> Thread {
 pub fn thread_of(thread: Thread, e: [u8; 24]) -> Thread {
     match e[3] {
         14 => moved(thread, Site(e[4]), e[5] as usize),
-        15 => holding(thread, value_of(e[4], text_in(&e[16..20]), e[5])),
+        15 => holding(thread, value_of(e[4], text_in(field(&e, 16)), e[5])),
         16 => binding(thread, (e[4] % 2) as usize, e[16] == 1, content_of(e)),
         _ => stacked(thread, e),
     }

@@ -12,6 +12,8 @@ use call_each::trace::call_trace;
 use call_rules::tell;
 use values::Site;
 
+// Alike but for the call that each makes, since C programs call each by its own name.
+
 // The tables left after all picks, as records that load again.
 #[unsafe(no_mangle)]
 pub extern "C" fn tivgeral_tables(

@@ -33,7 +33,7 @@ fn put_digits(out: &mut [u8], n: u64) -> usize
 }
 
 // Puts the number at the end of the part and blanks before it; gives how many blanks.
-// The sign stands beside the distance from zero: no integer of 64 bits holds each `u64` with and without a minus.
+// Written out, since nothing in std puts digits at the end of a part. The sign stands beside the distance from zero: no integer of 64 bits holds each `u64` with and without a minus.
 pub fn put_number(out: &mut [u8], negative: bool, n: u64) -> usize
     requires { length (number negative n) ≤ length out.old }
     ensures { (out.new ≡ blanks result ++ number negative n) × (result + length (number negative n) ≡ length out.old) }

@@ -19,7 +19,7 @@ fn value_order(a: Value, b: Value) -> Option<Ordering>
     }
 }
 
-// The order of what two operands give.
+// The order of what two operands give. Not that of `Option`, where nothing is equal to nothing.
 pub fn got_order(a: Option<Value>, b: Option<Value>) -> Option<Ordering>
     ensures { result ≡ compared a b }
 {

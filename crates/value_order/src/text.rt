@@ -25,7 +25,7 @@ fn folded(t: u32) -> u32
     ((a * 256 + b) * 256 + c) * 256 + d
 }
 
-// Folded texts are ordered as numbers, since the first byte is the highest.
+// Folded texts are ordered as numbers, since the first byte is the highest. No `Ord`: a text is a number, which has its own order.
 pub fn text_order(t: u32, u: u32) -> Ordering
     ensures { Some result ≡ text_order t u }
 {

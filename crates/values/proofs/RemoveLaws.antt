@@ -1,14 +1,17 @@
 -- An element goes, and the array closes up in place: each later element moves one place down. Over any element type. Assumes nothing.
 use Prim.Native.Nat.{ℕ, zero, suc, ◌+◌, ◌-◌, ◌<◌, ◌≤◌}
-use mathlib.Core.Path.{◌≡◌, refl, ap, ap₂, ◌∙◌}
+use mathlib.Core.Path.{◌≡◌, refl, ap, ap₂, sym, subst, ◌∙◌}
 use mathlib.Core.Bool.{Bool, true, false}
 use mathlib.Core.List.{List, [], ◌∷◌}
 use native.Mathlib.Omega.{arith}
+use native.Mathlib.Nat.{add-zero}
 use native.Mathlib.Numerals.{add-one}
 use borrow.Author.Tests.{ltb-true, ltb-false}
 use lib.Dec.{ltb}
-use lib.ListN.{length, get_or, set, length-set}
-use lib.Seq.{get_or-set_same, get_or-set_other}
+use lib.ListN.{length, get_or, set, drop, length-set}
+use lib.Seq.{get_or-set_same, get_or-set_other, paste, paste-zero, paste-suc}
+use Rattle.std.specs.List.{copy_within}
+use Rattle.std.proofs.lemmas.List.{get_or-drop, length-drop}
 use Rattle.values.specs.Lists.{firsts, remove_at}
 use Rattle.values.proofs.Firsts.{firsts_same}
 
@@ -41,6 +44,21 @@ module _ {A : Type 0} (z : A) (old : List A) (at : ℕ) where
       here j h q false e =
           let d : j ≡ i = omega (arith, ltb-false j i e) in
           rw (d, get_or-set_same new i (get_or new (i + 1) z) z (omega (arith, inv.size)), inv.rest (i + 1) (omega arith), add-one)
+
+  -- as many moved by one copy
+  closing-pasted : (k : ℕ) → at + k < length old → Closing z old at (at + k) (paste old at (drop (at + 1) old) k)
+  closing-pasted zero h = rw (← paste-zero old at (drop (at + 1) old), add-zero at) closing_starts
+  closing-pasted (suc k) h =
+      let c = closing-pasted k (omega arith) in
+      let s = drop (at + 1) old in
+      let next : at + k + 1 ≡ at + suc k = omega arith in
+      let seen : get_or (paste old at s k) (at + k + 1) z ≡ get_or s k z =
+      c.rest (at + k + 1) (omega arith) ∙ ap (λ (j : ℕ). get_or old j z) (omega arith) ∙ sym (get_or-drop (at + 1) old k z) in
+      subst (λ (i : ℕ). Closing z old at i (paste old at s (suc k))) next
+      (subst (Closing z old at (at + k + 1)) (ap (set (paste old at s k) (at + k)) seen ∙ paste-suc old at s k z (omega arith) (omega (arith, length-drop (at + 1) old))) (closing_more c (omega arith)))
+
+  pub closing_copied : (n : ℕ) → at < n → n ≤ length old → Closing z old at (n - 1) (copy_within old (at + 1) n at)
+  closing_copied n h k = subst (λ (i : ℕ). Closing z old at i (copy_within old (at + 1) n at)) (omega arith) (closing-pasted (n - (at + 1)) (omega arith))
 
 module _ {A B : Type 0} (f : A → B) (z : A) where
   -- the part in use, once all have moved

@@ -21,7 +21,7 @@ pub fn kind_of(v: Value) -> u8
     }
 }
 
-// The kind of what is there; 0, which is no kind, of nothing.
+// The kind of what is there; of nothing 0, which is no kind: the byte that an array of kinds holds there, as in a record.
 pub fn kind_in(g: Option<Value>) -> u8
     ensures { result ≡ kind_in g }
 {

@@ -28,15 +28,19 @@ fn draft_int(d: Draft, column: usize) -> Option<i32>
     value_int((*d.slots[..d.count].get(column)?)?)
 }
 
-// None where the record is refused with 24. One of another kind is no row, whatever else is wrong with it.
+// One of another kind is no row, whatever else is wrong with it.
+fn record_int(r: &[u8; RECORD], column: usize) -> Option<i32>
+    ensures { result ≡ counted_int column r.now }
+{
+    if r[0] != ROW {
+        return None;
+    }
+    draft_int(row_read(r)?, column)
+}
+
+// None where the record is refused with 24.
 pub fn reading_in(record: &[u8], column: usize) -> Option<i32>
     ensures { result ≡ counted_int column «record».now }
 {
-    if record.len() != RECORD {
-        return None;
-    }
-    if record[0] != ROW {
-        return None;
-    }
-    draft_int(row_read(record)?, column)
+    record_int(record.as_array()?, column)
 }

@@ -1,10 +1,11 @@
 -- A state's bytes put: four adjacent parts.
-use Prim.Native.Nat.{ℕ, ◌-◌, ◌*◌, ◌≤◌}
+use Prim.Native.Nat.{ℕ, ◌-◌, ◌*◌, ◌/◌, ◌^◌, ◌≤◌}
 use native.Mathlib.Omega.{arith}
 use mathlib.Core.Path.{◌≡◌, refl, ap, ◌∙◌}
 use mathlib.Core.List.{List, [], ◌∷◌, ◌++◌, map, append-nil, append_assoc}
 use lib.IntN.{ℤ, pos}
 use lib.ListN.{length, take, drop, replicate, length-take, length-append, length-replicate, drop_of_length-le}
+use Rattle.std.specs.Int.{w64, to_le_bytes}
 use borrow.Rule.Slice.PartMut.{put_mid}
 use Rattle.value_bytes.specs.Bytes.{end_to_end, eight_bytes}
 use Rattle.value_bytes.proofs.Stores.{part-written}
@@ -18,6 +19,15 @@ use Rattle.window.proofs.IntLaws.{firsts-take}
 eight-length : (n : ℕ) → length (eight_bytes n) ≡ 8
 unfolding eight_bytes
 eight-length n = refl
+
+-- as std has them
+pub same_bytes : (n : ℕ) → to_le_bytes w64 n ≡ eight_bytes n
+unfolding eight_bytes
+same_bytes n =
+    let e : n / 2 ^ 32 / 2 ^ 8 ≡ n / 256 ^ 5 = omega arith in
+    let f : n / 2 ^ 32 / 2 ^ 16 ≡ n / 256 ^ 6 = omega arith in
+    let g : n / 2 ^ 32 / 2 ^ 24 ≡ n / 256 ^ 7 = omega arith in
+    rw (e, f, g) refl
 
 -- the Ints in use, and zeros behind them
 abbrev int_part : List ℤ → List ℕ

@@ -5,7 +5,7 @@ ghost use Rattle.window_rules.specs.WindowBytes.{eight_in, rows_in, window_in, i
 ghost use Rattle.window.specs.WindowCalls.{ints_of, window_of};
 
 use crate::{INT, INTS, STATE};
-use record_bytes::{int_in, zeros};
+use record_bytes::{field, int_in, zeros};
 use window::{Window, width_ok};
 
 fn number_in(p: &[u8]) -> usize
@@ -22,7 +22,7 @@ fn ints_in(p: &[u8]) -> [i32; 16]
 {
     let mut ints = [0; 16];
     for i in 0..16 {
-        ints[i] = int_in(&p[i * INT..i * INT + INT]);
+        ints[i] = int_in(field(p, i * INT));
     }
     ints
 }

@@ -1,20 +1,47 @@
 -- The row records of the first tables of a net: how long they are, and one table more.
 use Prim.Native.Nat.{ℕ, zero, suc, ◌+◌, ◌-◌, ◌*◌, ◌<◌, ◌≤◌}
-use mathlib.Core.Path.{◌≡◌, refl, ap, subst, ◌∙◌}
+use mathlib.Core.Path.{◌≡◌, refl, sym, ap, subst, ◌∙◌}
 use mathlib.Core.List.{List, [], ◌∷◌, ◌++◌, map, append-nil, append_assoc}
 use native.Mathlib.Omega.{arith}
-use lib.ListN.{length, get_or, length-append}
-use Rattle.values.proofs.Firsts.{firsts-next, map-firsts}
+use lib.Dec.{T}
+use lib.ListN.{length, get_or, take, length-append, length-take}
+use Rattle.std.specs.List.{list_all}
+use Rattle.values.proofs.Firsts.{firsts-next, map-firsts, firsts_taken}
 use Rattle.rows.specs.declared.Row.{Row}
 use Rattle.rows.specs.View.{Shaped, no_row, values_of}
 use Rattle.nets.specs.declared.Table.{Table}
 use Rattle.nets.specs.Nets as M
-use Rattle.nets.specs.View.{no_table, table_of, tables_of}
+use Rattle.nets.specs.declared.Net.{Net}
+use Rattle.nets.specs.Sound.{table_ok, sound}
+use Rattle.nets.specs.View.{no_table, table_of, tables_of, view}
+use Rattle.nets.proofs.ShapeLaws.{shaped-at, tables_of_lem, few-tables, tables-ok}
 use Rattle.record_bytes.specs.Encoding.{table_bytes, row_bytes}
 use Rattle.value_bytes.specs.Bytes.{end_to_end}
 use Rattle.value_bytes.proofs.Stores.{ends-append, ends-length}
 use Rattle.files.specs.Writing.{rows_bytes, all_rows, written}
 use Rattle.write_fields.proofs.WriteLaws.{row-length, table-length}
+
+-- all tables of a list
+pub tables-all : (ts : List Table) → tables_of (length ts) ts ≡ map table_of ts
+tables-all [] = refl
+tables-all (t ∷ ts) = ap (table_of t ∷◌) (tables-all ts)
+
+pub shaped-in : (ts : List Table) (i : ℕ) → i < length ts → T (list_all table_ok (map table_of ts)) → Shaped (get_or ts i no_table).content
+shaped-in ts i h ok = shaped-at ts (length ts) i h (subst (λ (l : List M.Table). T (list_all table_ok l)) (sym (tables-all ts)) ok)
+
+-- those of a net that are in use
+module _ (net : Net) (l : length net.tables ≡ 8) (ok : T (sound (view net))) where
+  pub tables-in-use : tables_of net.tablecount net.tables ≡ map table_of (take net.tablecount net.tables)
+  tables-in-use = firsts_taken table_of no_table net.tablecount net.tables (omega (arith, few-tables net ok, l))
+
+  pub tables-taken : (view net).tables ≡ map table_of (take net.tablecount net.tables)
+  tables-taken = tables_of_lem net ∙ tables-in-use
+
+  pub tables-few : length (take net.tablecount net.tables) ≤ 8
+  tables-few = rw (length-take, l) (omega (arith, few-tables net ok))
+
+  pub tables-ranged : T (list_all table_ok (map table_of (take net.tablecount net.tables)))
+  tables-ranged = subst (λ (ts : List M.Table). T (list_all table_ok ts)) tables-in-use (tables-ok net ok)
 
 -- ── rows ──
 

@@ -14,8 +14,8 @@ pub mod tables;
 pub fn write(net: Net, out: &mut [u8]) -> Result<usize, NotWritten>
     ensures { WriteIs net out.old out.new result }
 {
-    if !sound_net(net) {
+    if !sound_net(&net) {
         return Err(NotWritten::Unsound);
     }
-    write_tables(out, net.tables, net.tablecount)
+    write_tables(out, &net.tables[..net.tablecount])
 }

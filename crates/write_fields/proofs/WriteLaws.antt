@@ -1,9 +1,9 @@
 -- How long each written piece is, and records made of adjacent parts.
-use Prim.Native.Nat.{ℕ, ◌-◌, ◌*◌, ◌≤◌}
-use mathlib.Core.Path.{◌≡◌, refl, ap, ◌∙◌}
-use mathlib.Core.List.{List, ◌++◌}
+use Prim.Native.Nat.{ℕ, zero, suc, min, ◌-◌, ◌*◌, ◌<◌, ◌≤◌}
+use mathlib.Core.Path.{◌≡◌, refl}
+use mathlib.Core.List.{List, [], ◌∷◌, ◌++◌}
 use native.Mathlib.Omega.{arith}
-use lib.ListN.{length, drop, replicate, length-append, length-replicate}
+use lib.ListN.{length, get_or, take, replicate, length-append, length-replicate}
 use borrow.Rule.Slice.PartMut.{put_mid}
 use Rattle.values.specs.declared.Site.{Site}
 use Rattle.values.specs.declared.Value.{Value}
@@ -11,15 +11,11 @@ use Rattle.values.specs.declared.Value.TheVariants.{Int, Text, Loc}
 use Rattle.values.specs.Lists.{firsts}
 use Rattle.values.proofs.Firsts.{length-firsts, map-firsts}
 use Rattle.rows.specs.declared.Row as Code
-use Rattle.rows.specs.View.{no_cell, values_of}
+use Rattle.rows.specs.View.{no_cell, values_of, columns_of}
 use Rattle.nets.specs.Nets.{Table}
 use Rattle.record_bytes.specs.Encoding.{operand_bytes, tuple_bytes, start_bytes, column_bytes, table_bytes, row_bytes}
 use Rattle.value_bytes.specs.Bytes.{end_to_end}
-use Rattle.value_bytes.proofs.Stores.{zero-parts, ends-append, ends-length, three-parts, four-parts}
-
--- what std says of a part filled with zeros, by the part's length
-pub zeros : (k : ℕ) (old ys : List ℕ) → length old ≡ k → ys ≡ replicate (length old) 0 → ys ≡ replicate k 0
-zeros k old ys l e = rw (e, l)
+use Rattle.value_bytes.proofs.Stores.{zero-parts, ends-append, ends-length}
 
 abbrev pub cell_bytes : Value → List ℕ
 cell_bytes c = operand_bytes c
@@ -48,18 +44,37 @@ module _ (n : ℕ) (r : Code.Row) (h : n ≤ 4) where
   unfolding row_bytes
   row-length s m = simp (length-append, tuple-length)
 
-  -- the parts of a row record
-  pub row-parts : (s : Site) (m : ℕ) (o p a t b : List ℕ) → length o ≡ 104 → p ≡ start_bytes 3 s m → a ≡ replicate 48 0 → t ≡ tuple_bytes (values_of n r) → b ≡ replicate 16 0 →
-      put_mid 88 16 (put_mid 56 32 (put_mid 8 48 (p ++ drop 8 o) a) t) b ≡ row_bytes s m (values_of n r)
+  -- the parts of a row record, the others zero
+  pub row-parts : (s : Site) (m : ℕ) (p t : List ℕ) → p ≡ start_bytes 3 s m → t ≡ tuple_bytes (values_of n r) → put_mid 56 32 (p ++ replicate 96 0) t ≡ row_bytes s m (values_of n r)
   unfolding row_bytes
-  row-parts s m o p a t b l hp ha ht hb = four-parts o l p a t b (ap length hp) (ap length ha) (ap length ht ∙ tuple-length) (ap length hb) ∙ rw (hp, ha, ht, hb)
+  row-parts s m p t hp ht = rw (hp, ht) refl
 
 pub table-length : (t : Table) → length (table_bytes t) ≡ 104
 unfolding table_bytes
 table-length t = refl
 
--- the parts of a table record
-pub table-parts : (t : Table) (o p k z : List ℕ) → length o ≡ 104 → p ≡ start_bytes 2 t.site t.name → k ≡ column_bytes t.content.columns → z ≡ replicate 92 0 →
-    put_mid 12 92 (put_mid 8 4 (p ++ drop 8 o) k) z ≡ table_bytes t
+-- of the kinds in use four have bytes
+pub columns_taken : (ks : List ℕ) (n m : ℕ) → m ≡ min n 4 → column_bytes (take m ks) ≡ column_bytes (columns_of n ks)
+columns_taken ks n m e =
+    let same : (i : ℕ) → i < 4 → get_or (take m ks) i 0 ≡ get_or (columns_of n ks) i 0 = λ i h. go ks m n i (omega (arith, e)) (λ q. omega (arith, e, q, h)) in
+    rw (same 0 (omega arith), same 1 (omega arith), same 2 (omega arith), same 3 (omega arith)) refl
+  where
+    none : (k i : ℕ) → 0 ≡ get_or (columns_of k []) i 0
+    none zero i = refl
+    none (suc k) zero = refl
+    none (suc k) (suc i) = none k i
+
+    go : (l : List ℕ) (j k i : ℕ) → j ≤ k → (i < k → i < j) → get_or (take j l) i 0 ≡ get_or (columns_of k l) i 0
+    go [] zero k i b h = none k i
+    go [] (suc j) k i b h = none k i
+    go (a ∷ l) zero zero i b h = refl
+    go (a ∷ l) zero (suc k) zero b h = absurd (omega (arith, h (omega arith)))
+    go (a ∷ l) zero (suc k) (suc i) b h = go l zero k i (omega arith) (λ q. omega (arith, h (omega (arith, q))))
+    go (a ∷ l) (suc j) zero i b h = absurd (omega arith)
+    go (a ∷ l) (suc j) (suc k) zero b h = refl
+    go (a ∷ l) (suc j) (suc k) (suc i) b h = go l j k i (omega arith) (λ q. omega (arith, h (omega (arith, q))))
+
+-- the parts of a table record, the others zero
+pub table-parts : (t : Table) (p k : List ℕ) → p ≡ start_bytes 2 t.site t.name → k ≡ column_bytes t.content.columns → put_mid 8 4 (p ++ replicate 96 0) k ≡ table_bytes t
 unfolding table_bytes
-table-parts t o p k z l hp hk hz = three-parts o l p k z (ap length hp) (ap length hk) (ap length hz) ∙ rw (hp, hk, hz)
+table-parts t p k hp hk = rw (hp, hk) refl

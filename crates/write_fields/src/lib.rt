@@ -1,13 +1,17 @@
 // Fields of table and row records, each written into its own bytes.
 #![tactic(auto)]
 
-ghost use Rattle.std.specs.Prelude.{◌≡◌, ◌≤◌, length};
-ghost use Rattle.rows.specs.View.{values_of, columns_of};
+ghost use Rattle.std.specs.Prelude.{◌≡◌, ◌≤◌};
+ghost use Rattle.rows.specs.View.{values_of};
 ghost use Rattle.record_bytes.specs.Encoding.{operand_bytes, tuple_bytes, start_bytes, column_bytes};
 
 use record_bytes::OPERAND;
-use rows::{Row, kind_at};
+use rows::Row;
+use std::array;
 use values::{Site, Value};
+
+// How long a tuple is.
+const TUPLE_LENGTH: usize = 32;
 
 // ---- operands
 
@@ -28,36 +32,31 @@ fn operand_of(v: Value) -> [u8; 8]
     }
 }
 
-// A row as a tuple of four operands.
-pub fn put_tuple(out: &mut [u8], row: Row, columns: usize)
-    requires { (length out.old ≡ 32) × (columns ≤ 4) }
-    ensures { out.new ≡ tuple_bytes (values_of columns row) }
+// A row as a tuple of four operands, those that are missing zero.
+pub fn tuple_bytes(row: Row, columns: usize) -> [u8; TUPLE_LENGTH]
+    requires { columns ≤ 4 }
+    ensures { result ≡ tuple_bytes (values_of columns row) }
 {
-    out.fill(0);
+    let mut out = [0; TUPLE_LENGTH];
     for i in 0..columns {
         out[i * OPERAND..i * OPERAND + OPERAND].copy_from_slice(&operand_of(row.cells[i]));
     }
+    out
 }
 
 // ---- records
 
 // The first eight bytes of a record: kind, site, two zeros, name.
-pub fn put_start(out: &mut [u8], kind: u8, site: Site, name: u32)
-    requires { length out.old ≡ 8 }
-    ensures { out.new ≡ start_bytes kind site name }
+pub fn start_bytes(kind: u8, site: Site, name: u32) -> [u8; 8]
+    ensures { result ≡ start_bytes kind site name }
 {
     let [a, b, c, d] = name.to_be_bytes();
-    out.copy_from_slice(&[kind, site.0, 0, 0, a, b, c, d]);
+    [kind, site.0, 0, 0, a, b, c, d]
 }
 
-pub fn put_columns(out: &mut [u8], columns: usize, kinds: [u8; 4])
-    requires { length out.old ≡ 4 }
-    ensures { out.new ≡ column_bytes (columns_of columns kinds) }
+// The kinds of four columns, 0 for those that are missing.
+pub fn column_bytes(kinds: &[u8]) -> [u8; 4]
+    ensures { result ≡ column_bytes kinds.now }
 {
-    out.copy_from_slice(&[
-        kind_at(columns, kinds, 0),
-        kind_at(columns, kinds, 1),
-        kind_at(columns, kinds, 2),
-        kind_at(columns, kinds, 3),
-    ]);
+    array::from_fn(|i| kinds.get(i).copied().unwrap_or(0))
 }

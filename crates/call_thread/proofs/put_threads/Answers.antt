@@ -3,7 +3,7 @@ use Prim.Native.Nat.{ℕ, ◌+◌, ◌-◌, ◌*◌, ◌≤◌}
 use mathlib.Core.Path.{◌≡◌, refl, ◌∙◌}
 use mathlib.Core.List.{List, ◌++◌, map}
 use native.Mathlib.Omega.{arith}
-use lib.ListN.{length, drop, length-take, length-drop}
+use lib.ListN.{length, drop}
 use borrow.Rule.Slice.PartMut.{put_mid}
 use Rattle.nets.specs.declared.Saved.{Saved}
 use Rattle.nets.specs.declared.Thread.{Thread}
@@ -20,20 +20,19 @@ one_more : (ts : List Thread) (i : ℕ) (o out ys : List ℕ) → out ≡ along 
     put_mid (i * 24) (i * 24 + 24 - i * 24) out ys ≡ along (bytes_at ts) (i + 1) ++ drop ((i + 1) * 24) o
 one_more ts i o out ys e q = along-more (bytes_at ts) 24 (bytes-length ts) i o out ys e q
 
-ended : (ts : List Thread) (n i : ℕ) (o out : List ℕ) → i ≤ n → n ≤ i → length o ≡ n * 24 → out ≡ along (bytes_at ts) i ++ drop (i * 24) o →
-    (ds : List M.Node) (saved : List Saved) → out ≡ end_to_end (map thread_bytes (threads_of ds saved n ts))
-ended ts n i o out a b l e ds saved = along-all (bytes_at ts) 24 n i o out a b l e ∙ threads_are ds saved ts n
+ended : (ts : List Thread) (i : ℕ) (o out : List ℕ) → i ≤ length ts → length ts ≤ i → length o ≡ length ts * 24 → out ≡ along (bytes_at ts) i ++ drop (i * 24) o →
+    (ds : List M.Node) (saved : List Saved) → out ≡ end_to_end (map thread_bytes (threads_of ds saved (length ts) ts))
+ended ts i o out a b l e ds saved = along-all (bytes_at ts) 24 (length ts) i o out a b l e ∙ threads_are ds saved ts (length ts)
 
 pub loop-i-init : goal.loop-i-init
 unfolding along
 loop-i-init c = record { within = omega arith; full = omega arith; filled = refl }
 
-pub put_thread-requires : goal.put_thread-requires
-put_thread-requires c =
-    (simp (length-take, length-drop) (omega arith), c.requires.1 c.loop-i.i (omega arith))
+pub thread_bytes-requires : goal.thread_bytes-requires
+thread_bytes-requires c = c.requires.1 c.loop-i.i (omega arith)
 
 pub loop-i-preserved : goal.loop-i-preserved
-loop-i-preserved c = record { within = omega arith; full = search kept-length; filled = search one_more }
+loop-i-preserved c = record { within = omega arith; full = search kept-length; filled = one_more c.args.threads.now c.loop-i.i _ _ _ c.loop-i.invariant.filled (c.copy_from_slice.ensures.after ∙ c.thread_bytes.ensures) }
 
 pub returns : goal.returns
 returns c = search ended

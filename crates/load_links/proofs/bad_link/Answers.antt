@@ -17,7 +17,7 @@ below g m j i e h = go (eqb g 4) e
 pub returns-then-not-link_ok : goal.returns-then-not-link_ok
 returns-then-not-link_ok c =
     let l = c.loop-i in
-    link_found c.args.file.now c.requires.1 c.args.n l.i l.j (omega arith) _ l.invariant.2 _ c.record_at-r.ensures.0 _ c.link_ok.ensures c.if-not-link_ok.true
+    link_found c.args.file.now c.requires.1 c.args.n l.i l.j (omega arith) _ l.invariant.2 _ c.record_at-r.ensures _ c.link_ok.ensures c.if-not-link_ok.true
 
 pub loop-i-preserved : goal.loop-i-preserved
 loop-i-preserved c =
@@ -26,7 +26,7 @@ loop-i-preserved c =
     let l = c.loop-i in (
       omega arith,
       search below,
-      link_passed c.args.file.now c.requires.1 c.args.n l.i l.j (omega arith) _ l.invariant.2 _ c.record_at-r.ensures.0 _ c.link_ok.ensures g.result _
+      link_passed c.args.file.now c.requires.1 c.args.n l.i l.j (omega arith) _ l.invariant.2 _ c.record_at-r.ensures _ c.link_ok.ensures g.result _
           c.if-not-link_ok.false g.ensures n.ensures,
     )
 

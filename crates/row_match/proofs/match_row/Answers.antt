@@ -1,8 +1,10 @@
--- The loop over what T and the row both have.
+-- The fields that T and the row both have are looked at.
+use Rattle.std.proofs.Common.{rules}
 use Rattle.row_match.proofs.WantLaws.{matched_is}
 use Rattle.row_match.proofs.match_row.Goals as goal
 
 pub returns : goal.returns
 returns c =
-    let m = c.look_at_fields-m.ensures in
-    matched_is c.args.vars c.args.template _ c.args.row c.requires.0.count c.wants_of-wants.ensures c.args.columns _ c.min.ensures m.0 m.1
+    let a = c.args in
+    λ short.
+    matched_is a.vars a.template.now c.wants_of-wants.result a.row.now (search rules) short c.wants_of-wants.ensures _ c.min.ensures c.look_at_fields.ensures.0 c.look_at_fields.ensures.1

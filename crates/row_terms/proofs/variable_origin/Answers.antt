@@ -11,6 +11,6 @@ pub returns-in-Some : goal.returns-in-Some
 unfolding origin_of
 returns-in-Some c = grind arith
 
-pub returns-in-None : goal.returns-in-None
+pub returns-in_default : goal.returns-in_default
 unfolding origin_of
-returns-in-None c = grind arith
+returns-in_default c = grind arith

@@ -1,5 +1,5 @@
 -- `step_decide::decide` meets its contract: checks 12 to 15 in their order, then the loop's round or the step. Assumes nothing.
-use mathlib.Core.Path.{◌≡◌, ap, sym, ◌∙◌}
+use mathlib.Core.Path.{◌≡◌, refl, ap, sym, ◌∙◌}
 use mathlib.Core.Bool.{Bool, true, not, ◌&&◌}
 use mathlib.Core.List.{List}
 use Rattle.values.proofs.Bools.{T_of}
@@ -63,30 +63,29 @@ reads_ok-requires c =
 
 pub returns-then-not-reads_ok : goal.returns-then-not-reads_ok
 returns-then-not-reads_ok c w fine flagged source =
-    let r = c.before.before in
-    let s = start r in
-    refused-is (meant s w) s.args.source c.refuses.result Unbound c.refuses.ensures.0
+    let s = start (goal.at.returns-then-not-reads_ok c).After-reads_ok in
+    refused-is (meant s w) s.args.source _ Unbound refl
     (λ n m. refuses_12 n (sym (flagged_12 (meant s w) s.args.bound flagged.bound c.reads_ok.ensures n m) ∙ c.if-not-reads_ok.true))
 
 pub returns-then-has_locality-is_none : goal.returns-then-has_locality-is_none
 returns-then-has_locality-is_none c w fine flagged source =
-    let p = c.before.before.before.before.before in
-    refused-is (met p w) (start c.before.before.before.before.before.before).args.source c.refuses-then-has_locality-is_none.result NoSite c.refuses-then-has_locality-is_none.ensures.0
+    let p = (goal.at.returns-then-has_locality-is_none c).Else-not-reads_ok in
+    refused-is (met p w) (start p.before).args.source _ NoSite refl
     (λ n m. refuses_13 n (twelve p w flagged n m) (tested_13 (met p w) n m c.is_none.result c.has_locality.ensures c.is_none.ensures ∙ ap not c.if-has_locality-is_none.true))
 
 pub returns-then-needs_table-found : goal.returns-then-needs_table-found
 returns-then-needs_table-found c w fine flagged source =
-    let q = c.before.before.before in
-    let p = c.before.before.before.before.before.before.before in
-    refused-is (met p w) (start c.before.before.before.before.before.before.before.before).args.source c.refuses-then-needs_table-found.result NoTable c.refuses-then-needs_table-found.ensures.0
+    let q = (goal.at.returns-then-needs_table-found c).Else-has_locality-is_none in
+    let p = (goal.at.returns-then-needs_table-found c).Else-not-reads_ok in
+    refused-is (met p w) (start p.before).args.source _ NoTable refl
     (λ n m. refuses_14 n (twelve p w flagged n m) (thirteen q w n m) (tested_14 (met p w) n m c.needs_table.ensures ∙ ap not c.if-needs_table-found.true))
 
 pub returns-then-is_create-found : goal.returns-then-is_create-found
 returns-then-is_create-found c w fine flagged source =
-    let r = c.before.before.before in
-    let q = c.before.before.before.before.before in
-    let p = c.before.before.before.before.before.before.before.before.before in
-    refused-is (met p w) (start c.before.before.before.before.before.before.before.before.before.before).args.source c.refuses-then-is_create-found.result TableThere c.refuses-then-is_create-found.ensures.0
+    let r = (goal.at.returns-then-is_create-found c).Else-needs_table-found in
+    let q = (goal.at.returns-then-is_create-found c).Else-has_locality-is_none in
+    let p = (goal.at.returns-then-is_create-found c).Else-not-reads_ok in
+    refused-is (met p w) (start p.before).args.source _ TableThere refl
     (λ n m. refuses_15 n (twelve p w flagged n m) (thirteen q w n m) (fourteen r w n m) (create-there (met p w) n m c.is_create.ensures ∙ ap not c.if-is_create-found.true))
 
 pub decide_loop-requires : goal.decide_loop-requires

@@ -4,11 +4,12 @@ use Prim.Native.Nat.{ℕ, ◌+◌, ◌-◌, ◌*◌, ◌/◌, ◌%◌, ◌<◌, 
 use mathlib.Core.Path.{◌≡◌, refl, sym, ap, ap₂, subst, ◌∙◌}
 use mathlib.Core.Bool.{Bool, true, false, not, cond, ◌&&◌}
 use mathlib.Core.List.{List, [], ◌∷◌, ◌++◌, map}
-use Rattle.std.specs.Prelude.{Some, Ok}
+use Rattle.std.specs.Prelude.{Option, None, Some, Ok, is_some, unwrap_or}
+use Rattle.values.specs.Operands.{Got}
 use native.Mathlib.Omega.{arith}
 use borrow.Author.Rules.{rules}
 use borrow.Author.Tests.{ne_eqb, lt-ltb, ltb-true}
-use lib.Dec.{T, leb, leb→le, ltb, ltb→lt, eqb→eq}
+use lib.Dec.{T, leb, leb→le, ltb, ltb→lt, lt→ltb, eqb→eq}
 use lib.ListN.{length, get_or, set, length-set, length-map}
 use lib.Seq.{take_all, get_or-set_other}
 use Rattle.value_bytes.specs.Bytes.{put_at}
@@ -36,12 +37,13 @@ use Rattle.nets.specs.Scenes.{scene_of, top}
 use Rattle.nets.specs.Steps.{holds, rows_by, bound_by, restored, settle}
 use Rattle.nets.specs.Accounts.{answers}
 use Rattle.nets.specs.Answers.{is_doing, said_of}
-use Rattle.nets.specs.View.{no_content, no_variable, no_saved, no_frame, no_table, no_thread, no_node, no_pick, kind_at, nodes_of, stack_of, variable_of, node_of, node_in, bindings_of, thread_of, saved_of, read_at, saved_at, tables_of, threads_of, view}
+use Rattle.nets.specs.View.{no_alias, table_of, no_content, no_variable, no_saved, no_frame, no_table, no_thread, no_node, no_pick, kind_at, nodes_of, stack_of, variable_of, node_of, node_in, bindings_of, thread_of, saved_of, read_at, saved_at, tables_of, threads_of, view}
 use Rattle.step_bytes.specs.PickBytes.{picks_in}
 use Rattle.step_bytes.proofs.PickLaws.{picks-length}
 use Rattle.step_bytes.specs.AnswerBytes.{answer_bytes}
 use Rattle.step_bytes.proofs.AnswerLaws.{put-none, put-more, put-length, put-over}
-use Rattle.step_meets.specs.Situations.{Situation, Rest, Change, over_of, moved, saved_after}
+use Rattle.step_meets.specs.Situations.{Situation, Rest, Change, over_of, moved, saved_after, answer_in, starts_thread, vars_started}
+use Rattle.step_meets.specs.declared.Decided.{Decided}
 use Rattle.row_change.specs.ChangeContracts.{Holds}
 use Rattle.step_effect.specs.EffectContracts.{puts_rows, StepReady}
 use Rattle.step_thread.specs.ThreadContracts.{is_run, Stacked, goes_on, forks_of}
@@ -54,9 +56,15 @@ use Rattle.nets.proofs.StackView.{entry-node_in}
 use Rattle.nets.proofs.StepLaws.{Pass}
 use Rattle.step_left.specs.Carried.{Reached, reached_by, CarriedIs}
 use Rattle.step_left.proofs.CarriedLaws.{OnePick, carried_none, carried_again, carried_room, said_here, pick-refused, pick-done}
-use Rattle.values.proofs.Bools.{and_l, and_r, T_of}
+use Rattle.values.proofs.Bools.{and_l, and_r, is_true, T_of}
+use Rattle.nets.specs.Answers.{StepIs}
+use Rattle.nets.specs.Tables.{is_at}
+use Rattle.nets.specs.Scenes.{site_of_got}
+use Rattle.nets.specs.declared.Alias.{Alias}
+use Rattle.values.proofs.Firsts.{take_firsts}
+use Rattle.nets.proofs.TablePlaces.{place_at, position-place, place-some, place-or_first}
 use Rattle.values.proofs.Firsts.{firsts_at}
-use Rattle.values.proofs.RemoveLaws.{Closing, closing_starts, closing_more}
+use Rattle.values.proofs.RemoveLaws.{Closing, closing_copied}
 use Rattle.step_picks.proofs.HeldLaws.{run_skips, loop-counts, loop-there}
 use Rattle.step_picks.proofs.SceneTies.{thread_in, saved_in, thread_seen, few-tables, few-nodes, few-threads, few-aliases, thread-stacked, stack-all}
 use Rattle.step_picks.proofs.ReadTies.{node_read, top_entry, Read, situation_in, shown_content, thread-below, entries-there, number-below, read_meets, read-fine, frame-top, variable-read, slot_below, over_below, own-there}
@@ -69,7 +77,7 @@ use Rattle.step_picks.proofs.AgreeTies.{sees_bound, agrees-below}
 use Rattle.step_picks.proofs.carry_out.Lts.View as View
 use Rattle.step_picks.proofs.Behind.{Sized, Behind, with_tables, with_threads, with_saved}
 use Rattle.step_picks.proofs.carry_out.Goals as goal
-use Rattle.step_picks.proofs.carry_out.Goals.{After-add_count-taken, After-binds_relation-binds, After-bound_tables-bound_flags, After-content_after-content_put, After-decide-decided, After-ends_round, After-find_table-at, After-forked, After-loop-gap-then-decided-eq0, After-loop-i, After-node_of-outer_number, After-pick_at-pick, After-place_or_first-slot, After-run_frame, After-shown-content, After-site_of-located, After-site_or_any-site, After-source_of-source, After-struct_known-in-loop-i-2-1, At-loop-i, Else-decided-eq0, Else-threadcount-thread_place, In-23, In-24, In-Ok, In-loop-gap, In-loop-gap-then-decided-eq0, In-loop-hole, In-loop-level, Joined-binds, Joined-binds-2, Joined-decided, Joined-decided-depth, Joined-kind, Then-decided, Then-decided-depth, Then-decided-eq0, Then-ends_round, Then-puts_rows, Then-threadcount-thread_place, then-binds+else-loop-level-test, else-binds, then-binds-2, else-binds-2, in-23, in-24+else-loop-gap-test, in_default-kind+then-puts_rows, in_default-kind+else-puts_rows, then-decided, else-decided, then-decided-depth+then-ends_round, then-decided-depth+else-ends_round, else-decided-depth, then-hole-net, else-hole-net}
+use Rattle.step_picks.proofs.carry_out.Goals.{After-add_count-taken, After-binds_relation-binds, After-bound_tables-bound_flags, After-content_after-content_put, After-copy_within-then-decided-eq0, After-decide-decision, After-ends_round, After-find_table-place, After-forked, After-loop-i, After-node_of-outer_number, After-pick_at-pick, After-unwrap_or-slot, After-run_frame, After-shown-content, After-site_of-located, After-site_or_any-site, After-source_of-source, After-struct_known-in-loop-i-2-1, At-loop-i, Else-decided-eq0, Else-threadcount-thread_place, In-23, In-24, In-Ok, In-loop-hole, In-loop-level, Joined-binds, Joined-binds-2, Joined-decided, Joined-decided-depth, Joined-kind, Then-decided, Then-decided-depth, Then-decided-eq0, Then-ends_round, Then-puts_rows, Then-threadcount-thread_place, then-binds+else-loop-level-test, else-binds, then-binds-2, else-binds-2, in-23, in-24, in_default-kind+then-puts_rows, in_default-kind+else-puts_rows, then-decided, else-decided, then-decided-depth+then-ends_round, then-decided-depth+else-ends_round, else-decided-depth, then-hole-net, else-hole-net}
 
 -- ── invariants ──
 
@@ -134,7 +142,7 @@ abbrev Picked : Type 0
 Picked = After-pick_at-pick
 
 abbrev at_of : Picked → At
-at_of e = (View.at-After-pick_at-pick _ _ _ _ _ _ _ _ _ _ _ _ _ e).At-loop-i
+at_of e = (View.at-After-pick_at-pick _ _ _ _ _ _ _ _ _ _ e).At-loop-i
 
 abbrev pick_of : Picked → Pick
 pick_of e = e.pick_at-pick.result
@@ -188,7 +196,7 @@ put_answer_at-requires c = within (goal.at.put_answer_at-requires c).After-pick_
 pub loop-i-preserved-then-threadcount-thread_place : goal.loop-i-preserved-then-threadcount-thread_place
 loop-i-preserved-then-threadcount-thread_place c =
     let t = (goal.at.loop-i-preserved-then-threadcount-thread_place c).Then-threadcount-thread_place in
-    let e = (View.at-Then-threadcount-thread_place _ _ _ _ _ _ _ _ _ _ _ _ _ t).After-pick_at-pick in
+    let e = (View.at-Then-threadcount-thread_place _ _ _ _ _ _ _ _ _ _ t).After-pick_at-pick in
     let l = at_of e in
     more e (pick-refused (reached_at l) (pick_of e) _ refl (past-refused (net_at l) (pick_of e) (ok e) t.if-threadcount-thread_place.true)) c.put_answer_at.ensures l.loop-i.invariant.sized
 
@@ -246,7 +254,7 @@ abbrev Binds : Type 0
 Binds = After-binds_relation-binds
 
 abbrev there_of : Binds → There
-there_of b = (View.at-After-binds_relation-binds _ _ _ _ _ _ _ _ _ _ _ _ _ b).Else-threadcount-thread_place
+there_of b = (View.at-After-binds_relation-binds _ _ _ _ _ _ _ _ _ _ b).Else-threadcount-thread_place
 
 abbrev number_at : Binds → ℕ
 number_at b = b.node_of-node_number.result
@@ -297,7 +305,7 @@ abbrev Held : Type 0
 Held = Joined-binds
 
 abbrev binds_of : Held → Binds
-binds_of j = (View.at-Joined-binds _ _ _ _ _ _ _ _ _ _ _ _ _ j).After-binds_relation-binds
+binds_of j = (View.at-Joined-binds _ _ _ _ _ _ _ _ _ _ j).After-binds_relation-binds
 
 -- judged where the node binds one
 held_at :
@@ -320,17 +328,49 @@ held_at j h =
 
 -- ── where L leads, and the table there ──
 
-pub site_of-located-requires : goal.site_of-located-requires
-site_of-located-requires c =
-    let e = there_of (goal.at.site_of-located-requires c).After-binds_relation-binds in
-    few-aliases (net_of e) (okay e) (at_of (picked_of e)).loop-i.invariant.sized.aliases
+pub shared_ref_as_front-aliases : goal.shared_ref_as_front-aliases
+shared_ref_as_front-aliases c =
+    let e = there_of (goal.at.shared_ref_as_front-aliases c).After-binds_relation-binds in
+    let long = (at_of (picked_of e)).loop-i.invariant.sized.aliases in
+    let few = few-aliases (net_of e) (okay e) long in
+    omega (arith, few, long)
 
-pub find_table-at-requires : goal.find_table-at-requires
-find_table-at-requires c = let e = there_of (goal.at.find_table-at-requires c).After-binds_relation-binds in few-tables (net_of e) (okay e)
+pub shared_ref_as_front-find_table : goal.shared_ref_as_front-find_table
+shared_ref_as_front-find_table c =
+    let e = there_of (goal.at.shared_ref_as_front-find_table c).After-binds_relation-binds in
+    let eight = (at_of (picked_of e)).loop-i.invariant.sized.tables in
+    let few = few-tables (net_of e) (okay e) in
+    omega (arith, few, eight)
 
--- the table's place, or the first one of the array
-slot-few : (c : After-place_or_first-slot) → c.place_or_first-slot.result < 8
-slot-few c = let e = there_of (goal.at.offset_bounds-net-slot c).After-binds_relation-binds in slot_below (net_of e) _ _ (few-tables (net_of e) (okay e)) c.place_or_first-slot.ensures
+-- the places of what is read before the slot of the step's table
+abbrev slot_there : After-unwrap_or-slot → There
+slot_there c = there_of (goal.at.offset_bounds-net-slot c).After-binds_relation-binds
+
+abbrev found_in : After-unwrap_or-slot → After-find_table-place
+found_in c = (goal.at.offset_bounds-net-slot c).After-find_table-place
+
+abbrev site_in : After-unwrap_or-slot → After-site_or_any-site
+site_in c = (View.at-After-find_table-place _ _ _ _ _ _ _ _ _ _ (found_in c)).After-site_or_any-site
+
+-- the place of the step's table; past the tables where there is none
+abbrev at_in : After-unwrap_or-slot → ℕ
+at_in c =
+    let n = net_of (slot_there c) in
+    place_at (site_in c).site_or_any-site.result (node_read n (number_at (goal.at.offset_bounds-net-slot c).After-binds_relation-binds)).name (tables_of n.tablecount n.tables)
+
+found-at : (c : After-unwrap_or-slot) → (found_in c).find_table-place.result ≡ cond (ltb (at_in c) (net_of (slot_there c)).tablecount) (Some (at_in c)) None
+found-at c =
+    let e = slot_there c in
+    let few = few-tables (net_of e) (okay e) in
+    let eight = (at_of (picked_of e)).loop-i.invariant.sized.tables in
+    (found_in c).find_table-place.ensures ∙ position-place (is_at (site_in c).site_or_any-site.result _) table_of no_table (net_of e).tablecount (net_of e).tables (omega (arith, few, eight))
+
+-- the slot is that place, or the first one of the array
+slot-at : (c : After-unwrap_or-slot) → c.unwrap_or-slot.result ≡ cond (ltb (at_in c) (net_of (slot_there c)).tablecount) (at_in c) 0
+slot-at c = c.unwrap_or-slot.ensures ∙ place-or_first (at_in c) (net_of (slot_there c)).tablecount (found_in c).find_table-place.result (found-at c)
+
+slot-few : (c : After-unwrap_or-slot) → c.unwrap_or-slot.result < 8
+slot-few c = let e = slot_there c in slot_below (net_of e) _ _ (few-tables (net_of e) (okay e)) (slot-at c)
 
 pub offset_bounds-net-slot : goal.offset_bounds-net-slot
 offset_bounds-net-slot c = record { fits = let h = slot-few c in omega (arith, h) }
@@ -344,42 +384,54 @@ abbrev Shown : Type 0
 Shown = After-shown-content
 
 abbrev held_of : Shown → Held
-held_of s = (View.at-After-shown-content _ _ _ _ _ _ _ _ _ _ _ _ _ s).Joined-binds
+held_of s = (View.at-After-shown-content _ _ _ _ _ _ _ _ _ _ s).Joined-binds
 
-abbrev slot_of : Shown → After-place_or_first-slot
-slot_of s = (View.at-After-shown-content _ _ _ _ _ _ _ _ _ _ _ _ _ s).After-place_or_first-slot
+abbrev slot_of : Shown → After-unwrap_or-slot
+slot_of s = (View.at-After-shown-content _ _ _ _ _ _ _ _ _ _ s).After-unwrap_or-slot
 
-abbrev place_of : Shown → After-find_table-at
-place_of s = (goal.at.offset_bounds-net-slot (slot_of s)).After-find_table-at
+abbrev place_of : Shown → After-find_table-place
+place_of s = (goal.at.offset_bounds-net-slot (slot_of s)).After-find_table-place
 
 abbrev site_of : Shown → After-site_or_any-site
-site_of s = (View.at-After-find_table-at _ _ _ _ _ _ _ _ _ _ _ _ _ (place_of s)).After-site_or_any-site
+site_of s = (View.at-After-find_table-place _ _ _ _ _ _ _ _ _ _ (place_of s)).After-site_or_any-site
 
 abbrev located_of : Shown → After-site_of-located
-located_of s = (View.at-After-site_or_any-site _ _ _ _ _ _ _ _ _ _ _ _ _ (site_of s)).After-site_of-located
+located_of s = (View.at-After-site_or_any-site _ _ _ _ _ _ _ _ _ _ (site_of s)).After-site_of-located
 
 abbrev there_in : Shown → There
 there_in s = there_of (binds_of (held_of s))
 
+abbrev placed : Shown → ℕ
+placed s = at_in (slot_of s)
+
+found_at : (s : Shown) → s.is_some-found.result ≡ ltb (placed s) (net_of (there_in s)).tablecount
+found_at s = s.is_some-found.ensures ∙ place-some (placed s) (net_of (there_in s)).tablecount (place_of s).find_table-place.result (found-at (slot_of s))
+
 read :
     (s : Shown) →
     Read (net_of (there_in s)) (pick_at (there_in s)) (frame_at (there_in s)) (number_at (binds_of (held_of s))) (held_of s).if-binds.held (located_of s).eval_in.result
-    (located_of s).site_of-located.result (site_of s).site_or_any-site.result (place_of s).find_table-at.result s.shown-content.result
+    (located_of s).site_of-located.result (site_of s).site_or_any-site.result (placed s) s.is_some-found.result s.shown-content.result
 read s =
     record {
       frame = top-is (there_in s);
       number = (held_of s).node_of-node_number.ensures;
       held = held_at (held_of s);
       got = (located_of s).eval_in.ensures;
-      located = (located_of s).site_of-located.ensures;
+      located =
+          let e = there_in s in
+          let long = (at_of (picked_of e)).loop-i.invariant.sized.aliases in
+          let few = few-aliases (net_of e) (okay e) long in
+          (located_of s).site_of-located.ensures
+          ∙ ap (λ (l : List Alias). site_of_got l (thread_in (net_of e) (pick_at e).thread).site (located_of s).eval_in.result) (take_firsts no_alias (net_of e).aliascount (net_of e).aliases (omega (arith, few, long)));
       site = (site_of s).site_or_any-site.ensures;
-      place = (place_of s).find_table-at.ensures;
-      content = shown_content (net_of (there_in s)) _ _ _ s.shown-content.result (slot_of s).place_or_first-slot.ensures refl s.shown-content.ensures;
+      place = refl;
+      found = found_at s;
+      content = shown_content (net_of (there_in s)) _ _ _ s.shown-content.result (slot-at (slot_of s)) (found_at s) s.shown-content.ensures;
     }
 
 abbrev situation_at : Shown → Situation
 situation_at s =
-    situation_in (net_of (there_in s)) (pick_at (there_in s)) (frame_at (there_in s)) (number_at (binds_of (held_of s))) (held_of s).if-binds.held (located_of s).site_of-located.result (place_of s).find_table-at.result s.shown-content.result
+    situation_in (net_of (there_in s)) (pick_at (there_in s)) (frame_at (there_in s)) (number_at (binds_of (held_of s))) (held_of s).if-binds.held (located_of s).site_of-located.result s.is_some-found.result s.shown-content.result
 
 meets : (s : Shown) → Meets (situation_at s) (scene_of (view (net_of (there_in s))) (pick_at (there_in s)))
 meets s = read_meets (net_of (there_in s)) (pick_at (there_in s)) (okay (there_in s)) (there (there_in s)) (read s)
@@ -406,41 +458,41 @@ Flags = After-bound_tables-bound_flags
 
 abbrev rest_at : Flags → Rest
 rest_at c =
-    let t = (situation_at (goal.at.decide-decided-requires c).After-shown-content).thread in
-    record { site = t.site; relations = t.relations; stack = t.stack; saved = (situation_at (goal.at.decide-decided-requires c).After-shown-content).saved; long = c.bound_tables-bound_flags.ensures.1 }
+    let t = (situation_at (goal.at.decide-decision-requires c).After-shown-content).thread in
+    record { site = t.site; relations = t.relations; stack = t.stack; saved = (situation_at (goal.at.decide-decision-requires c).After-shown-content).saved; long = c.bound_tables-bound_flags.ensures.1 }
 
-pub decide-decided-requires : goal.decide-decided-requires
-decide-decided-requires c = (c.judged-rows_judged.ensures, record { rest = rest_at c; facts = (fine (goal.at.decide-decided-requires c).After-shown-content, record { bound = c.bound_tables-bound_flags.ensures.0 }, source (goal.at.decide-decided-requires c).After-source_of-source) })
+pub decide-decision-requires : goal.decide-decision-requires
+decide-decision-requires c = (c.judged-rows_judged.ensures, record { rest = rest_at c; facts = (fine (goal.at.decide-decision-requires c).After-shown-content, record { bound = c.bound_tables-bound_flags.ensures.0 }, source (goal.at.decide-decision-requires c).After-source_of-source) })
 
 abbrev Decides : Type 0
-Decides = After-decide-decided
+Decides = After-decide-decision
 
 abbrev shown_of : Decides → Shown
-shown_of c = (View.at-After-decide-decided _ _ _ _ _ _ _ _ _ _ _ _ _ c).After-shown-content
+shown_of c = (View.at-After-decide-decision _ _ _ _ _ _ _ _ _ _ c).After-shown-content
 
 abbrev source_of : Decides → Relation
 source_of c = c.source_of-source.result
 
-decided : (c : Decides) → DecidedIs (situation_at (shown_of c)) (source_of c) c.decide-decided.result
+decided : (c : Decides) → DecidedIs (situation_at (shown_of c)) (source_of c) c.decide-decision.result
 decided c =
-    c.decide-decided.ensures (rest_at (View.at-After-decide-decided _ _ _ _ _ _ _ _ _ _ _ _ _ c).After-bound_tables-bound_flags) (fine (shown_of c)) (record { bound = c.bound_tables-bound_flags.ensures.0 }) (source (View.at-After-decide-decided _ _ _ _ _ _ _ _ _ _ _ _ _ c).After-source_of-source)
+    c.decide-decision.ensures (rest_at (View.at-After-decide-decision _ _ _ _ _ _ _ _ _ _ c).After-bound_tables-bound_flags) (fine (shown_of c)) (record { bound = c.bound_tables-bound_flags.ensures.0 }) (source (View.at-After-decide-decision _ _ _ _ _ _ _ _ _ _ c).After-source_of-source)
 
 abbrev picked_in : Decides → Picked
 picked_in c = picked_of (there_in (shown_of c))
 
 pub put_answer_at-requires-in-loop-i : goal.put_answer_at-requires-in-loop-i
-put_answer_at-requires-in-loop-i c = within (picked_in (goal.at.put_answer_at-requires-in-loop-i c).After-decide-decided)
+put_answer_at-requires-in-loop-i c = within (picked_in (goal.at.put_answer_at-requires-in-loop-i c).After-decide-decision)
 
 -- ── refused ──
 
 pub loop-i-preserved-in_default : goal.loop-i-preserved-in_default
 loop-i-preserved-in_default c =
-    let o = (goal.at.loop-i-preserved-in_default c).After-decide-decided in
+    let o = (goal.at.loop-i-preserved-in_default c).After-decide-decision in
     let e = there_in (shown_of o) in
     let l = at_of (picked_of e) in
     more (picked_of e)
-    (pick-refused (reached_at l) (pick_at e) o.decide-decided.result.answer c.in_default.is
-    (change-refused (net_of e) (pick_at e) (okay e) (there e) ((decided o).at _ (meets (shown_of o))).answer c.in_default.is))
+    (pick-refused (reached_at l) (pick_at e) c.answer_of-answer.result (c.answer_of-answer.ensures ∙ ap answer_in c.in_default.is)
+    (change-refused (net_of e) (pick_at e) (okay e) (there e) ((decided o).at _ (meets (shown_of o))).answer (ap answer_in c.in_default.is)))
     c.put_answer_at-in-loop-i.ensures l.loop-i.invariant.sized
 
 -- ── a done step ──
@@ -449,16 +501,16 @@ abbrev Told : Type 0
 Told = In-Ok
 
 abbrev decides_in : Told → Decides
-decides_in c = (goal.at.add_count-added-requires c).After-decide-decided
+decides_in c = (goal.at.add_count-added-requires c).After-decide-decision
 
 abbrev shown_in : Told → Shown
 shown_in c = shown_of (decides_in c)
 
-says-done : (c : Told) → (decides_in c).decide-decided.result.answer ≡ Ok c.in-Ok.done
-says-done c = c.in-Ok.is
+says-done : (c : Told) → c.answer_of-answer.result ≡ Ok c.in-Ok.decided.done
+says-done c = c.answer_of-answer.ensures ∙ ap answer_in c.in-Ok.is
 
-does : (c : Told) → T (is_doing (said_of (decides_in c).decide-decided.result.answer))
-does c = subst (λ (x : Answer). T (is_doing (said_of x))) (sym (says-done c)) tt
+does : (c : Told) → T (is_doing (said_of (answer_in (decides_in c).decide-decision.result)))
+does c = subst (λ (x : Answer). T (is_doing (said_of x))) (sym (ap answer_in c.in-Ok.is)) tt
 
 -- a slice is so short that the sums have room
 short : (l : At) → length (bytes_at l) < 2 ^ 64
@@ -482,7 +534,7 @@ ready c =
     let o = decides_in c in
     let s = shown_of o in
     let k = (decided o).known (does c) in
-    step-ready (situation_at s) (source_of o) ((source (View.at-After-decide-decided _ _ _ _ _ _ _ _ _ _ _ _ _ o).After-source_of-source).source k) (fine s) k
+    step-ready (situation_at s) (source_of o) ((source (View.at-After-decide-decision _ _ _ _ _ _ _ _ _ _ o).After-source_of-source).source k) (fine s) k
 
 -- ── the thread after it ──
 
@@ -527,10 +579,14 @@ abbrev Moved : Type 0
 Moved = Joined-binds-2
 
 abbrev told_by : Moved → Told
-told_by j = told_of (View.at-Joined-binds-2 _ _ _ _ _ _ _ _ _ _ _ _ _ j).After-run_frame
+told_by j = told_of (View.at-Joined-binds-2 _ _ _ _ _ _ _ _ _ _ j).After-run_frame
 
 abbrev decides_by : Moved → Decides
 decides_by j = decides_in (told_by j)
+
+-- what becomes of the thread
+abbrev after_by : Moved → Decided
+after_by j = (told_by j).in-Ok.decided
 
 abbrev shown_by : Moved → Shown
 shown_by j = shown_of (decides_by j)
@@ -549,16 +605,16 @@ pick_by j = pick_at (there_by j)
 
 -- where the sums have been added
 abbrev summed : Moved → After-add_count-taken
-summed j = (View.at-Joined-binds-2 _ _ _ _ _ _ _ _ _ _ _ _ _ j).After-add_count-taken
+summed j = (View.at-Joined-binds-2 _ _ _ _ _ _ _ _ _ _ j).After-add_count-taken
 
 abbrev moved_in : Moved → List TableVariable → Thread
-moved_in j vs = moved (situation_by j).thread (decides_by j).decide-decided.result j.over-above.result j.run_frame.result vs
+moved_in j vs = moved (situation_by j).thread (after_by j) j.over-above.result j.run_frame.result vs
 
 moved-is : (j : Moved) → j.if-binds-2.thread ≡ moved_in j j.if-binds-2.thread.relations
 moved-is j =
     elim j.if-binds-2.branch [
-      | then-binds-2 w ↦ as_moved (situation_by j).thread (decides_by j).decide-decided.result j.over-above.result j.run_frame.result w.thread-is refl
-      | else-binds-2 w ↦ as_moved (situation_by j).thread (decides_by j).decide-decided.result j.over-above.result j.run_frame.result w.thread-is refl
+      | then-binds-2 w ↦ as_moved (situation_by j).thread (after_by j) j.over-above.result j.run_frame.result w.thread-is refl
+      | else-binds-2 w ↦ as_moved (situation_by j).thread (after_by j) j.over-above.result j.run_frame.result w.thread-is refl
     ]
 
 abbrev BoundIs : Moved → Type 0
@@ -583,7 +639,7 @@ abbrev Puts : Moved → Relation → Type 0
 Puts j q = T (puts_rows (kind_at (situation_by j).node.kind)) → Holds q (relation_of (situation_by j).content).columns (rows_by (kind_at (situation_by j).node.kind) (parts_in (situation_by j) (source_of (decides_by j))) (relation_of (situation_by j).content).rows)
 
 -- all that is made, with this content
-abbrev made : (j : Moved) (q : Relation) → Puts j q → Made (situation_by j) (source_of (decides_by j)) (decides_by j).decide-decided.result
+abbrev made : (j : Moved) (q : Relation) → Puts j q → Made (situation_by j) (source_of (decides_by j)) (after_by j)
 made j q put =
     record {
       content = q;
@@ -598,14 +654,14 @@ made j q put =
 
 -- the change that it is
 change :
-    (j : Moved) (m : Made (situation_by j) (source_of (decides_by j)) (decides_by j).decide-decided.result) →
-    ChangeIs (scene_of (view (net_by j)) (pick_by j)) (changed (situation_by j) (source_of (decides_by j)) (decides_by j).decide-decided.result m)
-change j m = ((decided (decides_by j)).at _ (meets (shown_by j))).change (does (told_by j)) m
+    (j : Moved) (m : Made (situation_by j) (source_of (decides_by j)) (after_by j)) →
+    ChangeIs (scene_of (view (net_by j)) (pick_by j)) (changed (situation_by j) (source_of (decides_by j)) (after_by j) m)
+change j m = ((decided (decides_by j)).at _ (meets (shown_by j))).change (after_by j) (told_by j).in-Ok.is m
 
 tables-fit :
     (j : Moved) (q : Relation) → Puts j q →
-    ((net_by j).tablecount ≤ 8) × (T (needs_table (kind_at (situation_by j).node.kind)) → (place_of (shown_by j)).find_table-at.result < (net_by j).tablecount) × (T (is_create (kind_at (situation_by j).node.kind)) → (net_by j).tablecount < 8)
-tables-fit j q put = tables-ready (net_by j) (pick_by j) (okay (there_by j)) (there (there_by j)) (read (shown_by j)) (change j (made j q put)) (says-done (told_by j))
+    ((net_by j).tablecount ≤ 8) × (T (needs_table (kind_at (situation_by j).node.kind)) → (placed (shown_by j)) < (net_by j).tablecount) × (T (is_create (kind_at (situation_by j).node.kind)) → (net_by j).tablecount < 8)
+tables-fit j q put = tables-ready (net_by j) (pick_by j) (okay (there_by j)) (there (there_by j)) (read (shown_by j)) (change j (made j q put)) refl
 
 -- no rows are put
 no-puts : (j : Moved) (q : Relation) → puts_rows (kind_at (situation_by j).node.kind) ≡ false → Puts j q
@@ -628,52 +684,37 @@ overflow_add-net c = record { fits = let h = new-fits (goal.at.overflow_add-net 
 
 -- ── a removed one closes up ──
 
-dropped-there : (j : Moved) → (situation_by j).node.kind ≡ 24 → (place_of (shown_by j)).find_table-at.result < (net_by j).tablecount
+dropped-there : (j : Moved) → (situation_by j).node.kind ≡ 24 → (placed (shown_by j)) < (net_by j).tablecount
 unfolding kind_at
 dropped-there j k = (tables-fit j no_content (no-puts j no_content (ap (λ (b : ℕ). puts_rows (kind_at b)) k))).1 (subst (λ (b : ℕ). T (needs_table (kind_at b))) (sym k) tt)
 
-pub overflow_sub-last : goal.overflow_sub-last
-overflow_sub-last c = let h = dropped-there (goal.at.overflow_sub-last c).Joined-binds-2 c.in-24.is in omega (arith, h)
+-- the slot is then its place
+dropped-slot : (j : Moved) → (situation_by j).node.kind ≡ 24 → (slot_of (shown_by j)).unwrap_or-slot.result ≡ placed (shown_by j)
+dropped-slot j k = let s = slot_of (shown_by j) in slot-at s ∙ ap (λ (b : Bool). cond b (at_in s) 0) (is_true _ (lt→ltb (at_in s) (net_by j).tablecount (dropped-there j k)))
 
-pub loop-gap-init : goal.loop-gap-init
-loop-gap-init c = let h = dropped-there (goal.at.loop-gap-init c).Joined-binds-2 c.in-24.is in (omega (arith, h), closing_starts no_table (net_by (goal.at.loop-gap-init c).Joined-binds-2).tables _, refl)
+pub copy_within-requires-clause-start_le_end : goal.copy_within-requires-clause-start_le_end
+copy_within-requires-clause-start_le_end c =
+    let j = (goal.at.copy_within-requires-clause-start_le_end c).Joined-binds-2 in
+    let h = dropped-there j c.in-24.is in
+    let e = dropped-slot j c.in-24.is in
+    omega (arith, h, e)
 
--- a table that moves is in use
-moves-table : (c : In-loop-gap) → c.loop-gap.gap + 1 < 8
-moves-table c =
-    let j = (goal.at.overflow_add-next c).Joined-binds-2 in
-    let h = c.loop-gap-test.true in
-    omega (arith, h, few-tables (net_by j) (okay (there_by j)))
-
-pub overflow_add-next : goal.overflow_add-next
-overflow_add-next c = record { fits = let h = moves-table c in omega (arith, h) }
-
-pub offset_bounds-net-next : goal.offset_bounds-net-next
-offset_bounds-net-next c = record { fits = let h = moves-table c in omega (arith, h) }
-
-pub bounds-net-next : goal.bounds-net-next
-bounds-net-next c = moves-table c
-
-pub offset_bounds-net-gap : goal.offset_bounds-net-gap
-offset_bounds-net-gap c = record { fits = let h = moves-table (goal.at.offset_bounds-net-gap c).In-loop-gap in omega (arith, h) }
-
-pub bounds-net-gap : goal.bounds-net-gap
-bounds-net-gap c = let h = moves-table (goal.at.bounds-net-gap c).In-loop-gap in omega (arith, h)
-
-pub loop-gap-preserved : goal.loop-gap-preserved
-loop-gap-preserved c =
-    let i = (goal.at.loop-gap-preserved c).In-loop-gap in
-    let l = i.loop-gap in
-    let j = (goal.at.overflow_add-next i).Joined-binds-2 in
-    let h = i.loop-gap-test.true in
-    let few = moves-table i in
+pub copy_within-requires-clause-dest_in_bounds : goal.copy_within-requires-clause-dest_in_bounds
+copy_within-requires-clause-dest_in_bounds c =
+    let j = (goal.at.copy_within-requires-clause-dest_in_bounds c).Joined-binds-2 in
+    let h = dropped-there j c.in-24.is in
+    let e = dropped-slot j c.in-24.is in
+    let few = few-tables (net_by j) (okay (there_by j)) in
     let eight = (at_of (picked_of (there_by j))).loop-i.invariant.sized.tables in
-    (omega (arith, h), closing_more no_table (net_by j).tables _ l.invariant.1 (omega (arith, few, eight)), ap (λ (n : Net). with_tables n (set l.net.tables l.gap (get_or l.net.tables (l.gap + 1) no_table))) l.invariant.2)
+    omega (arith, h, e, few, eight)
+
+pub overflow_sub-net : goal.overflow_sub-net
+overflow_sub-net c = let h = dropped-there (goal.at.overflow_sub-net c).Joined-binds-2 c.in-24.is in omega (arith, h)
 
 -- ── the table found gives way ──
 
 -- the kind puts rows
-given-puts : (c : Then-puts_rows) → T (puts_rows (kind_at (situation_by (View.at-Then-puts_rows _ _ _ _ _ _ _ _ _ _ _ _ _ c).Joined-binds-2).node.kind))
+given-puts : (c : Then-puts_rows) → T (puts_rows (kind_at (situation_by (View.at-Then-puts_rows _ _ _ _ _ _ _ _ _ _ c).Joined-binds-2).node.kind))
 given-puts c = T_of _ (sym c.puts_rows.ensures ∙ c.if-puts_rows.true)
 
 pub content_after-content_put-requires : goal.content_after-content_put-requires
@@ -696,7 +737,7 @@ abbrev Tabled : Type 0
 Tabled = Joined-kind
 
 abbrev moved_of : Tabled → Moved
-moved_of c = (View.at-Joined-kind _ _ _ _ _ _ _ _ _ _ _ _ _ c).Joined-binds-2
+moved_of c = (View.at-Joined-kind _ _ _ _ _ _ _ _ _ _ c).Joined-binds-2
 
 -- the net has the tables that the step leaves, and else is as it was
 record Stored (n m : Net) (ts : List M.Table) : Type 0 where
@@ -706,7 +747,7 @@ record Stored (n m : Net) (ts : List M.Table) : Type 0 where
 
 abbrev tables_left : Moved → Relation → List M.Table
 tables_left j q =
-    tables_with (kind_at (situation_by j).node.kind) (place_of (shown_by j)).find_table-at.result (tables_of (net_by j).tablecount (net_by j).tables) (site_of (shown_by j)).site_or_any-site.result (node_of (situation_by j).node) (relation_of q)
+    tables_with (kind_at (situation_by j).node.kind) (placed (shown_by j)) (tables_of (net_by j).tablecount (net_by j).tables) (site_of (shown_by j)).site_or_any-site.result (node_of (situation_by j).node) (relation_of q)
 
 -- with the content that the step puts, if it puts any
 record Left (j : Moved) (m : Net) : Type 0 where
@@ -738,20 +779,26 @@ left c =
                   rest = refl;
                 });
           }
-      | in-24+else-loop-gap-test w ↦
+      | in-24 w ↦
+          let slot = (slot_of (shown_by j)).unwrap_or-slot.result in
+          let low : slot < n.tablecount = let h = dropped-there j w.in-24.is in let e = dropped-slot j w.in-24.is in omega (arith, h, e) in
+          let closing = closing_copied no_table n.tables slot n.tablecount low (omega (arith, few, eight)) in
           record {
             content = no_content;
             put = no-puts j no_content (none-at w.in-24.is refl);
             stored =
                 subst (λ (m : Net). Stored n m (tables_left j no_content)) (sym w.net-is)
                 (record {
-                  tables = table-dropped n.tablecount n.tables _ _ _ _ _ w.in-24.is (dropped-there j w.in-24.is) w.loop-gap.invariant.1 w.loop-gap-test.false;
-                  eight = w.loop-gap.invariant.1.size ∙ eight;
-                  rest = ap (λ (k : Net). net_with k w.loop-gap.net.tables (n.tablecount - 1) k.threads k.threadcount k.saved) w.loop-gap.invariant.2;
+                  tables =
+                      ap (tables_of (n.tablecount - 1)) w.copy_within.ensures.after
+                      ∙ table-dropped n.tablecount n.tables _ _ _ _ _ w.in-24.is low closing (omega arith)
+                      ∙ ap (λ (i : ℕ). tables_with (kind_at (situation_by j).node.kind) i (tables_of n.tablecount n.tables) (site_of (shown_by j)).site_or_any-site.result (node_of (situation_by j).node) (relation_of no_content)) (dropped-slot j w.in-24.is);
+                  eight = ap length w.copy_within.ensures.after ∙ closing.size ∙ eight;
+                  rest = refl;
                 });
           }
       | in_default-kind+then-puts_rows w ↦
-          let slot = (slot_of (shown_by j)).place_or_first-slot in
+          let slot = (slot_of (shown_by j)).unwrap_or-slot in
           let old = get_or n.tables slot.result no_table in
           let q = w.content_after-content_put.result in
           let p = T_of (puts_rows (kind_at (situation_by j).node.kind)) (sym w.puts_rows.ensures ∙ w.if-puts_rows.true) in
@@ -762,7 +809,7 @@ left c =
                 subst (λ (m : Net). Stored n m (tables_left j q)) (sym w.net-is)
                 (record {
                   tables =
-                      table-gives_way n.tablecount n.tables _ slot.result (situation_by j).node.kind (record { site = old.site; name = old.name; content = q }) _ _ eight few slot.ensures refl refl
+                      table-gives_way n.tablecount n.tables _ slot.result (situation_by j).node.kind (record { site = old.site; name = old.name; content = q }) _ _ eight few (slot-at (slot_of (shown_by j))) refl refl
                       (tables-fit j q (λ h. w.content_after-content_put.ensures)).1 p;
                   eight = length-set n.tables slot.result (record { site = old.site; name = old.name; content = q }) ∙ eight;
                   rest = refl;
@@ -778,7 +825,7 @@ left c =
                 subst (λ (m : Net). Stored n m (tables_left j no_content)) (sym w.net-is)
                 (record {
                   tables =
-                      tables_stay (situation_by j).node.kind (place_of (shown_by j)).find_table-at.result (tables_of n.tablecount n.tables) (site_of (shown_by j)).site_or_any-site.result (node_of (situation_by j).node)
+                      tables_stay (situation_by j).node.kind (placed (shown_by j)) (tables_of n.tablecount n.tables) (site_of (shown_by j)).site_or_any-site.result (node_of (situation_by j).node)
                       (relation_of no_content) none (ne_eqb _ 23 x.0.1) (ne_eqb _ 24 x.1);
                   eight = eight;
                   rest = refl;
@@ -801,7 +848,7 @@ told-as {picks} {lent} {count} {room} {from} {out} {u = u} {v = v} {i = i} e f h
 
 -- the change that the step makes
 abbrev change_of : Tabled → Change
-change_of c = changed (situation_by (moved_of c)) (source_of (decides_by (moved_of c))) (decides_by (moved_of c)).decide-decided.result (made (moved_of c) (left c).content (left c).put)
+change_of c = changed (situation_by (moved_of c)) (source_of (decides_by (moved_of c))) (after_by (moved_of c)) (made (moved_of c) (left c).content (left c).put)
 
 change-is : (c : Tabled) → ChangeIs (scene_of (view (net_by (moved_of c))) (pick_by (moved_of c))) (change_of c)
 change-is c = change (moved_of c) (made (moved_of c) (left c).content (left c).put)
@@ -813,13 +860,13 @@ again :
     (c : Tabled) (hs : List Thread) (k : ℕ) (given : List Saved) → length hs ≡ 8 → length given ≡ 64 →
     threads_of (nodes_by c) given k hs
     ≡ settle (pick_by (moved_of c)).thread (goes_on (becomes (nodes_by c) (change_of c))) (threads_of (nodes_by c) (net_by (moved_of c)).saved (net_by (moved_of c)).threadcount (net_by (moved_of c)).threads)
-    ++ forks_of (decides_by (moved_of c)).decide-decided.result.forks (change_of c).fork →
+    ++ forks_of (starts_thread (after_by (moved_of c))) (change_of c).fork →
     {n : Net} → n ≡ net_with (net_by (moved_of c)) c.match-kind.net.tables c.match-kind.net.tablecount hs k given →
     Behind (bytes_at (at_of (picked_of (there_by (moved_of c))))) (lent_at (at_of (picked_of (there_by (moved_of c))))) (count_of (picked_of (there_by (moved_of c)))) (room_at (at_of (picked_of (there_by (moved_of c)))))
     (from_of (at_of (picked_of (there_by (moved_of c))))) (moved_of c).put_answer_at-in-loop-i.new.out
     (record {
       net = n;
-      answer = Ok (told_by (moved_of c)).in-Ok.done;
+      answer = (told_by (moved_of c)).answer_of-answer.result;
       added = (summed (moved_of c)).add_count-added.result;
       taken = (summed (moved_of c)).add_count-taken.result;
     })
@@ -830,19 +877,19 @@ again c hs k given eight sixty threads e =
     let h = there_by j in
     let l = at_of (picked_of h) in
     let s = (left c).stored in
-    let step = done-is (net_by j) (pick_by j) (okay h) (there h) (read (shown_by j)) (change-is c) (says-done t) c.match-kind.net.tables c.match-kind.net.tablecount hs k given s.tables threads in
-    told-as (sym e) (says-done t)
+    let step = done-is (net_by j) (pick_by j) (okay h) (there h) (read (shown_by j)) (change-is c) refl c.match-kind.net.tables c.match-kind.net.tablecount hs k given s.tables threads in
+    told-as (sym e) refl
     (more (picked_of h)
-    (pick-done (reached_at l) (pick_by j) (decides_by j).decide-decided.result.answer _ (summed j).add_count-added.result (summed j).add_count-taken.result (says-done t) step (summed j).add_count-added.ensures (summed j).add_count-taken.ensures)
+    (pick-done (reached_at l) (pick_by j) t.answer_of-answer.result _ (summed j).add_count-added.result (summed j).add_count-taken.result (says-done t) (subst (λ (x : Answer). StepIs (net_by j) (pick_by j) (record { answer = x; net = net_with (net_by j) c.match-kind.net.tables c.match-kind.net.tablecount hs k given })) (sym (says-done t)) step) (summed j).add_count-added.ensures (summed j).add_count-taken.ensures)
     j.put_answer_at-in-loop-i.ensures (sized-with l.loop-i.invariant.sized s.eight eight sixty))
 
-threads-fit : (c : Tabled) → T (decides_by (moved_of c)).decide-decided.result.forks → ((net_by (moved_of c)).threadcount < 8) × (1 ≤ (decides_by (moved_of c)).decide-decided.result.depth)
+threads-fit : (c : Tabled) → T (starts_thread (after_by (moved_of c))) → ((net_by (moved_of c)).threadcount < 8) × (1 ≤ (after_by (moved_of c)).depth)
 threads-fit c =
     let j = (moved_of c) in
-    (threads-ready (net_by j) (pick_by j) (okay (there_by j)) (there (there_by j)) (read (shown_by j)) (change-is c) (says-done (told_by j))).2
+    (threads-ready (net_by j) (pick_by j) (okay (there_by j)) (there (there_by j)) (read (shown_by j)) (change-is c) refl).2
 
 passed : (c : Tabled) → Pass (scene_of (view (net_by (moved_of c))) (pick_by (moved_of c)))
-passed c = let j = (moved_of c) in all-passed (net_by j) (pick_by j) (okay (there_by j)) (there (there_by j)) (read (shown_by j)) (change-is c) (says-done (told_by j))
+passed c = let j = (moved_of c) in all-passed (net_by j) (pick_by j) (okay (there_by j)) (there (there_by j)) (read (shown_by j)) (change-is c) refl
 
 -- the threads, and what is saved, are still those that the step found
 threads-same : (c : Tabled) → c.match-kind.net.threads ≡ (net_by (moved_of c)).threads
@@ -900,17 +947,17 @@ abbrev Keeps : Type 0
 Keeps = Joined-decided
 
 abbrev tabled_at : Keeps → Tabled
-tabled_at c = (View.at-Joined-decided _ _ _ _ _ _ _ _ _ _ _ _ _ c).Joined-kind
+tabled_at c = (View.at-Joined-decided _ _ _ _ _ _ _ _ _ _ c).Joined-kind
 
 abbrev moved_at : Keeps → Moved
-moved_at c = (View.at-Joined-decided _ _ _ _ _ _ _ _ _ _ _ _ _ c).Joined-binds-2
+moved_at c = (View.at-Joined-decided _ _ _ _ _ _ _ _ _ _ c).Joined-binds-2
 
 -- what is saved for it
 abbrev saved_for : Tabled → Saved
 saved_for c = record { vars = (situation_by (moved_of c)).thread.vars; other = get_or c.if-binds-2.thread.relations (1 - (situation_by (moved_of c)).node.read) no_variable }
 
 record Holds5 (c : Keeps) : Type 0 where
-  kept : Kept (net_by (moved_at c)).saved c.if-decided.net.saved (pick_by (moved_at c)).thread ((situation_by (moved_at c)).thread.depth - 1) (decides_by (moved_at c)).decide-decided.result.saves (saved_for (tabled_at c))
+  kept : Kept (net_by (moved_at c)).saved c.if-decided.net.saved (pick_by (moved_at c)).thread ((situation_by (moved_at c)).thread.depth - 1) (after_by (moved_at c)).saves (saved_for (tabled_at c))
   rest : c.if-decided.net ≡ with_saved c.match-kind.net c.if-decided.net.saved
 
 sixty-four : (c : Tabled) → length (net_by (moved_of c)).saved ≡ 64
@@ -929,14 +976,14 @@ holds-5 c =
           let e : c.if-decided.net.saved ≡ set (net_by j).saved (at * 8 + top) (saved_for t) = ap (λ (n : Net). n.saved) w.net-is ∙ ap (λ (l : List Saved). set l (at * 8 + top) (saved_for t)) (saved-same t) in
           record {
             kept =
-                subst (λ (l : List Saved). Kept (net_by j).saved l at top (decides_by j).decide-decided.result.saves (saved_for t)) (sym e)
+                subst (λ (l : List Saved). Kept (net_by j).saved l at top (after_by j).saves (saved_for t)) (sym e)
                 (kept-saved (net_by j).saved at top (saved_for t) w.if-decided.true (omega (arith, k.some, k.few)) (omega (arith, high, sixty-four t)));
             rest = w.net-is ∙ sym (ap (λ (l : List Saved). with_saved t.match-kind.net l) (ap (λ (n : Net). n.saved) w.net-is));
           }
       | else-decided w ↦
           let e : c.if-decided.net.saved ≡ (net_by j).saved = ap (λ (n : Net). n.saved) w.net-is ∙ saved-same t in
           record {
-            kept = subst (λ (l : List Saved). Kept (net_by j).saved l at top (decides_by j).decide-decided.result.saves (saved_for t)) (sym e) (kept_same (net_by j).saved at top (saved_for t) w.if-decided.false);
+            kept = subst (λ (l : List Saved). Kept (net_by j).saved l at top (after_by j).saves (saved_for t)) (sym e) (kept_same (net_by j).saved at top (saved_for t) w.if-decided.false);
             rest = w.net-is ∙ sym (ap (λ (l : List Saved). with_saved t.match-kind.net l) (ap (λ (n : Net). n.saved) w.net-is));
           }
     ]
@@ -959,9 +1006,9 @@ two-tests false b e = absurd (subst T (sym e) tt)
 
 -- the stack is one lower, and an entry stands below the top
 abbrev Lower : Keeps → Type 0
-Lower k = ((decides_by (moved_at k)).decide-decided.result.depth < depth_by k) × (1 < depth_by k)
+Lower k = ((after_by (moved_at k)).depth < depth_by k) × (1 < depth_by k)
 
-ended : (k : Keeps) → (ltb (decides_by (moved_at k)).decide-decided.result.depth (depth_by k) && ltb 1 (depth_by k)) ≡ true → Lower k
+ended : (k : Keeps) → (ltb (after_by (moved_at k)).depth (depth_by k) && ltb 1 (depth_by k)) ≡ true → Lower k
 ended k e = let h = two-tests _ _ e in (ltb-true _ _ h.0, ltb-true _ _ h.1)
 
 lower : (c : Ends) → Lower (keeps_of c)
@@ -999,8 +1046,8 @@ frames-long j = (decides_by j).bound_tables-bound_flags.ensures.1
 abbrev outer_by : Keeps → Frame
 outer_by c = get_or (situation_by (moved_at c)).thread.stack (depth_by c - 2) no_frame
 
-framed : (c : Tabled) → Framed (situation_by (moved_of c)) (decides_by (moved_of c)).decide-decided.result
-framed c = ((decided (decides_by (moved_of c))).at _ (meets (shown_by (moved_of c)))).framed (does (told_by (moved_of c)))
+framed : (c : Tabled) → Framed (situation_by (moved_of c)) (after_by (moved_of c))
+framed c = ((decided (decides_by (moved_of c))).at _ (meets (shown_by (moved_of c)))).framed (after_by (moved_of c)) (told_by (moved_of c)).in-Ok.is
 
 -- the frame that the code reads there
 abbrev frame_under : Keeps → Frame
@@ -1011,7 +1058,7 @@ outer-is k g =
     let j = moved_at k in
     let h = above-past (situation_by j).thread.depth j.over-above.result j.over-above.ensures in
     ap (λ (t : Thread). get_or t.stack (depth_by k - 2) no_frame) (moved-is j)
-    ∙ low-frame (situation_by j).thread.stack j.over-above.result (situation_by j).thread.depth j.run_frame.result (decides_by j).decide-decided.result.frame h g.1
+    ∙ low-frame (situation_by j).thread.stack j.over-above.result (situation_by j).thread.depth j.run_frame.result (after_by j).frame h g.1
 
 -- its node is there
 outer-there : (k : Keeps) → Lower k → node_in (outer_by k).entry < (net_by (moved_at k)).nodecount
@@ -1145,7 +1192,7 @@ abbrev Backs : Type 0
 Backs = Joined-decided-depth
 
 abbrev keeps_in : Backs → Keeps
-keeps_in c = (View.at-Joined-decided-depth _ _ _ _ _ _ _ _ _ _ _ _ _ c).Joined-decided
+keeps_in c = (View.at-Joined-decided-depth _ _ _ _ _ _ _ _ _ _ c).Joined-decided
 
 abbrev tabled_by : Backs → Tabled
 tabled_by c = (tabled_at (keeps_in c))
@@ -1169,16 +1216,16 @@ sees c =
     sees_bound (net_by j) (pick_by j) (okay (there_by j)) (there (there_by j)) (passed c) j.if-binds-2.thread.relations _ _ _ (ap (λ (d : M.Node). d.kind) m.node) (ap (λ (d : M.Node). d.bound) m.node) (bound-is j)
 
 -- the entry of the top frame holds what the rules say
-top_right : (c : Keeps) (i : ℕ) → (situation_by (moved_at c)).thread.depth ≤ (decides_by (moved_at c)).decide-decided.result.depth → (decides_by (moved_at c)).decide-decided.result.frame.entry ≡ Loop i →
-    saved_of (read_at (nodes_by (tabled_at c)) (decides_by (moved_at c)).decide-decided.result.frame) c.if-binds-2.thread.relations (get_or c.if-decided.net.saved ((pick_by (moved_at c)).thread * 8 + (depth_by c - 1)) no_saved)
-    ≡ saved_after (situation_by (moved_at c)) (decides_by (moved_at c)).decide-decided.result (depth_by c - 1)
+top_right : (c : Keeps) (i : ℕ) → (situation_by (moved_at c)).thread.depth ≤ (after_by (moved_at c)).depth → (after_by (moved_at c)).frame.entry ≡ Loop i →
+    saved_of (read_at (nodes_by (tabled_at c)) (after_by (moved_at c)).frame) c.if-binds-2.thread.relations (get_or c.if-decided.net.saved ((pick_by (moved_at c)).thread * 8 + (depth_by c - 1)) no_saved)
+    ≡ saved_after (situation_by (moved_at c)) (after_by (moved_at c)) (depth_by c - 1)
 top_right c =
     let t = (tabled_at c) in
     let j = (moved_of t) in
     let n = net_by j in
-    top-holds (nodes_by t) n.saved c.if-decided.net.saved (pick_by j).thread (situation_by j) (λ k. refl) (decides_by j).decide-decided.result (framed t)
+    top-holds (nodes_by t) n.saved c.if-decided.net.saved (pick_by j).thread (situation_by j) (λ k. refl) (after_by j) (framed t)
     (ap (λ (d : M.Node). d.read) (own-node j)) refl (read_low t) j.if-binds-2.thread.relations (relations-two t)
-    (λ l. loop-relations (situation_by j) (source_of (decides_by j)) (decides_by j).decide-decided.result (made j (left t).content (left t).put) l) (holds-5 c).kept
+    (λ l. loop-relations (situation_by j) (source_of (decides_by j)) (after_by j) (made j (left t).content (left t).put) l) (holds-5 c).kept
   where
     -- the node of the thread's top entry
     own-node : (j : Moved) → get_or (nodes_of (net_by j).nodecount (net_by j).nodes) (node_in (situation_by j).frame.entry) S.no_node ≡ node_of (situation_by j).node
@@ -1189,8 +1236,8 @@ top_right c =
 -- the thread after the step is the rule's
 record Backed (c : Backs) : Type 0 where
   seen : thread_of (saved_at (nodes_by (tabled_by c)) (keeps_in c).if-decided.net.saved (pick_by (moved_of (tabled_by c))).thread c.if-decided-depth.thread) c.if-decided-depth.thread ≡ becomes (nodes_by (tabled_by c)) (change_of (tabled_by c))
-  deep : c.if-decided-depth.thread.depth ≡ (decides_by (moved_of (tabled_by c))).decide-decided.result.depth
-  same : T (decides_by (moved_of (tabled_by c))).decide-decided.result.forks → c.if-decided-depth.thread ≡ (tabled_by c).if-binds-2.thread
+  deep : c.if-decided-depth.thread.depth ≡ (after_by (moved_of (tabled_by c))).depth
+  same : T (starts_thread (after_by (moved_of (tabled_by c)))) → c.if-decided-depth.thread ≡ (tabled_by c).if-binds-2.thread
 
 backed : (c : Backs) → Backed c
 backed c =
@@ -1198,7 +1245,7 @@ backed c =
     let t = (tabled_at k) in
     let j = (moved_of t) in
     let s = situation_by j in
-    let r = (decides_by j).decide-decided.result in
+    let r = (after_by j) in
     let ds = nodes_by t in
     let old = (net_by j).saved in
     let new = k.if-decided.net.saved in
@@ -1274,50 +1321,33 @@ abbrev Carried : Type 0
 Carried = Then-decided-eq0
 
 abbrev backs_of : Carried → Backs
-backs_of c = (goal.at.overflow_sub-last-then-decided-eq0 c).Joined-decided-depth
+backs_of c = (goal.at.overflow_sub-last c).Joined-decided-depth
 
 abbrev tabled_of : Carried → Tabled
 tabled_of c = tabled_by (backs_of c)
 
-pub overflow_sub-last-then-decided-eq0 : goal.overflow_sub-last-then-decided-eq0
-overflow_sub-last-then-decided-eq0 c = let h = picked-there (tabled_of c) in omega (arith, h)
+pub overflow_sub-last : goal.overflow_sub-last
+overflow_sub-last c = let h = picked-there (tabled_of c) in omega (arith, h)
 
-pub loop-gap-then-decided-eq0-init : goal.loop-gap-then-decided-eq0-init
-loop-gap-then-decided-eq0-init c = let h = picked-there (tabled_of c) in (omega (arith, h), closing_starts no_thread (keeps_in (backs_of c)).if-decided.net.threads _, refl)
+pub copy_within-requires-then-decided-eq0-clause-in_bounds : goal.copy_within-requires-then-decided-eq0-clause-in_bounds
+copy_within-requires-then-decided-eq0-clause-in_bounds c =
+    let d = (goal.at.copy_within-requires-then-decided-eq0-clause-in_bounds c).Then-decided-eq0 in
+    let few = few-running (tabled_of d) in
+    let eight = running-long (keeps_in (backs_of d)) in
+    omega (arith, few, eight)
 
--- a thread that moves is in use
-moves-thread : (c : In-loop-gap-then-decided-eq0) → c.loop-gap-then-decided-eq0.gap + 1 < 8
-moves-thread c = let h = c.loop-gap-then-decided-eq0-test.true in omega (arith, h, few-running (tabled_of (goal.at.overflow_add-next-in-loop-gap-then-decided-eq0 c).Then-decided-eq0))
-
-pub overflow_add-next-in-loop-gap-then-decided-eq0 : goal.overflow_add-next-in-loop-gap-then-decided-eq0
-overflow_add-next-in-loop-gap-then-decided-eq0 c = record { fits = let h = moves-thread c in omega (arith, h) }
-
-pub offset_bounds-net-next-in-loop-gap-then-decided-eq0 : goal.offset_bounds-net-next-in-loop-gap-then-decided-eq0
-offset_bounds-net-next-in-loop-gap-then-decided-eq0 c = record { fits = let h = moves-thread c in omega (arith, h) }
-
-pub bounds-net-next-in-loop-gap-then-decided-eq0 : goal.bounds-net-next-in-loop-gap-then-decided-eq0
-bounds-net-next-in-loop-gap-then-decided-eq0 c = let h = moves-thread c in omega (arith, h)
-
-pub offset_bounds-net-gap-in-loop-gap-then-decided-eq0 : goal.offset_bounds-net-gap-in-loop-gap-then-decided-eq0
-offset_bounds-net-gap-in-loop-gap-then-decided-eq0 c = record { fits = let h = moves-thread (goal.at.offset_bounds-net-gap-in-loop-gap-then-decided-eq0 c).In-loop-gap-then-decided-eq0 in omega (arith, h) }
-
-pub bounds-net-gap-in-loop-gap-then-decided-eq0 : goal.bounds-net-gap-in-loop-gap-then-decided-eq0
-bounds-net-gap-in-loop-gap-then-decided-eq0 c = let h = moves-thread (goal.at.bounds-net-gap-in-loop-gap-then-decided-eq0 c).In-loop-gap-then-decided-eq0 in omega (arith, h)
-
-pub loop-gap-then-decided-eq0-preserved : goal.loop-gap-then-decided-eq0-preserved
-loop-gap-then-decided-eq0-preserved c =
-    let i = (goal.at.loop-gap-then-decided-eq0-preserved c).In-loop-gap-then-decided-eq0 in
-    let l = i.loop-gap-then-decided-eq0 in
-    let k = keeps_in (backs_of (goal.at.overflow_add-next-in-loop-gap-then-decided-eq0 i).Then-decided-eq0) in
-    let h = i.loop-gap-then-decided-eq0-test.true in
-    let few = moves-thread i in
-    let eight = running-long k in
-    (omega (arith, h), closing_more no_thread k.if-decided.net.threads _ l.invariant.1 (omega (arith, few, eight)), ap (λ (n : Net). with_threads n (set l.net.threads l.gap (get_or l.net.threads (l.gap + 1) no_thread))) l.invariant.2)
+pub copy_within-requires-then-decided-eq0-clause-dest_in_bounds : goal.copy_within-requires-then-decided-eq0-clause-dest_in_bounds
+copy_within-requires-then-decided-eq0-clause-dest_in_bounds c =
+    let d = (goal.at.copy_within-requires-then-decided-eq0-clause-dest_in_bounds c).Then-decided-eq0 in
+    let h = picked-there (tabled_of d) in
+    let few = few-running (tabled_of d) in
+    let eight = running-long (keeps_in (backs_of d)) in
+    omega (arith, h, few, eight)
 
 -- ── what is saved closes up with the threads ──
 
 abbrev Closed : Type 0
-Closed = After-loop-gap-then-decided-eq0
+Closed = After-copy_within-then-decided-eq0
 
 abbrev carried_of : Closed → Carried
 carried_of c = (goal.at.overflow_mul-end c).Then-decided-eq0
@@ -1331,16 +1361,37 @@ overflow_mul-end c = record { fits = let h = last-low c in omega (arith, h) }
 pub overflow_mul-first : goal.overflow_mul-first
 overflow_mul-first c = record { fits = let h = thread-low (tabled_of (carried_of c)) in omega (arith, h) }
 
+abbrev gone_at : Closed → ℕ
+gone_at c = (pick_by (moved_of (tabled_of (carried_of c)))).thread
+
+-- the net with the threads closed up
+abbrev closed_net : Closed → Net
+closed_net c =
+    let n = (keeps_in (backs_of (carried_of c))).if-decided.net in
+    record { aliases = n.aliases; aliascount = n.aliascount; tables = n.tables; tablecount = n.tablecount; nodes = n.nodes; nodecount = n.nodecount; threads = c.copy_within-then-decided-eq0.new.self; threadcount = (net_by (moved_of (tabled_of (carried_of c)))).threadcount - 1; saved = n.saved }
+
+closing : (c : Closed) → Closing no_thread (keeps_in (backs_of (carried_of c))).if-decided.net.threads (gone_at c) ((net_by (moved_of (tabled_of (carried_of c)))).threadcount - 1) (closed_net c).threads
+closing c =
+    let k = keeps_in (backs_of (carried_of c)) in
+    let n = net_by (moved_of (tabled_of (carried_of c))) in
+    let few = few-running (tabled_of (carried_of c)) in
+    subst (Closing no_thread k.if-decided.net.threads (gone_at c) (n.threadcount - 1)) (sym c.copy_within-then-decided-eq0.ensures.after)
+    (closing_copied no_thread k.if-decided.net.threads (gone_at c) n.threadcount (picked-there (tabled_of (carried_of c))) (omega (arith, few, running-long k)))
+
+-- what is saved, before any of it moves
+closed-long : (c : Closed) → length (closed_net c).saved ≡ 64
+closed-long c = saved-long (keeps_in (backs_of (carried_of c)))
+
 pub loop-hole-init : goal.loop-hole-init
 loop-hole-init c =
     let h = picked-there (tabled_of (carried_of c)) in
-    (shifting_starts c.loop-gap-then-decided-eq0.net.threads c.loop-gap-then-decided-eq0.net.saved _, refl, omega (arith, h))
+    (shifting_starts (closed_net c).threads (closed_net c).saved _, refl, omega (arith, h))
 
 abbrev Hole : Type 0
 Hole = In-loop-hole
 
 abbrev closed_of : Hole → Closed
-closed_of c = (View.at-In-loop-hole _ _ _ _ _ _ _ _ _ _ _ _ _ c).After-loop-gap-then-decided-eq0
+closed_of c = (View.at-In-loop-hole _ _ _ _ _ _ _ _ _ _ c).After-copy_within-then-decided-eq0
 
 low-place : (c : Closed) (hole : ℕ) → hole < ((net_by (moved_of (tabled_of (carried_of c)))).threadcount - 1) * 8 → hole + 8 < 64
 low-place c hole h = let k = last-low c in omega (arith, h, k)
@@ -1349,10 +1400,10 @@ hole-low : (c : Hole) → c.loop-hole.hole + 8 < 64
 hole-low c = low-place (closed_of c) c.loop-hole.hole c.loop-hole-test.true
 
 pub offset_bounds-net-owner : goal.offset_bounds-net-owner
-offset_bounds-net-owner c = record { fits = let h = low-place (goal.at.offset_bounds-net-owner c).After-loop-gap-then-decided-eq0 c.loop-hole.hole c.loop-hole-test.true in omega (arith, h) }
+offset_bounds-net-owner c = record { fits = let h = low-place (goal.at.offset_bounds-net-owner c).After-copy_within-then-decided-eq0 c.loop-hole.hole c.loop-hole-test.true in omega (arith, h) }
 
 pub bounds-net-owner : goal.bounds-net-owner
-bounds-net-owner c = let h = low-place (goal.at.bounds-net-owner c).After-loop-gap-then-decided-eq0 c.loop-hole.hole c.loop-hole-test.true in omega (arith, h)
+bounds-net-owner c = let h = low-place (goal.at.bounds-net-owner c).After-copy_within-then-decided-eq0 c.loop-hole.hole c.loop-hole-test.true in omega (arith, h)
 
 pub overflow_add-kept : goal.overflow_add-kept
 overflow_add-kept c = record { fits = let h = hole-low (goal.at.overflow_add-kept c).In-loop-hole in omega (arith, h) }
@@ -1368,20 +1419,6 @@ offset_bounds-net-hole-then-hole-net c = record { fits = let h = hole-low (goal.
 
 pub bounds-net-hole-then-hole-net : goal.bounds-net-hole-then-hole-net
 bounds-net-hole-then-hole-net c = let h = hole-low (goal.at.bounds-net-hole-then-hole-net c).In-loop-hole in omega (arith, h)
-
--- what is saved, before any of it moves
-closed-long : (c : Closed) → length c.loop-gap-then-decided-eq0.net.saved ≡ 64
-closed-long c =
-    ap (λ (n : Net). length n.saved) c.loop-gap-then-decided-eq0.invariant.2 ∙ saved-long (keeps_in (backs_of (carried_of c)))
-
--- the net with the threads closed up, and the place of the thread that is gone
-abbrev closed_net : Closed → Net
-closed_net c =
-    let n = c.loop-gap-then-decided-eq0.net in
-    record { aliases = n.aliases; aliascount = n.aliascount; tables = n.tables; tablecount = n.tablecount; nodes = n.nodes; nodecount = n.nodecount; threads = n.threads; threadcount = (net_by (moved_of (tabled_of (carried_of c)))).threadcount - 1; saved = n.saved }
-
-abbrev gone_at : Closed → ℕ
-gone_at c = (pick_by (moved_of (tabled_of (carried_of c)))).thread
 
 -- what the loop keeps, up to this place and with this net
 abbrev Moving : Closed → Net → ℕ → Type 0
@@ -1416,8 +1453,7 @@ loop-hole-preserved c =
 pub loop-i-preserved-then-decided-eq0 : goal.loop-i-preserved-then-decided-eq0
 loop-i-preserved-then-decided-eq0 c =
     let f = c.loop-hole in
-    let d = (goal.at.loop-i-preserved-then-decided-eq0 c).After-loop-gap-then-decided-eq0 in
-    let l = d.loop-gap-then-decided-eq0 in
+    let d = (goal.at.loop-i-preserved-then-decided-eq0 c).After-copy_within-then-decided-eq0 in
     let g = carried_of d in
     let b = backs_of g in
     let q = keeps_in b in
@@ -1425,17 +1461,15 @@ loop-i-preserved-then-decided-eq0 c =
     let j = (moved_of t) in
     let n = net_by j in
     let k = n.threadcount in
-    let same = running-same q in
-    let kept = ap (λ (m : Net). m.saved) l.invariant.2 in
-    again t l.net.threads (k - 1) f.net.saved (l.invariant.1.size ∙ running-long q) (f.invariant.0.size ∙ closed-long d)
-    (thread_gone (nodes_by t) k n.threads l.net.threads n.saved q.if-decided.net.saved f.net.saved (pick_by j).thread l.gap f.hole (picked-there t) (stacks-low t)
-    (subst (λ (hs : List Thread). Closing no_thread hs (pick_by j).thread l.gap l.net.threads) same l.invariant.1) d.loop-gap-then-decided-eq0-test.false (holds-5 q).kept.beside
-    (subst (λ (z : List Saved). Shifting l.net.threads z (pick_by j).thread f.hole f.net.saved) kept f.invariant.0) c.loop-hole-test.false
-    (change_of t) g.if-decided-eq0.true (decides_by j).decide-decided.result.forks (λ h. (threads-fit t h).1))
+    let hs = (closed_net d).threads in
+    again t hs (k - 1) f.net.saved ((closing d).size ∙ running-long q) (f.invariant.0.size ∙ closed-long d)
+    (thread_gone (nodes_by t) k n.threads hs n.saved q.if-decided.net.saved f.net.saved (pick_by j).thread (k - 1) f.hole (picked-there t) (stacks-low t)
+    (subst (λ (us : List Thread). Closing no_thread us (pick_by j).thread (k - 1) hs) (running-same q) (closing d)) (omega arith) (holds-5 q).kept.beside
+    f.invariant.0 c.loop-hole-test.false
+    (change_of t) g.if-decided-eq0.true (starts_thread (after_by j)) (λ h. (threads-fit t h).1))
     (f.invariant.1
-    ∙ ap (λ (m : Net). net_with m m.tables m.tablecount l.net.threads (k - 1) f.net.saved) l.invariant.2
-    ∙ ap (λ (m : Net). net_with m m.tables m.tablecount l.net.threads (k - 1) f.net.saved) (holds-5 q).rest
-    ∙ ap (λ (m : Net). net_with m t.match-kind.net.tables t.match-kind.net.tablecount l.net.threads (k - 1) f.net.saved) (left t).stored.rest)
+    ∙ ap (λ (m : Net). net_with m m.tables m.tablecount hs (k - 1) f.net.saved) (holds-5 q).rest
+    ∙ ap (λ (m : Net). net_with m t.match-kind.net.tables t.match-kind.net.tablecount hs (k - 1) f.net.saved) (left t).stored.rest)
 
 -- ── it goes on ──
 
@@ -1454,8 +1488,8 @@ offset_bounds-net-thread_place-in-loop-i c = record { fits = let h = thread-low 
 pub bounds-net-thread_place-in-loop-i : goal.bounds-net-thread_place-in-loop-i
 bounds-net-thread_place-in-loop-i c = thread-low (tabled_in c)
 
-deep : (c : Stays) → 1 ≤ (decides_by (moved_of (tabled_in c))).decide-decided.result.depth
-deep c = let h : (decides_by (moved_of (tabled_in c))).decide-decided.result.depth ≡ 0 → ⊥ = c.if-decided-eq0.false in omega arith
+deep : (c : Stays) → 1 ≤ (after_by (moved_of (tabled_in c))).depth
+deep c = let h : (after_by (moved_of (tabled_in c))).depth ≡ 0 → ⊥ = c.if-decided-eq0.false in omega arith
 
 deep-thread : (c : Stays) → 1 ≤ (backs_in c).if-decided-depth.thread.depth
 deep-thread c = subst (λ (n : ℕ). 1 ≤ n) (sym (backed (backs_in c)).deep) (deep c)
@@ -1470,6 +1504,10 @@ put-net b hs k =
     ap (λ (n : Net). net_with n n.tables n.tablecount (hs n.threads) k q.if-decided.net.saved) (holds-5 q).rest
     ∙ ap (λ (n : Net). net_with n t.match-kind.net.tables t.match-kind.net.tablecount (hs n.threads) k q.if-decided.net.saved) (left t).stored.rest
 
+none-started : {A : Type 0} (o : Option A) → ((a : A) → o ≡ Some a → ⊥) → is_some o ≡ false
+none-started None h = refl
+none-started (Some a) h = absurd (h a refl)
+
 pub loop-i-preserved : goal.loop-i-preserved
 loop-i-preserved c =
     let b = backs_in (goal.at.loop-i-preserved c).Else-decided-eq0 in
@@ -1483,7 +1521,7 @@ loop-i-preserved c =
     let count : q.if-decided.net.threadcount ≡ k = ap (λ (m : Net). m.threadcount) (holds-5 q).rest ∙ ap (λ (m : Net). m.threadcount) (left t).stored.rest in
     again t (set n.threads (pick_by j).thread u) k q.if-decided.net.saved (length-set n.threads (pick_by j).thread u ∙ eight) (saved-long q)
     (thread-stays (nodes_by t) k n.threads n.saved q.if-decided.net.saved (pick_by j).thread (picked-there t) eight (few-running t) (stacks-low t) (holds-5 q).kept.beside u _ (backed b).seen (deep-thread (goal.at.loop-i-preserved c).Else-decided-eq0)
-    (change_of t).fork c.if-decided-2.false)
+    (change_of t).fork (none-started _ c.in_default-inner.not-Some))
     (put-net b (λ hs. set hs (pick_by j).thread u) q.if-decided.net.threadcount
     ∙ ap (λ (m : ℕ). net_with n t.match-kind.net.tables t.match-kind.net.tablecount (set n.threads (pick_by j).thread u) m q.if-decided.net.saved) count)
 
@@ -1495,8 +1533,8 @@ Forks = After-forked
 abbrev stays_of : Forks → Stays
 stays_of c = (goal.at.offset_bounds-net-threadcount c).Else-decided-eq0
 
-forking : (c : Forks) → T (decides_by (moved_of (tabled_in (stays_of c)))).decide-decided.result.forks
-forking c = T_of _ c.if-decided-2.true
+forking : (c : Forks) → T (starts_thread (after_by (moved_of (tabled_in (stays_of c)))))
+forking c = T_of _ (ap is_some c.in-Some.is)
 
 fork-few : (c : Forks) → (net_by (moved_of (tabled_in (stays_of c)))).threadcount < 8
 fork-few c = (threads-fit (tabled_in (stays_of c)) (forking c)).0
@@ -1507,11 +1545,11 @@ offset_bounds-net-threadcount c = record { fits = let h = fork-few c in omega (a
 pub bounds-net-threadcount : goal.bounds-net-threadcount
 bounds-net-threadcount c = let h = fork-few c in omega (arith, h)
 
-pub overflow_add-net-then-decided-2 : goal.overflow_add-net-then-decided-2
-overflow_add-net-then-decided-2 c = record { fits = let h = fork-few c in omega (arith, h) }
+pub overflow_add-net-in-Some : goal.overflow_add-net-in-Some
+overflow_add-net-in-Some c = record { fits = let h = fork-few c in omega (arith, h) }
 
-pub loop-i-preserved-then-decided-2 : goal.loop-i-preserved-then-decided-2
-loop-i-preserved-then-decided-2 c =
+pub loop-i-preserved-in-Some : goal.loop-i-preserved-in-Some
+loop-i-preserved-in-Some c =
     let b = backs_in (stays_of c) in
     let q = keeps_in b in
     let t = (tabled_at q) in
@@ -1526,9 +1564,10 @@ loop-i-preserved-then-decided-2 c =
     f (change_of t).fork
     (λ bs.
     c.forked.ensures.0 bs
-    ∙ ap (λ (v : Thread). record { site = v.site; bindings = bindings_of (decides_by j).decide-decided.result.inner v.relations; stack = to_run (situation_by j).node.body ∷ [] }) ((backed b).same (forking c))
-    ∙ ap (λ (x : Site). record { site = x; bindings = bindings_of (decides_by j).decide-decided.result.inner j.if-binds-2.thread.relations; stack = to_run (situation_by j).node.body ∷ [] }) (ap (λ (v : Thread). v.site) (moved-is j)))
-    c.if-decided-2.true (fork-few c))
+    ∙ ap (λ (vs : List Got). record { site = u.site; bindings = bindings_of vs u.relations; stack = to_run (situation_by j).node.body ∷ [] }) (sym (ap (λ (o : Option (List Got)). unwrap_or o (after_by j).vars) c.in-Some.is))
+    ∙ ap (λ (v : Thread). record { site = v.site; bindings = bindings_of (vars_started (after_by j)) v.relations; stack = to_run (situation_by j).node.body ∷ [] }) ((backed b).same (forking c))
+    ∙ ap (λ (x : Site). record { site = x; bindings = bindings_of (vars_started (after_by j)) j.if-binds-2.thread.relations; stack = to_run (situation_by j).node.body ∷ [] }) (ap (λ (v : Thread). v.site) (moved-is j)))
+    (ap is_some c.in-Some.is) (fork-few c))
     (put-net b (λ hs. set (set hs (pick_by j).thread u) k f) (k + 1))
 
 -- ── after the last pick ──
@@ -1558,8 +1597,8 @@ handed-on {n = n} {a = a} {u = u} {v = v} z j =
     }
 
 -- all picks are behind
-all-behind : (c : After-loop-i) → c.loop-i.i ≡ length (picks_at (View.at-After-loop-i _ _ _ _ _ _ _ _ _ _ _ _ _ c).At-loop-i)
-all-behind c = let l = (View.at-After-loop-i _ _ _ _ _ _ _ _ _ _ _ _ _ c).At-loop-i in let h = c.loop-i-test.false in omega (arith, h, l.loop-i.invariant.upto, count-is l)
+all-behind : (c : After-loop-i) → c.loop-i.i ≡ length (picks_at (View.at-After-loop-i _ _ _ _ _ _ _ _ _ _ c).At-loop-i)
+all-behind c = let l = (View.at-After-loop-i _ _ _ _ _ _ _ _ _ _ c).At-loop-i in let h = c.loop-i-test.false in omega (arith, h, l.loop-i.invariant.upto, count-is l)
 
 pub returns : goal.returns
 returns c =

@@ -13,16 +13,6 @@ abbrev pub invariant-loop-level : goal.invariant-loop-level
 invariant-loop-level l =
     (l.level ≤ l.depth) × (l.held ≡ list_any (holds (nodes_of l.net.nodecount l.net.nodes) l.node.bound) (stack_of (saved_at (nodes_of l.net.nodecount l.net.nodes) l.net.saved l.thread_place l.thread) l.level l.thread.stack))
 
--- the tables behind the one removed have moved, up to `gap`
-abbrev pub invariant-loop-gap : goal.invariant-loop-gap
-invariant-loop-gap l =
-    (l.gap ≤ l.last) × Closing no_table l.initial.net.tables l.at l.gap l.net.tables × (l.net ≡ with_tables l.initial.net l.net.tables)
-
--- the threads behind the one removed have moved, up to `gap`
-abbrev pub invariant-loop-gap-then-decided-eq0 : goal.invariant-loop-gap-then-decided-eq0
-invariant-loop-gap-then-decided-eq0 l =
-    (l.gap ≤ l.last) × Closing no_thread l.initial.net.threads l.thread_place l.gap l.net.threads × (l.net ≡ with_threads l.initial.net l.net.threads)
-
 -- what is saved for the threads behind it has moved, up to `hole`
 abbrev pub invariant-loop-hole : goal.invariant-loop-hole
 invariant-loop-hole l =

@@ -3,7 +3,6 @@ use Prim.Native.Nat.{ℕ}
 use mathlib.Core.Path.{◌≡◌, sym, ap, subst, ◌∙◌}
 use mathlib.Core.Bool.{Bool, false, cond}
 use native.Mathlib.Omega.{arith}
-use borrow.Author.Rules.{rules}
 use Rattle.values.proofs.Bools.{T_of}
 use Rattle.nets.specs.declared.Net.{Net}
 use Rattle.nets.specs.Sound.{sound}
@@ -21,8 +20,8 @@ slice_bounds-carry_out-end c = long_of c.args.pick c.count_if-length.ensures.1
 
 pub carry_out-g-requires : goal.carry_out-g-requires
 carry_out-g-requires c h =
-    let none : c.sound_parts-sure.result ≡ false → c.count_if-length.result ≡ 0 = λ e. let k = ap {B = ℕ} (λ (b : Bool). cond b 2 0) e in omega (arith, k, c.count_if-length.ensures.0) in
-    T_of (sound (view c.args.net)) (sym c.sound_parts-sure.ensures ∙ sure_of c.args.pick c.sound_parts-sure.result none h)
+    let none : c.sound_net-sure.result ≡ false → c.count_if-length.result ≡ 0 = λ e. let k = ap {B = ℕ} (λ (b : Bool). cond b 2 0) e in omega (arith, k, c.count_if-length.ensures.0) in
+    T_of (sound (view c.args.net)) (sym c.sound_net-sure.ensures ∙ sure_of c.args.pick c.sound_net-sure.result none h)
 
 pub returns : goal.returns
 returns c =
@@ -30,4 +29,4 @@ returns c =
     let a = c.args in
     let answer = g.result.answer in
     subst (λ (m : Net). StepIs a.net a.pick (record { answer = answer; net = m })) (sym c.left_by-next.ensures)
-    (carried_single a.net a.pick _ _ c.sound_parts-sure.result c.sound_parts-sure.ensures (picks_of a.pick c.sound_parts-sure.result c.count_if-length.ensures.0) g.ensures.0)
+    (carried_single a.net a.pick _ _ c.sound_net-sure.result c.sound_net-sure.ensures (picks_of a.pick c.sound_net-sure.result c.count_if-length.ensures.0) g.ensures.0)

@@ -1,6 +1,5 @@
 -- `steps::step_sound` meets its contract: one pick carried out. Assumes nothing.
 use mathlib.Core.Path.{refl, sym, subst}
-use borrow.Author.Rules.{rules}
 use lib.Dec.{T}
 use Rattle.nets.specs.declared.Net.{Net}
 use Rattle.nets.specs.Sound.{sound}

@@ -28,7 +28,7 @@ ended s m r i o out a b l e =
     ∙ ap end_to_end (sym (map-firsts (row_bytes s m) (values_of r.columns) no_row r.count r.rows))
 
 pub loop-i-preserved : goal.loop-i-preserved
-loop-i-preserved c = record { within = omega arith; full = search kept-length; filled = search one_more }
+loop-i-preserved c = record { within = omega arith; full = search kept-length; filled = one_more c.args.site c.args.name c.args.content c.loop-i.i _ _ _ c.requires.1 c.loop-i.invariant.filled (c.copy_from_slice.ensures.after ∙ c.row_record-record.ensures) }
 
 pub returns : goal.returns
 returns c = search ended

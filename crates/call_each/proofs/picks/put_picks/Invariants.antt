@@ -8,8 +8,7 @@ use Rattle.call_each.proofs.picks.put_picks.Given as goal
 abbrev pub invariant-loop-i : goal.invariant-loop-i
 invariant-loop-i l =
     record {
-      within : l.i ≤ l.count;
-      full : length l.out ≡ l.count * 2;
-      was : length l.initial.out ≡ l.count * 2;
+      within : l.i ≤ length l.picks;
+      full : length l.out ≡ length l.picks * 2;
       filled : l.out ≡ passed l.i l.picks ++ drop (l.i * 2) l.initial.out;
     }

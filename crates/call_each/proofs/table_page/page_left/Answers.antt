@@ -1,8 +1,13 @@
 -- `call_each::table_page::page_left` meets its contract: the run leaves a sound net, and its tables are those of the rule. Assumes nothing.
 use Prim.Native.Nat.{ℕ}
-use mathlib.Core.Path.{◌≡◌, refl, sym, ap, ◌∙◌}
+use mathlib.Core.Path.{◌≡◌, refl, sym, subst, ap, ◌∙◌}
 use mathlib.Core.Bool.{true}
-use mathlib.Core.List.{List}
+use mathlib.Core.List.{List, map}
+use native.Mathlib.Omega.{arith}
+use borrow.Author.Rules.{rules}
+use Rattle.std.specs.List.{list_all}
+use Rattle.values.proofs.Arrays.{long}
+use Rattle.values.proofs.Firsts.{firsts_taken}
 use lib.Dec.{T}
 use Rattle.values.specs.declared.Site.{Site}
 use Rattle.values.proofs.Bools.{is_true}
@@ -10,16 +15,16 @@ use Rattle.nets.specs.declared.Pick.{Pick}
 use Rattle.nets.specs.declared.Net as Code
 use Rattle.nets.specs.Nets.{Table, Net}
 use Rattle.nets.specs.Tables.{table_at}
-use Rattle.nets.specs.Sound.{sound}
+use Rattle.nets.specs.Sound.{table_ok, sound}
 use Rattle.nets.specs.Accounts.{after}
-use Rattle.nets.specs.View.{tables_of, view}
+use Rattle.nets.specs.View.{no_table, table_of, tables_of, view}
 use Rattle.nets.proofs.ShapeLaws.{tables_of_lem, few-tables, tables-ok}
 use Rattle.page_rules.specs.Pages.{PageOutcome, no_page, a_page, page_for, page, PageAnswer, page_refused, page_length, page_answer, buffer_after}
 use Rattle.page_lines.proofs.OutcomeLaws.{by_sound}
 use Rattle.std.specs.Prelude.{Result, Ok, Err}
 use Rattle.std.specs.Result.{MatchResult, IsErrAnd}
 use Rattle.std.proofs.lemmas.Result.{err_from_is_err_and}
-use lib.ListN.{get_or}
+use lib.ListN.{length, get_or, take}
 use Rattle.page.specs.declared.NotPaged.{NotPaged}
 use Rattle.page.specs.declared.NotPaged.TheVariants.{Unsound, NoTable, Short}
 use Rattle.call_each.specs.PageRefusals.{refused_page}
@@ -58,19 +63,28 @@ told-outcome : (p : PageOutcome) (o : List ℕ) (r : Result ℕ NotPaged) → an
 told-outcome (no_page n vs) o r e = record { number = number-is r ∙ ap number_for e; place = place-is r ∙ ap place_for e; buffer = refl }
 told-outcome (a_page bs) o r e = record { number = number-is r ∙ ap number_for e; place = place-is r ∙ ap place_for e; buffer = refl }
 
-module _ (m : Net) (ps : List Pick) (net : Code.Net) (left : view net ≡ after m ps) (ok : T (sound (view net))) (site : Site) (name : ℕ) (o : List ℕ) where
+module _ (m : Net) (ps : List Pick) (net : Code.Net) (left : view net ≡ after m ps) (ok : T (sound (view net))) (eight : length net.tables ≡ 8) (site : Site) (name : ℕ) (o : List ℕ) where
+  taken : tables_of net.tablecount net.tables ≡ map table_of (take net.tablecount net.tables)
+  taken = firsts_taken table_of no_table net.tablecount net.tables (let k = few-tables net ok in omega (arith, k, eight))
+
   abbrev outcome : PageOutcome
-  outcome = page_for (table_at site name (tables_of net.tablecount net.tables)) o
+  outcome = page_for (table_at site name (map table_of (take net.tablecount net.tables))) o
 
   outcome-is : page (after m ps) site name o ≡ outcome
-  outcome-is = ap (λ (n : Net). page n site name o) (sym left) ∙ by_sound (view net) site name o true (sym (is_true (sound (view net)) ok)) ∙ ap (λ (ts : List Table). page_for (table_at site name ts) o) (tables_of_lem net)
+  outcome-is = ap (λ (n : Net). page n site name o) (sym left) ∙ by_sound (view net) site name o true (sym (is_true (sound (view net)) ok)) ∙ ap (λ (ts : List Table). page_for (table_at site name ts) o) (tables_of_lem net ∙ taken)
 
   given : (r : Result ℕ NotPaged) (out : List ℕ) (reply : Result ℕ Refused) → answer_of r ≡ page_answer outcome → out ≡ buffer_after o outcome → reply ≡ reply_of r → Told (paged site name m ps o) o out reply
   unfolding paged
   given r out reply a b q = rw (q, b, outcome-is) (told-outcome outcome o r a)
 
 pub page_tables-requires : goal.page_tables-requires
-page_tables-requires c = (search few-tables, search tables-ok)
+page_tables-requires c =
+    let n = c.run_picks-left.result in
+    let ok = c.run_picks-left.ensures.1 in
+    subst (λ (l : List Table). T (list_all table_ok l)) (taken _ _ n c.run_picks-left.ensures.0 ok (search (long, rules)) c.args.site c.args.name c.args.out.now) (tables-ok n ok)
+
+pub shared_ref_as_front-page_tables : goal.shared_ref_as_front-page_tables
+shared_ref_as_front-page_tables c = let k = few-tables c.run_picks-left.result c.run_picks-left.ensures.1 in let eight : length c.run_picks-left.result.tables ≡ 8 = search (long, rules) in omega (arith, k, eight)
 
 -- what `map_err` gives of it
 maps : (Q : NotPaged → Refused → Type 0) (r : Result ℕ NotPaged) (s : Result ℕ Refused) → ((why : NotPaged) (told : Refused) → Q why told → told ≡ refused_page why) → MatchResult r (λ n. s ≡ Ok n) (λ why. IsErrAnd s (Q why)) → s ≡ reply_of r
@@ -81,4 +95,4 @@ pub returns : goal.returns
 returns c =
     let run = c.run_picks-left.ensures in
     let paged = c.page_tables.ensures in
-    given _ _ _ run.0 run.1 _ _ _ c.page_tables.result _ c.map_err.result paged.0 paged.1 (maps _ c.page_tables.result c.map_err.result (λ why told e. search) c.map_err.ensures.cases)
+    given _ _ _ run.0 run.1 (search (long, rules)) _ _ _ c.page_tables.result _ c.map_err.result paged.0 paged.1 (maps _ c.page_tables.result c.map_err.result (λ why told e. search) c.map_err.ensures.cases)

@@ -1,6 +1,6 @@
 -- `call_hold::bindings::put_rows` meets its contract: the records of the rows passed, then the bytes that stood there. Assumes nothing.
 use Prim.Native.Nat.{ℕ, ◌+◌, ◌-◌, ◌*◌, ◌≤◌}
-use mathlib.Core.Path.{◌≡◌, refl, sym, ap, ◌∙◌}
+use mathlib.Core.Path.{◌≡◌, sym, ap, ◌∙◌}
 use mathlib.Core.List.{List, ◌++◌, map}
 use lib.ListN.{length, get_or, drop}
 use native.Mathlib.Omega.{arith}
@@ -27,7 +27,7 @@ ended m r i o out a b l e =
     ∙ ap end_to_end (sym (map-firsts (values_record 68 m) (values_of r.columns) no_row r.count r.rows))
 
 pub loop-i-preserved : goal.loop-i-preserved
-loop-i-preserved c = record { within = omega arith; full = search kept-length; filled = search one_more }
+loop-i-preserved c = record { within = omega arith; full = search kept-length; filled = one_more c.args.number c.args.content c.loop-i.i _ _ _ c.requires.1 c.loop-i.invariant.filled (c.copy_from_slice.ensures.after ∙ c.values_record-record.ensures) }
 
 pub returns : goal.returns
 returns c = search ended

@@ -1,9 +1,9 @@
 -- `call_hold::bindings::put_variables` meets its contract: the records of the variables passed, then the bytes that stood there. Assumes nothing.
 use Prim.Native.Nat.{ℕ, ◌+◌, ◌-◌, ◌*◌, ◌≤◌}
-use mathlib.Core.Path.{◌≡◌, refl, sym, ap, ◌∙◌}
+use mathlib.Core.Path.{◌≡◌, refl, ap, ◌∙◌}
 use mathlib.Core.List.{List, [], ◌∷◌, ◌++◌}
 use native.Mathlib.Omega.{arith}
-use lib.ListN.{length, get_or, drop, get_or-map}
+use lib.ListN.{length, get_or, drop}
 use borrow.Rule.Slice.PartMut.{put_mid}
 use Rattle.values.specs.Operands.{Got}
 use Rattle.values.specs.Operands.{values_in}
@@ -31,7 +31,7 @@ unfolding along
 loop-i-init c = record { within = omega arith; full = omega arith; filled = refl }
 
 pub loop-i-preserved : goal.loop-i-preserved
-loop-i-preserved c = record { within = omega arith; full = search kept-length; filled = search one_more }
+loop-i-preserved c = record { within = omega arith; full = search kept-length; filled = one_more c.args.vars c.loop-i.i _ _ _ c.loop-i.invariant.filled (c.copy_from_slice.ensures.after ∙ c.variable_record.ensures) }
 
 pub returns : goal.returns
 returns c = search ended

@@ -35,11 +35,15 @@ module _ (f : Frame) (h : ℕ) (rs : List TableVariable) (s : Saved) (o : List �
         rw (part-size 104 (n * 104), some-given h rs s some, sym e)
         (two_fill o x y 104 (n * 104) (ap length hx ∙ entry_length (entry_alone f)) whole ∙ rw (hx, hy) refl)
 
-pub put_entry-requires : goal.put_entry-requires
-put_entry-requires c = search alone
+pub copy_from_slice-requires : goal.copy_from_slice-requires
+copy_from_slice-requires c =
+    let a = c.args in
+    alone a.f a.held a.relations a.saved a.out.now c.requires.2 c.if-held-eq0.true ∙ sym (ap length c.entry_record.ensures ∙ entry_length (entry_alone a.f))
 
 pub returns-then-held-eq0 : goal.returns-then-held-eq0
-returns-then-held-eq0 c = search alone-put
+returns-then-held-eq0 c =
+    let a = c.args in
+    alone-put a.f a.held a.relations a.saved a.out.now c.requires.2 _ c.if-held-eq0.true (c.copy_from_slice.ensures.after ∙ c.entry_record.ensures)
 
 pub bindings_records-requires : goal.bindings_records-requires
 bindings_records-requires c = search pair_ok
@@ -57,4 +61,6 @@ put_bindings-requires c =
     (search pair_ok, simp (length-take, length-drop) (omega (arith, w)))
 
 pub returns : goal.returns
-returns c = search both-put
+returns c =
+    let a = c.args in
+    both-put a.f a.held a.relations a.saved a.out.now c.requires.2 c.if-held-eq0.false c.pair_held-pair.result c.pair_held-pair.ensures c.bindings_records.result c.bindings_records.ensures.0 _ _ (c.copy_from_slice-2.ensures.after ∙ c.entry_record-2.ensures) c.put_bindings.ensures

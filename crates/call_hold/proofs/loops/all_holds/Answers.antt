@@ -2,16 +2,15 @@
 use Prim.Native.Nat.{ℕ, zero, suc, ◌+◌, ◌<◌, ◌≤◌}
 use mathlib.Core.Path.{◌≡◌, refl, sym, ap, ◌∙◌}
 use mathlib.Core.Bool.{Bool, true, false}
-use mathlib.Core.List.{List, [], ◌∷◌}
+use mathlib.Core.List.{List, [], ◌∷◌, map}
 use native.Mathlib.Omega.{arith}
 use borrow.Author.Tests.{ltb-true, ltb-false}
 use lib.Dec.{ltb}
-use lib.ListN.{get_or, set, replicate, length-set}
+use lib.ListN.{length, get_or, set, replicate, length-set}
 use lib.Seq.{get_or-set_same, get_or-set_other}
-use Rattle.values.proofs.Firsts.{firsts_at}
 use Rattle.nets.specs.declared.Node.{Node}
 use Rattle.nets.specs.Sound as S
-use Rattle.nets.specs.View.{no_node, node_of, nodes_of}
+use Rattle.nets.specs.View.{no_node, node_of}
 use Rattle.call_hold.specs.Holdings.{holds_by, HoldsAre}
 use Rattle.call_hold.proofs.loops.all_holds.Invariants.{Said}
 use Rattle.call_hold.proofs.loops.all_holds.Goals as goal
@@ -39,22 +38,26 @@ said_more ns i r holds h s e =
         rw z (get_or-set_same holds i r 0 (omega (arith, s.long)) ∙ e)
 
 -- past the nodes there is none
-past : (n : ℕ) (ns : List Node) (k : ℕ) → n ≤ k → get_or (nodes_of n ns) k S.no_node ≡ S.no_node
-past zero ns k h = refl
-past (suc n) ns zero h = absurd (omega arith)
-past (suc n) [] (suc k) h = past n [] k (omega arith)
-past (suc n) (d ∷ ns) (suc k) h = past n ns k (omega arith)
+past : (ns : List Node) (k : ℕ) → length ns ≤ k → get_or (map node_of ns) k S.no_node ≡ S.no_node
+past [] k h = refl
+past (d ∷ ns) zero h = absurd (omega arith)
+past (d ∷ ns) (suc k) h = past ns k (omega arith)
 
-said_all : (ns : List Node) (n i : ℕ) (holds : List ℕ) → i ≤ n → n ≤ i → Said ns i holds → HoldsAre (nodes_of n ns) holds
-said_all ns n i holds a b s = record { at = λ k. go k (ltb k n) refl }
+there : (ns : List Node) (k : ℕ) → k < length ns → get_or (map node_of ns) k S.no_node ≡ node_of (get_or ns k no_node)
+there [] k h = absurd (omega arith)
+there (d ∷ ns) zero h = refl
+there (d ∷ ns) (suc k) h = there ns k (omega arith)
+
+said_all : (ns : List Node) (i : ℕ) (holds : List ℕ) → i ≤ length ns → length ns ≤ i → Said ns i holds → HoldsAre (map node_of ns) holds
+said_all ns i holds a b s = record { at = λ k. go k (ltb k (length ns)) refl }
   where
-    go : (k : ℕ) (c : Bool) → ltb k n ≡ c → get_or holds k 0 ≡ holds_by (get_or (nodes_of n ns) k S.no_node)
+    go : (k : ℕ) (c : Bool) → ltb k (length ns) ≡ c → get_or holds k 0 ≡ holds_by (get_or (map node_of ns) k S.no_node)
     go k true t =
-        let q = ltb-true k n t in
-        s.passed k (omega (arith, q)) ∙ sym (ap holds_by (firsts_at node_of no_node n ns k S.no_node q))
+        let q = ltb-true k (length ns) t in
+        s.passed k (omega (arith, q)) ∙ sym (ap holds_by (there ns k q))
     go k false t =
-        let q = ltb-false k n t in
-        s.others k (omega (arith, q)) ∙ sym (ap holds_by (past n ns k q))
+        let q = ltb-false k (length ns) t in
+        s.others k (omega (arith, q)) ∙ sym (ap holds_by (past ns k q))
 
 pub loop-i-init : goal.loop-i-init
 loop-i-init c = record { within = omega arith; said = said-none _ }

@@ -1,4 +1,4 @@
-use Prim.Native.Nat.{ℕ, ◌-◌, ◌<◌, ◌≤◌}
+use Prim.Native.Nat.{ℕ, ◌<◌, ◌≤◌}
 use mathlib.Core.Path.{◌≡◌}
 use mathlib.Core.List.{List}
 use lib.ListN.{length, get_or}
@@ -16,6 +16,6 @@ pub record Said (ns : List Node) (i : ℕ) (holds : List ℕ) : Type 0 where
 abbrev pub invariant-loop-i : goal.invariant-loop-i
 invariant-loop-i l =
     record {
-      within : l.i ≤ l.count;
+      within : l.i ≤ length l.nodes;
       said : Said l.nodes l.i l.holds;
     }

@@ -57,7 +57,11 @@ slice_bounds-put_stack-start c =
     omega (arith, w)
 
 pub put_stack-requires : goal.put_stack-requires
-put_stack-requires c = (c.requires.0, search last-part)
+put_stack-requires c =
+    let a = c.args in
+    (c.requires.0, last-part a.holds a.saved a.t c.requires.0 a.out.now c.requires.1 c.bindings_records.result c.bindings_records.ensures.0 _ _ (c.copy_from_slice.ensures.after ∙ c.thread_head.ensures) c.put_bindings.ensures)
 
 pub returns : goal.returns
-returns c = search put_all
+returns c =
+    let a = c.args in
+    put_all a.holds a.saved a.t c.requires.0 a.out.now c.requires.1 c.bindings_records.result c.bindings_records.ensures.0 _ _ _ (c.copy_from_slice.ensures.after ∙ c.thread_head.ensures) c.put_bindings.ensures c.put_stack.ensures

@@ -15,6 +15,3 @@ invariant-loop-left l =
       rest : l.at + length (stack_given l.holds l.saved l.t l.left) * 104 ≡ length l.out;
       filled : end_to_end (stack_given l.holds l.saved l.t l.t.depth) ≡ take l.at l.out ++ end_to_end (stack_given l.holds l.saved l.t l.left);
     }
-
-abbrev pub decreases-loop-left : goal.decreases-loop-left
-decreases-loop-left l = l.left

@@ -10,7 +10,7 @@ use Rattle.nets.specs.Sound.{sound}
 use Rattle.nets.specs.View.{no_thread, view}
 use Rattle.call_rules.specs.Moments.{all_threads}
 use Rattle.call_hold.specs.Holdings.{HoldsAre, thread_given}
-use Rattle.call_moment.proofs.NetShapes.{nodes_in, saved_for, few-nodes, few-threads, shaped-at, given-at}
+use Rattle.call_moment.proofs.NetShapes.{nodes_in, nodes-few, nodes-said, saved_for, few-nodes, few-threads, shaped-at, given-at}
 use Rattle.call_moment.proofs.ThreadRecordLaws.{records_to, records-all, count_next}
 use borrow.Author.Rules.{rules}
 use Rattle.call_moment.proofs.threads.count_all.Goals as goal
@@ -25,10 +25,17 @@ ended net i total a b e =
     e ∙ ap (λ (m : ℕ). length (records_to net m)) q ∙ sym (ap length (records-all net))
 
 pub all_holds-holds-requires : goal.all_holds-holds-requires
-all_holds-holds-requires c = search few-nodes
+all_holds-holds-requires c =
+    let l : length c.args.net.nodes ≡ 128 = search rules in
+    nodes-few c.args.net l (few-nodes c.args.net c.requires)
+
+pub shared_ref_as_front-all_holds : goal.shared_ref_as_front-all_holds
+shared_ref_as_front-all_holds c = few-nodes c.args.net c.requires
 
 pub loop-i-init : goal.loop-i-init
-loop-i-init c = record { sound = search rules; holds = search rules; few = search few-threads; within = omega arith; counted = refl; low = omega arith }
+loop-i-init c =
+    let l : length c.args.net.nodes ≡ 128 = search rules in
+    record { sound = search rules; holds = nodes-said c.args.net l (few-nodes c.args.net c.requires) c.all_holds-holds.result c.all_holds-holds.ensures; few = search few-threads; within = omega arith; counted = refl; low = omega arith }
 
 pub count_records-total-requires : goal.count_records-total-requires
 count_records-total-requires c = search shaped-at

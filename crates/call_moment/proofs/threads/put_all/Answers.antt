@@ -13,7 +13,7 @@ use Rattle.value_bytes.specs.Bytes.{end_to_end}
 use Rattle.value_bytes.proofs.Stores.{part-size, part-written, kept-length, ends-append}
 use Rattle.call_rules.specs.Moments.{all_threads}
 use Rattle.call_hold.specs.Holdings.{HoldsAre, thread_given}
-use Rattle.call_moment.proofs.NetShapes.{nodes_in, saved_for, few-nodes, few-threads, shaped-at, given-at}
+use Rattle.call_moment.proofs.NetShapes.{nodes_in, nodes-few, nodes-said, saved_for, few-nodes, few-threads, shaped-at, given-at}
 use Rattle.call_moment.proofs.ThreadRecordLaws.{records_to, records_at, records-all, records-next, count_next, records-room, records-long}
 use borrow.Author.Rules.{rules}
 use Rattle.call_moment.proofs.threads.put_all.Goals as goal
@@ -47,10 +47,17 @@ module _ (net : Net) where
   begins o l = l ∙ ap (λ (rs : List (List ℕ)). length rs * 104) (records-all net)
 
 pub all_holds-holds-requires : goal.all_holds-holds-requires
-all_holds-holds-requires c = search few-nodes
+all_holds-holds-requires c =
+    let l : length c.args.net.nodes ≡ 128 = search rules in
+    nodes-few c.args.net l (few-nodes c.args.net c.requires.0)
+
+pub shared_ref_as_front-all_holds : goal.shared_ref_as_front-all_holds
+shared_ref_as_front-all_holds c = few-nodes c.args.net c.requires.0
 
 pub loop-i-init : goal.loop-i-init
-loop-i-init c = record { sound = search rules; holds = search rules; few = search few-threads; within = omega arith; full = search begins; low = omega arith; at = refl; filled = refl }
+loop-i-init c =
+    let l : length c.args.net.nodes ≡ 128 = search rules in
+    record { sound = search rules; holds = nodes-said c.args.net l (few-nodes c.args.net c.requires.0) c.all_holds-holds.result c.all_holds-holds.ensures; few = search few-threads; within = omega arith; full = search begins; low = omega arith; at = refl; filled = refl }
 
 pub count_records-requires : goal.count_records-requires
 count_records-requires c = search shaped-at

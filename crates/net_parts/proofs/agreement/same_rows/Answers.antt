@@ -1,42 +1,17 @@
--- `net_parts::agreement::same_rows` meets its contract: the rows that are left decide.
-use Prim.Native.Nat.{ℕ}
-use mathlib.Core.Path.{ap, ◌∙◌}
-use lib.ListN.{get_or}
+-- Lists of one length agree where all pairs of the two do.
+use Rattle.std.proofs.Common.{◌∙◌, rules, tests}
+use Rattle.std.proofs.lemmas.Iterator.{YieldsList-from_slice, YieldsList-from_zip}
+use Rattle.std.proofs.lemmas.Iterator.Search.{all_from_yields_List}
 use Rattle.values.specs.Values.{same_row}
-use Rattle.values.proofs.Firsts.{firsts_cons, firsts_end}
-use Rattle.values.proofs.Loops.{agree-more, agree-fails, agree-ends}
-use Rattle.rows.specs.View.{no_row, values_of}
-use Rattle.rows.proofs.Agreeing.{firsts-unlike}
-use borrow.Author.Rules.{rules}
+use Rattle.rows.specs.declared.Row.{Row}
+use Rattle.rows.specs.View.{values_of}
+use Rattle.net_parts.proofs.RowLaws.{all-pairs, agree-map}
 use Rattle.net_parts.proofs.agreement.same_rows.Goals as goal
 
-pub returns-then-count-b : goal.returns-then-count-b
-returns-then-count-b c =
-    let a = c.args.a in
-    let b = c.args.b in
-    firsts-unlike same_row (values_of a.columns) no_row (values_of b.columns) no_row a.count b.count a.rows b.rows c.if-count-b.true
-
-pub loop-i-preserved : goal.loop-i-preserved
-loop-i-preserved c =
-    let a = c.args.a in
-    let b = c.args.b in
-    let l = c.loop-i in (
-      search rules,
-      agree-more same_row _ l.invariant.1 (firsts_cons (values_of a.columns) no_row a.count a.rows l.i (search rules)) (firsts_cons (values_of b.columns) no_row b.count b.rows l.i (search rules))
-          (c.same_row.ensures ∙ ap (λ (w : ℕ). same_row (values_of a.columns (get_or a.rows l.i no_row)) (values_of w (get_or b.rows l.i no_row))) c.requires.2) c.if-not-same_row.false,
-    )
-
-pub returns-then-not-same_row : goal.returns-then-not-same_row
-returns-then-not-same_row c =
-    let a = c.args.a in
-    let b = c.args.b in
-    let l = c.loop-i in
-    agree-fails same_row _ l.invariant.1 (firsts_cons (values_of a.columns) no_row a.count a.rows l.i (search rules)) (firsts_cons (values_of b.columns) no_row b.count b.rows l.i (search rules))
-    (c.same_row.ensures ∙ ap (λ (w : ℕ). same_row (values_of a.columns (get_or a.rows l.i no_row)) (values_of w (get_or b.rows l.i no_row))) c.requires.2) c.if-not-same_row.true
-
-pub returns : goal.returns
-returns c =
-    let a = c.args.a in
-    let b = c.args.b in
-    let l = c.loop-i in
-    agree-ends same_row _ l.invariant.1 (firsts_end (values_of a.columns) no_row a.count a.rows l.i (search rules)) (firsts_end (values_of b.columns) no_row b.count b.rows l.i (search rules))
+pub returns-then-xs-ys : goal.returns-then-xs-ys
+returns-then-xs-ys c =
+    let a = c.args in
+    all_from_yields_List (λ (x : Row × Row). same_row (values_of a.columns x.0) (values_of a.columns x.1)) c.all.new.self _ _ c.all.ensures.ran
+    (YieldsList-from_zip (YieldsList-from_slice a.xs.now cc) (YieldsList-from_slice a.ys.now cc)) (λ x r q k. search (rules, tests))
+    ∙ all-pairs (λ (x : Row) (y : Row). same_row (values_of a.columns x) (values_of a.columns y)) a.xs.now a.ys.now c.if-xs-ys.true
+    ∙ agree-map same_row (values_of a.columns) (values_of a.columns) a.xs.now a.ys.now

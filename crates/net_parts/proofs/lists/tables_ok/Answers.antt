@@ -1,47 +1,32 @@
--- `net_parts::lists::tables_ok` meets its contract: the tables that are left decide, each with those after it.
-use Prim.Native.Nat.{◌+◌}
-use mathlib.Core.Path.{ap₂}
-use mathlib.Core.Bool.{◌&&◌}
-use lib.ListN.{get_or}
-use Rattle.values.proofs.Firsts.{length-firsts, firsts_cons, firsts_end}
-use Rattle.values.proofs.PairLaws.{tails-more, tails-fails, tails-ends}
-use Rattle.nets.specs.View.{no_table, table_of, tables_of}
-use Rattle.net_parts.proofs.DistinctLaws.{table_test, label_tested, tables-fit, tables-over}
-use borrow.Author.Rules.{rules}
+-- The tables that are left decide, each with those after it.
+use Rattle.std.proofs.Common.{◌≡◌, ◌&&◌, ◌∙◌, ℕ, ◌+◌, ◌-◌, List, Bool, map, length, take, drop, get_or, sym, ap, ap₂}
+use Rattle.std.proofs.lemmas.List.{drop-map}
+use Rattle.values.proofs.PairLaws.{tails-more, tails-fails}
+use Rattle.nets.specs.declared.Table as Code
+use Rattle.nets.specs.Tables.{rows_fit}
+use Rattle.nets.specs.Sound.{table_ok}
+use Rattle.nets.specs.View.{no_table, table_of}
+use Rattle.net_parts.proofs.Counts.{one-seen, all-after}
+use Rattle.net_parts.proofs.DistinctLaws.{table_new, table_test, tables_are}
 use Rattle.net_parts.proofs.lists.tables_ok.Goals as goal
 
-pub returns-then-count-gt8 : goal.returns-then-count-gt8
-returns-then-count-gt8 c =
-    let a = c.args in
-    tables-over (tables_of a.count a.tables) (length-firsts table_of no_table a.count a.tables) c.if-count-gt8.true
+judged : (l : List Code.Table) (i : ℕ) {t u : Bool} → t ≡ (table_ok (table_of (get_or l i no_table)) && rows_fit (table_of (get_or l i no_table)))
+    → u ≡ table_new (table_of (get_or l i no_table)) (map table_of (take (length l - (i + 1)) (drop (i + 1) l)))
+    → (t && u) ≡ table_test (table_of (get_or l i no_table)) (drop (i + 1) (map table_of l))
+judged l i p q =
+    ap₂ ◌&&◌ p (q ∙ ap (table_new (table_of (get_or l i no_table))) (ap (map table_of) (all-after l (i + 1)) ∙ sym (drop-map table_of (i + 1) l)))
 
 pub loop-i-init : goal.loop-i-init
-loop-i-init c =
-    let a = c.args in
-    tables-fit (tables_of a.count a.tables) (length-firsts table_of no_table a.count a.tables) c.if-count-gt8.false
+loop-i-init c = tables_are (map table_of c.args.tables.now)
 
 pub loop-i-preserved : goal.loop-i-preserved
 loop-i-preserved c =
-    let a = c.args in
-    let l = c.loop-i in
-    tails-more table_test _ l.invariant
-    (firsts_cons table_of no_table a.count a.tables l.i (search rules))
-    (ap₂ ◌&&◌ c.table_ok.ensures
-    (label_tested a.tables c.labels_of-labels.result a.count (search rules) c.labels_of-labels.ensures (table_of (get_or a.tables l.i no_table)) (l.i + 1) c.label_of-a.ensures c.label_new.ensures))
-    c.if-not-table_ok-label_new.false
+    let l = c.args.tables.now in
+    let i = c.loop-i.i in
+    tails-more table_test _ c.loop-i.invariant (one-seen table_of no_table l i c.loop-i-test.true) (judged l i c.table_ok.ensures c.table_new.ensures) c.if-not-table_ok-table_new.false
 
-pub returns-then-not-table_ok-label_new : goal.returns-then-not-table_ok-label_new
-returns-then-not-table_ok-label_new c =
-    let a = c.args in
-    let l = c.loop-i in
-    tails-fails table_test _ l.invariant
-    (firsts_cons table_of no_table a.count a.tables l.i (search rules))
-    (ap₂ ◌&&◌ c.table_ok.ensures
-    (label_tested a.tables c.labels_of-labels.result a.count (search rules) c.labels_of-labels.ensures (table_of (get_or a.tables l.i no_table)) (l.i + 1) c.label_of-a.ensures c.label_new.ensures))
-    c.if-not-table_ok-label_new.true
-
-pub returns : goal.returns
-returns c =
-    let a = c.args in
-    let l = c.loop-i in
-    tails-ends table_test _ l.invariant (firsts_end table_of no_table a.count a.tables l.i (search rules))
+pub returns-then-not-table_ok-table_new : goal.returns-then-not-table_ok-table_new
+returns-then-not-table_ok-table_new c =
+    let l = c.args.tables.now in
+    let i = c.loop-i.i in
+    tails-fails table_test _ c.loop-i.invariant (one-seen table_of no_table l i c.loop-i-test.true) (judged l i c.table_ok.ensures c.table_new.ensures) c.if-not-table_ok-table_new.true

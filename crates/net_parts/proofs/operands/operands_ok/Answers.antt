@@ -1,21 +1,21 @@
--- `net_parts::operands::operands_ok` meets its contract: the operands in use decide.
-use mathlib.Core.Path.{sym, ◌∙◌}
-use borrow.Author.Rules.{rules}
+-- The operands in use decide.
+use Rattle.std.proofs.Common.{◌≡◌, ◌<◌, length, rules}
 use Rattle.values.proofs.Arrays.{long}
-use Rattle.values.proofs.Firsts.{all_taken}
-use Rattle.values.proofs.Sizes.{some-over, some_fits}
-use Rattle.values.specs.declared.Operand.{Operand}
+use Rattle.values.proofs.Sizes.{some-over}
 use Rattle.rows.specs.View.{no_field}
 use Rattle.nets.specs.Sound.{tagged}
-use Rattle.net_parts.proofs.Counts.{operands_count, within}
+use Rattle.net_parts.proofs.Counts.{operands_count, some-tested}
 use Rattle.net_parts.proofs.operands.operands_ok.Goals as goal
 
-pub returns-then-count-gt4 : goal.returns-then-count-gt4
-returns-then-count-gt4 c = some-over 4 _ (operands_count c.args.t) c.if-count-gt4.true
+pub returns-in_default : goal.returns-in_default
+returns-in_default c =
+    let t = c.args.t in
+    let four : length t.fields ≡ 4 = search (long, rules) in
+    let over : 4 < t.count = search rules in
+    some-over 4 _ (operands_count t) over
 
 pub returns : goal.returns
 returns c =
     let t = c.args.t in
-    c.all_tagged.ensures
-    ∙ sym (all_taken (λ (o : Operand). o) no_field (tagged c.args.hi) t.count t.fields (within 4 (search (long, rules)) c.if-count-gt4.false))
-    ∙ some_fits 4 _ (operands_count t) c.if-count-eq0.false c.if-count-gt4.false
+    let l = c.in-Some.ensures.lookup.0 in
+    some-tested (tagged c.args.hi) no_field 4 t.count t.fields c.in-Some.used.now (search (long, rules)) l.1 l.2 c.is_empty.ensures c.all_tagged.ensures

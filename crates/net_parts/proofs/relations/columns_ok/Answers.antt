@@ -1,20 +1,17 @@
--- `net_parts::relations::columns_ok` meets its contract: the kinds in use decide.
-use Prim.Native.Nat.{ℕ}
-use mathlib.Core.Path.{sym, ◌∙◌}
-use mathlib.Core.Bool.{◌&&◌}
-use lib.Dec.{leb}
-use borrow.Author.Rules.{rules}
-use Rattle.values.proofs.Firsts.{all_taken}
-use Rattle.values.proofs.Sizes.{some-over, some_fits}
-use Rattle.net_parts.proofs.Counts.{columns-count, within}
+-- The kinds in use decide.
+use Rattle.std.proofs.Common.{ℕ, ◌≡◌, ◌<◌, length, leb, ◌&&◌, rules}
+use Rattle.values.proofs.Sizes.{some-over}
+use Rattle.net_parts.proofs.Counts.{columns-count, some-tested}
 use Rattle.net_parts.proofs.relations.columns_ok.Goals as goal
 
-pub returns-then-columns-gt4 : goal.returns-then-columns-gt4
-returns-then-columns-gt4 c = some-over 4 _ (columns-count c.args.columns c.args.kinds) c.if-columns-gt4.true
+pub returns-in_default : goal.returns-in_default
+returns-in_default c =
+    let four : length c.args.kinds ≡ 4 = search rules in
+    let over : 4 < c.args.columns = search rules in
+    some-over 4 _ (columns-count c.args.columns c.args.kinds) over
 
 pub returns : goal.returns
 returns c =
     let a = c.args in
-    c.all_kinds.ensures
-    ∙ sym (all_taken (λ (k : ℕ). k) 0 (λ k. leb 1 k && leb k 3) a.columns a.kinds (within 4 (search rules) c.if-columns-gt4.false))
-    ∙ some_fits 4 _ (columns-count a.columns a.kinds) c.if-columns-eq0.false c.if-columns-gt4.false
+    let l = c.in-Some.ensures.lookup.0 in
+    some-tested (λ (k : ℕ). leb 1 k && leb k 3) 0 4 a.columns a.kinds c.in-Some.used.now (search rules) l.1 l.2 c.is_empty.ensures c.all_kinds.ensures

@@ -1,72 +1,64 @@
--- `net_sound::threads::thread_ok` meets its contract: site, variables and table variables first, then the stack.
-use Prim.Native.Nat.{ℕ, zero, suc, ◌<◌}
-use mathlib.Core.Path.{◌≡◌, sym, ap, ◌∙◌}
-use mathlib.Core.Bool.{Bool, true, ◌&&◌, and-true}
-use mathlib.Core.List.{List, map}
-use native.Mathlib.Omega.{arith}
-use lib.Dec.{leb}
-use lib.ListN.{length, get_or, length-map}
-use borrow.Author.Tests.{eq-eqb, leb-true}
-use Rattle.std.specs.List.{list_all}
+-- The clauses in the order of the code.
+use Rattle.std.proofs.Common.{◌≡◌, ◌≤◌, ◌<◌, ◌∙◌, ℕ, List, Bool, true, false, not, ◌&&◌, refl, length, map, sym, ap, ap₂, eqb, leb, rules, arith}
+use Rattle.std.specs.Prelude.{Option}
+use Rattle.std.specs.List.{list_all, slice_range}
+use Rattle.rows.specs.Relations.{Relation}
+use mathlib.Core.Bool.{and-false}
+use borrow.Author.Tests.{lt-leb}
 use Rattle.values.specs.Values.{site_ok}
 use Rattle.values.proofs.Arrays.{long}
-use Rattle.values.proofs.Bools.{and_assoc, and_first, and_last, and-go}
+use Rattle.nets.specs.Nets.{Bindings, Node}
+use Rattle.nets.specs.declared.Frame.{Frame}
 use Rattle.nets.specs.declared.Thread.{Thread}
-use Rattle.nets.specs.View.{TableVariable}
 use Rattle.nets.specs.Sound.{relation_ok, variable_ok, bindings_ok}
-use Rattle.nets.specs.View.{no_variable, variable_of, bindings_of}
-use Rattle.net_parts.proofs.EntryLaws.{extents_are, both_of}
-use borrow.Author.Rules.{rules}
+use Rattle.nets.specs.View.{variable_of, stack_of, thread_of}
+use Rattle.nets.proofs.StackView.{length-stack}
+use Rattle.net_parts.specs.SoundParts.{frame_ok, bare_entry_ok, bare_stack_ok, bare_thread_ok}
+use Rattle.net_parts.proofs.Counts.{front, some-bounded}
+use Rattle.net_parts.proofs.HeldLaws.{frames-are}
 use Rattle.net_sound.proofs.threads.thread_ok.Goals as goal
 
-tidied : (s v a b : Bool) → (s && v && (a && b)) ≡ (s && (v && true && (a && (b && true))))
-tidied s v a b = rw (and-true v, and-true b) (sym (and_assoc s v (a && b)))
+tidied : (s v a b n q : Bool) → (s && v && (a && b) && n && q) ≡ (s && (v && a && b) && (n && q))
+tidied false v a b n q = refl
+tidied true false a b n q = refl
+tidied true true false b n q = refl
+tidied true true true false n q = refl
+tidied true true true true n q = refl
 
-module _ (t : Thread) (m : length t.vars ≡ 16) (n : length t.relations ≡ 2) where
-  first_two : list_all relation_ok (map variable_of t.relations) ≡ (relation_ok (variable_of (get_or t.relations 0 no_variable)) && (relation_ok (variable_of (get_or t.relations 1 no_variable)) && true))
-  first_two = ap (λ (l : List TableVariable). list_all relation_ok (map variable_of l)) (both_of t.relations no_variable n)
+module _ (ds : List Node) (bs : ℕ → Bindings) (t : Thread) where
+  abbrev rs : List (Option Relation)
+  rs = map variable_of t.relations
 
-  parts_are : {s v a b : Bool} → s ≡ site_ok t.site → v ≡ list_all variable_ok t.vars
-      → a ≡ relation_ok (variable_of (get_or t.relations 0 no_variable)) → b ≡ relation_ok (variable_of (get_or t.relations 1 no_variable))
-      → (s && v && (a && b)) ≡ (site_ok t.site && bindings_ok (bindings_of t.vars t.relations))
-  parts_are {s} {v} {a} {b} p q f g =
-      tidied s v a b
-      ∙ rw (eq-eqb (length t.vars) 16 (m), eq-eqb (length (map variable_of t.relations)) 2 (length-map t.relations variable_of ∙ n), first_two, p, q, f, g)
+  too-deep : 8 < t.depth → false ≡ bare_thread_ok ds (thread_of bs t)
+  too-deep h =
+      let k = length (stack_of bs t.depth t.stack) in
+      rw (lt-leb k 8 (omega (arith, length-stack bs t.depth t.stack)), and-false (leb 1 k), and-false (site_ok t.site && bindings_ok (thread_of bs t).bindings))
 
--- what a test that passed says of the two counts
-module _ (s v : Bool) (m n : ℕ) (h : (s && v && (leb m 16 && leb n 16)) ≡ true) where
-  first-low : leb m 16 ≡ true
-  first-low = and_first (leb m 16) (leb n 16) (and_last (s && v) (leb m 16 && leb n 16) h)
+  stack-is : (u : List Frame) → t.depth ≤ 8 → t.depth ≤ length t.stack → u ≡ slice_range t.stack 0 t.depth → length u ≡ t.depth → {e q : Bool} → e ≡ eqb (length u) 0 → q ≡ list_all (frame_ok ds rs) u
+      → (not e && q) ≡ bare_stack_ok ds rs (stack_of bs t.depth t.stack)
+  stack-is u i h w m p q =
+      let s = stack_of bs t.depth t.stack in
+      let n : length u ≡ length s = m ∙ sym (length-stack bs t.depth t.stack) in
+      ap₂ (λ (x y : Bool). not x && y) (p ∙ ap (λ (k : ℕ). eqb k 0) n) (q ∙ ap (list_all (frame_ok ds rs)) (w ∙ front t.depth t.stack) ∙ frames-are ds rs bs t.depth t.stack h)
+      ∙ some-bounded 8 (length s) (omega (arith, length-stack bs t.depth t.stack)) (list_all (bare_entry_ok ds rs) s)
 
-  second-low : leb n 16 ≡ true
-  second-low = and_last (leb m 16) (leb n 16) (and_last (s && v) (leb m 16 && leb n 16) h)
+  thread-is : (n q : Bool) {s v r : Bool} → s ≡ site_ok t.site → v ≡ (eqb (length t.vars) 16 && list_all variable_ok t.vars) → r ≡ (eqb (length rs) 2 && list_all relation_ok rs)
+      → (n && q) ≡ bare_stack_ok ds rs (stack_of bs t.depth t.stack) → (s && v && r && n && q) ≡ bare_thread_ok ds (thread_of bs t)
+  thread-is n q a b d f =
+      rw (a, b, d) (tidied (site_ok t.site) (eqb (length t.vars) 16 && list_all variable_ok t.vars) (eqb (length rs) 2) (list_all relation_ok rs) n q)
+      ∙ ap (λ (x : Bool). site_ok t.site && bindings_ok (thread_of bs t).bindings && x) f
 
--- both table variables are right
-each_right : (l : List TableVariable) → relation_ok (variable_of (get_or l 0 no_variable)) ≡ true → relation_ok (variable_of (get_or l 1 no_variable)) ≡ true
-    → (m : ℕ) → m < 2 → relation_ok (variable_of (get_or l m no_variable)) ≡ true
-each_right l a b zero h = a
-each_right l a b (suc zero) h = b
-each_right l a b (suc (suc m)) h = absurd (omega arith)
+pub returns-in_default : goal.returns-in_default
+returns-in_default c =
+    let t = c.args.t.now in
+    let eight : length t.stack ≡ 8 = search (long, rules) in
+    let over : 8 < t.depth = search rules in
+    λ bs. too-deep _ bs t over
 
-pub returns-then-site_ok-vars_ok : goal.returns-then-site_ok-vars_ok
-returns-then-site_ok-vars_ok c =
-    let t = c.args.t in
-    let e = c.extent_of-m in
-    let f = c.extent_of-n in
-    let x = c.site_ok in
-    let y = c.vars_ok in
-    let p = first-low x.result y.result e.result.rows f.result.rows c.if-site_ok-vars_ok.true in
-    let q = second-low x.result y.result e.result.rows f.result.rows c.if-site_ok-vars_ok.true in (
-      λ ds bs h.
-          and-go
-          (parts_are t (search (long, rules)) (search (long, rules)) x.ensures y.ensures e.ensures.0 f.ensures.0)
-          c.if-site_ok-vars_ok.true
-          (c.stack_ok.ensures.0 ds (map variable_of t.relations) bs h
-          (extents_are t.relations (search (long, rules)) (e.ensures.1 (leb-true _ 16 p)) (f.ensures.1 (leb-true _ 16 q)))),
-      λ h.
-          record {
-            depth = c.stack_ok.ensures.1 h;
-            long = search (long, rules);
-            relations = each_right t.relations (sym e.ensures.0 ∙ p) (sym f.ensures.0 ∙ q);
-          },
-    )
+pub returns : goal.returns
+returns c =
+    let t = c.args.t.now in
+    let l = c.in-Some.ensures.lookup.0 in
+    let eight : length t.stack ≡ 8 = search (long, rules) in
+    λ bs. thread-is _ bs t _ _ c.site_ok.ensures c.vars_ok.ensures c.variables_right.ensures
+    (stack-is _ bs t c.in-Some.stack.now (omega arith) l.1 l.2 (omega (arith, l.3)) c.is_empty.ensures c.stack_ok.ensures)

@@ -1,9 +1,4 @@
-use Prim.Native.Nat.{ℕ, ◌≤◌}
-use mathlib.Core.Path.{◌≡◌}
-use mathlib.Core.Bool.{Bool}
-use mathlib.Core.List.{List}
-use lib.Dec.{ltb}
-use lib.ListN.{drop}
+use Rattle.std.proofs.Common.{ℕ, ◌≡◌, ◌≤◌, Bool, List, drop, ltb}
 use Rattle.std.specs.List.{list_all}
 use Rattle.nets.specs.View.{marked}
 use Rattle.net_sound.proofs.threads.visit_ok.Given as goal

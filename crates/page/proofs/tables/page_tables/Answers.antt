@@ -1,13 +1,15 @@
 -- `page::tables::page_tables` meets its contract: no such table, too little room, or the table's page.
 use Prim.Native.Nat.{ℕ, ◌-◌, ◌≤◌, ◌<◌}
-use mathlib.Core.Path.{◌≡◌, sym, ap, ◌∙◌}
+use mathlib.Core.Path.{◌≡◌, refl, sym, subst, ap, ◌∙◌}
 use mathlib.Core.Bool.{Bool, true, false, cond}
-use mathlib.Core.List.{List, [], ◌∷◌, ◌++◌}
+use mathlib.Core.List.{List, [], ◌∷◌, ◌++◌, map}
 use Rattle.std.specs.Prelude.{Option, None, Some, is_some}
 use native.Mathlib.Nat.{sub-zero}
 use native.Mathlib.Omega.{arith}
-use lib.Dec.{leb}
-use lib.ListN.{length, get_or, drop, length-take}
+use lib.Dec.{T, leb}
+use lib.ListN.{length, get_or, get_or-map, drop, length-take}
+use Rattle.std.specs.List.{list_all}
+use Rattle.std.proofs.lemmas.List.{length-map}
 use borrow.Author.Tests.{le-ltb, le-leb, lt-leb}
 use Rattle.values.specs.declared.Site.{Site}
 use Rattle.values.specs.Lists.{place_of}
@@ -18,44 +20,31 @@ use Rattle.nets.specs.declared.Table.{Table}
 use Rattle.nets.specs.Nets as M
 use Rattle.nets.specs.Tables.{is_at, table_at}
 use Rattle.nets.specs.View.{no_table, table_of, tables_of}
-use Rattle.nets.proofs.ShapeLaws.{shaped-at, rows-ok-at}
-use Rattle.nets.proofs.TableLaws.{none_of}
-use Rattle.nets.proofs.TablePlaces.{table-there, table-at}
+use Rattle.values.proofs.ListLaws.{all-at}
+use Rattle.nets.specs.Sound.{table_ok}
+use Rattle.nets.proofs.ShapeLaws.{table-shaped, rows_ok_lem}
+use Rattle.nets.proofs.TablePlaces.{found-none, found-some}
 use Rattle.page_rules.specs.Pages.{page_of, no_page, a_page, page_refused, page_length, page_for, page_answer, buffer_after}
 use Rattle.page.proofs.tables.page_tables.Goals as goal
+use Rattle.page.proofs.tables.page_tables.Goals.{In-Some}
 
-module _ (ts : List Table) (count place : ℕ) (s : Site) (n : ℕ) (o : List ℕ) (e : place ≡ place_of (is_at s n) (tables_of count ts)) where
+module _ (ts : List Table) (s : Site) (n : ℕ) (o : List ℕ) where
   abbrev table : Option M.Table
-  table = table_at s n (tables_of count ts)
-
-  many : length (tables_of count ts) ≡ count
-  many = length-firsts table_of no_table count ts
+  table = table_at s n (map table_of ts)
 
   -- ── no such table ──
 
-  absent : count ≤ place → table ≡ None
-  absent h =
-      let l : length (tables_of count ts) ≤ place_of (is_at s n) (tables_of count ts) = omega (arith, many, e) in
-      none_of table (T_not_of (is_some table) (table-there s n (tables_of count ts) ∙ le-ltb (place_of (is_at s n) (tables_of count ts)) (length (tables_of count ts)) l))
+  absent-answer : table ≡ None → page_refused 14 [] ≡ page_answer (page_for table o)
+  absent-answer h = sym (ap (λ (t : Option M.Table). page_answer (page_for t o)) h)
 
-  absent-answer : count ≤ place → page_refused 14 [] ≡ page_answer (page_for table o)
-  absent-answer h = sym (ap (λ (t : Option M.Table). page_answer (page_for t o)) (absent h))
-
-  absent-buffer : count ≤ place → o ≡ buffer_after o (page_for table o)
-  absent-buffer h = sym (ap (λ (t : Option M.Table). buffer_after o (page_for t o)) (absent h))
+  absent-buffer : table ≡ None → o ≡ buffer_after o (page_for table o)
+  absent-buffer h = sym (ap (λ (t : Option M.Table). buffer_after o (page_for t o)) h)
 
   -- ── a table ──
 
-  module _ (below : place < count) where
+  module _ (place : ℕ) (found : table ≡ Some (table_of (get_or ts place no_table))) where
     abbrev bytes : List ℕ
     bytes = page_of (relation_of (get_or ts place no_table).content)
-
-    found : table ≡ Some (table_of (get_or ts place no_table))
-    found =
-        let l : place_of (is_at s n) (tables_of count ts) < length (tables_of count ts) = omega (arith, many, e) in
-        table-at s n (tables_of count ts) (table_of no_table) l
-        ∙ ap (λ (i : ℕ). Some (get_or (tables_of count ts) i (table_of no_table))) (sym e)
-        ∙ ap Some (firsts_at table_of no_table count ts place (table_of no_table) below)
 
     module _ (size : ℕ) (long : size ≡ length bytes) where
       by_room : (t : Bool) → leb size (length o) ≡ t → page_for table o ≡ cond t (a_page bytes) (no_page 22 (size ∷ []))
@@ -73,17 +62,41 @@ module _ (ts : List Table) (count place : ℕ) (s : Site) (n : ℕ) (o : List �
       put-buffer : (out : List ℕ) → size ≤ length o → out ≡ bytes → out ++ drop (size - 0) o ≡ buffer_after o (page_for table o)
       put-buffer out h q = rw (q, sub-zero) (ap (λ (k : ℕ). bytes ++ drop k o) long ∙ sym (ap (buffer_after o) (by_room true (le-leb size (length o) h))))
 
-pub returns-then-place-count : goal.returns-then-place-count
-returns-then-place-count c = (search absent-answer, search absent-buffer)
+-- a table of the list is in its ranges
+in-ranges : (ts : List Table) (i : ℕ) → i < length ts → T (list_all table_ok (map table_of ts)) → T (table_ok (table_of (get_or ts i no_table)))
+in-ranges ts i h ok = subst (λ (t : M.Table). T (table_ok t)) (get_or-map table_of ts i no_table) (all-at table_ok (map table_of ts) i (table_of no_table) ok (omega (arith, h, length-map ts table_of)))
+
+none-here : {A : Type 0} (o : Option A) → ((a : A) → o ≡ Some a → ⊥) → o ≡ None
+none-here None h = refl
+none-here (Some a) h = absurd (h a refl)
+
+pub returns-in_default : goal.returns-in_default
+returns-in_default c =
+    let a = c.args in
+    let h = found-none (is_at a.site a.name) table_of no_table a.tables.now (sym c.find_table.ensures ∙ none-here _ c.in_default.not-Some) in
+    (absent-answer a.tables.now a.site a.name a.out.now h, absent-buffer a.tables.now a.site a.name a.out.now h)
+
+-- the table that is found, and its ranges
+found-at : (c : In-Some) → (c.in-Some.place < length c.args.tables.now) × (table_at c.args.site c.args.name (map table_of c.args.tables.now) ≡ Some (table_of (get_or c.args.tables.now c.in-Some.place no_table)))
+found-at c = found-some (is_at c.args.site c.args.name) table_of no_table c.args.tables.now c.in-Some.place (sym c.find_table.ensures ∙ c.in-Some.is)
+
+ok-at : (c : In-Some) → T (table_ok (table_of (get_or c.args.tables.now c.in-Some.place no_table)))
+ok-at c = in-ranges c.args.tables.now c.in-Some.place (found-at c).0 c.requires
 
 pub page_size-size-requires : goal.page_size-size-requires
-page_size-size-requires c = (search shaped-at, search rows-ok-at)
+page_size-size-requires c =
+    let i = (goal.at.page_size-size-requires c).In-Some in
+    let t = get_or i.args.tables.now i.in-Some.place no_table in
+    (table-shaped t (ok-at i), rows_ok_lem (table_of t) (ok-at i))
 
 pub returns-then-out-size : goal.returns-then-out-size
-returns-then-out-size c = (search short-answer, search short-buffer)
+returns-then-out-size c = let f = (found-at (goal.at.returns-then-out-size c).In-Some).1 in (search short-answer, search short-buffer)
 
 pub put_page-requires : goal.put_page-requires
-put_page-requires c = (simp length-take (omega arith), search shaped-at, search rows-ok-at)
+put_page-requires c =
+    let i = (goal.at.put_page-requires c).In-Some in
+    let t = get_or i.args.tables.now i.in-Some.place no_table in
+    (simp length-take (omega arith), table-shaped t (ok-at i), rows_ok_lem (table_of t) (ok-at i))
 
 pub returns : goal.returns
-returns c = (search put-answer, search put-buffer)
+returns c = let f = (found-at (goal.at.returns c).In-Some).1 in (search put-answer, search put-buffer)

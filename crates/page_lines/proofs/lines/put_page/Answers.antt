@@ -27,4 +27,4 @@ module _ (r : Relation) (ok : T (rows_ok (relation_of r).rows)) (o x : List ℕ)
   filled y hy = rw (part-size, sub-zero, two_fill o x y (r.count * 53) 53 rows_long (omega arith), hx, hy) (sym (page-parts (relation_of r) ok))
 
 pub returns : goal.returns
-returns c = search filled
+returns c = filled c.args.r c.requires.2 c.args.out.now _ c.requires.0 c.put_rows.ensures _ (c.copy_from_slice.ensures.after ∙ c.sums_line.ensures)

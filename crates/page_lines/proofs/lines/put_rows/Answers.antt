@@ -4,7 +4,7 @@ use mathlib.Core.Path.{◌≡◌, refl, sym, ap, ◌∙◌}
 use mathlib.Core.List.{List, ◌++◌, map}
 use native.Mathlib.Omega.{arith}
 use lib.Dec.{T, leb}
-use lib.ListN.{length, get_or, drop, length-append, length-take, length-drop}
+use lib.ListN.{length, get_or, drop, length-append}
 use borrow.Rule.Slice.PartMut.{put_mid}
 use Rattle.values.specs.Lists.{firsts}
 use Rattle.std.specs.List.{list_all}
@@ -49,11 +49,13 @@ ended r i o out a b l e =
     ends-all (line_at r) no_row 53 r.count i r.rows o out a b l e
     ∙ ap end_to_end (sym (map-firsts row_line (values_of r.columns) no_row r.count r.rows))
 
-pub put_row-requires : goal.put_row-requires
-put_row-requires c = (simp (length-take, length-drop) (omega arith), omega arith, search row-ok)
+pub row_line-requires : goal.row_line-requires
+row_line-requires c = (omega arith, search row-ok)
 
 pub loop-i-preserved : goal.loop-i-preserved
-loop-i-preserved c = record { within = omega arith; full = search kept-length; filled = search one_more }
+loop-i-preserved c =
+    let put = c.copy_from_slice.ensures.after ∙ c.row_line.ensures in
+    record { within = omega arith; full = search kept-length; filled = search one_more }
 
 pub returns : goal.returns
 returns c = search ended

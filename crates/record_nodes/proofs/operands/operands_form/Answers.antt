@@ -13,14 +13,15 @@ form-is : (bs : List ℕ) → operands_form bs ≡ (list_all operand_form (four 
 unfolding operands_form
 form-is bs = ap (λ ps. list_all operand_form ps && then_only is_absent (map operand_in ps)) (four-parts bs)
 
-whole : (bs : List ℕ) (i j k l e f g h n : Bool)
-    → i ≡ is_absent (operand_in (part 0 8 bs)) → j ≡ is_absent (operand_in (part 8 16 bs)) → k ≡ is_absent (operand_in (part 16 24 bs)) → l ≡ is_absent (operand_in (part 24 32 bs))
-    → e ≡ operand_form (part 0 8 bs) → f ≡ operand_form (part 8 16 bs) → g ≡ operand_form (part 16 24 bs) → h ≡ operand_form (part 24 32 bs)
+whole : (bs p q r s : List ℕ) (i j k l e f g h n : Bool) → p ≡ part 0 8 bs → q ≡ part 8 16 bs → r ≡ part 16 24 bs → s ≡ part 24 32 bs
+    → i ≡ is_absent (operand_in p) → j ≡ is_absent (operand_in q) → k ≡ is_absent (operand_in r) → l ≡ is_absent (operand_in s)
+    → e ≡ operand_form p → f ≡ operand_form q → g ≡ operand_form r → h ≡ operand_form s
     → n ≡ then_only same (i ∷ j ∷ k ∷ l ∷ []) → (e && f && g && h && n) ≡ operands_form bs
-whole bs i j k l e f g h n pi pj pk pl pe pf pg ph pn =
-    let forms : (e && f && g && h) ≡ list_all operand_form (four bs) = rw (pe, pf, pg, ph) (sym (all-four operand_form (part 0 8 bs) (part 8 16 bs) (part 16 24 bs) (part 24 32 bs))) in
-    let nones : n ≡ then_only is_absent (map operand_in (four bs)) = rw (pn, pi, pj, pk, pl) (only_flags is_absent (map operand_in (four bs))) in
-    ap₂ ◌&&◌ forms nones ∙ sym (form-is bs)
+whole bs p q r s i j k l e f g h n hp hq hr hs pi pj pk pl pe pf pg ph pn =
+    let parts : p ∷ q ∷ r ∷ s ∷ [] ≡ four bs = rw (hp, hq, hr, hs) in
+    let forms : (e && f && g && h) ≡ list_all operand_form (p ∷ q ∷ r ∷ s ∷ []) = rw (pe, pf, pg, ph) (sym (all-four operand_form p q r s)) in
+    let nones : n ≡ then_only is_absent (map operand_in (p ∷ q ∷ r ∷ s ∷ [])) = rw (pn, pi, pj, pk, pl) (only_flags is_absent (map operand_in (p ∷ q ∷ r ∷ s ∷ []))) in
+    ap₂ ◌&&◌ forms nones ∙ ap (λ ps. list_all operand_form ps && then_only is_absent (map operand_in ps)) parts ∙ sym (form-is bs)
 
 pub returns : goal.returns
 returns c = search whole

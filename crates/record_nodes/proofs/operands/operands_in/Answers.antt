@@ -1,6 +1,6 @@
 -- `record_nodes::operands::operands_in` meets its contract: the operands of the four parts of 8 bytes, up to the first absent one.
 use Prim.Native.Nat.{ℕ}
-use mathlib.Core.Path.{◌≡◌, refl, sym, ap, ◌∙◌}
+use mathlib.Core.Path.{◌≡◌, sym, ap, ◌∙◌}
 use mathlib.Core.Bool.{Bool}
 use mathlib.Core.List.{List, [], ◌∷◌, map}
 use lib.ListN.{length}
@@ -14,12 +14,14 @@ use Rattle.record_nodes.proofs.operands.operands_in.Goals as goal
 abbrev fields : Operand → Operand → Operand → Operand → List Operand
 fields a b c d = a ∷ b ∷ c ∷ d ∷ []
 
-whole : (bs : List ℕ) (a b c d : Operand) (i j k l : Bool) (n : ℕ) → a ≡ operand_in (part 0 8 bs) → b ≡ operand_in (part 8 16 bs) → c ≡ operand_in (part 16 24 bs) → d ≡ operand_in (part 24 32 bs)
-    → i ≡ is_absent (operand_in (part 0 8 bs)) → j ≡ is_absent (operand_in (part 8 16 bs)) → k ≡ is_absent (operand_in (part 16 24 bs)) → l ≡ is_absent (operand_in (part 24 32 bs))
+whole : (bs p q r s : List ℕ) (a b c d : Operand) (i j k l : Bool) (n : ℕ) → p ≡ part 0 8 bs → q ≡ part 8 16 bs → r ≡ part 16 24 bs → s ≡ part 24 32 bs
+    → a ≡ operand_in p → b ≡ operand_in q → c ≡ operand_in r → d ≡ operand_in s
+    → i ≡ is_absent (operand_in p) → j ≡ is_absent (operand_in q) → k ≡ is_absent (operand_in r) → l ≡ is_absent (operand_in s)
     → n ≡ length (leading same (i ∷ j ∷ k ∷ l ∷ [])) → operands_of (record { fields = fields a b c d; count = n }) ≡ operands_in bs
-whole bs a b c d i j k l n pa pb pc pd pi pj pk pl pn =
-    let count : n ≡ length (operands_in bs) = rw (pn, pi, pj, pk, pl) (leading-flags is_absent (map operand_in (four bs)) ∙ ap length (sym (operands_are bs))) in
-    let is : operands_in bs ≡ leading is_absent (a ∷ b ∷ c ∷ d ∷ []) = operands_are bs ∙ rw (pa, pb, pc, pd) refl in
+whole bs p q r s a b c d i j k l n hp hq hr hs pa pb pc pd pi pj pk pl pn =
+    let all : map operand_in (four bs) ≡ fields a b c d = rw (pa, pb, pc, pd, hp, hq, hr, hs) in
+    let is : operands_in bs ≡ leading is_absent (fields a b c d) = operands_are bs ∙ ap (leading is_absent) all in
+    let count : n ≡ length (operands_in bs) = rw (pn, pi, pj, pk, pl, ← pa, ← pb, ← pc, ← pd) (leading-flags is_absent (fields a b c d) ∙ ap length (sym is)) in
     rw (count, is) (firsts-leading (λ (o : Operand). o) no_field is_absent (fields a b c d))
 
 pub returns : goal.returns

@@ -1,4 +1,4 @@
-use Rattle.std.proofs.Common.{◌≤◌, ◌-◌}
+use Rattle.std.proofs.Common.{◌≤◌}
 use Rattle.rows.specs.View.{no_row, values_of}
 use Rattle.row_change.proofs.SweepLaws.{Sift}
 use Rattle.row_change.proofs.sifting.sifted.Given as goal

@@ -1,18 +1,13 @@
--- Each of the four places holds what the definition gives there.
-use Rattle.std.proofs.Common.{rules, refl}
-use Rattle.values.specs.Operands.{Got}
+-- Each slot is what its operand gives, and past the operands in use there is nothing.
+use Rattle.std.proofs.Common.{rules, tests, refl}
 use Rattle.values.specs.Operands.{eval}
-use Rattle.values.specs.declared.Operand.{Operand}
-use Rattle.rows.specs.View.{no_field, no_slot}
+use Rattle.rows.specs.View.{no_field}
 use Rattle.rows.specs.Fit.{draft}
-use Rattle.rows.proofs.Fours.{fours}
+use Rattle.rows.proofs.Maps.{firsts_mapped}
 use Rattle.row_fit.proofs.fit.draft_of.Goals as goal
 
 pub returns : goal.returns
 unfolding draft
 returns c =
-    let a = c.args in (
-      fours (λ (g : Got). g) no_slot (eval a.vars) (λ (o : Operand). o) no_field a.t.count a.t.fields (search rules)
-          c.slot_of-a.ensures c.slot_of-b.ensures c.slot_of-c.ensures c.slot_of-d.ensures,
-      refl,
-    )
+    let a = c.args in
+    (firsts_mapped c.map-slots.ensures.items (search rules) no_field a.t.count (eval a.vars) (λ x y q k. search (rules, tests)), refl)

@@ -19,13 +19,13 @@ slice_bounds-carry_out-end c = lent_long c.args.picks.now c.count_if-length.ensu
 pub carry_out-g-requires : goal.carry_out-g-requires
 carry_out-g-requires c h =
     let lent = c.args.picks.now in
-    let none : c.sound_parts-sound.result ≡ false → c.count_if-length.result ≡ 0 = λ e. let k = ap {B = ℕ} (λ (b : Bool). cond b (length lent) 0) e in omega (arith, k, c.count_if-length.ensures.0) in
-    T_of (sound (view c.args.net)) (sym c.sound_parts-sound.ensures ∙ lent_sure lent c.sound_parts-sound.result none h)
+    let none : c.sound_net-sound.result ≡ false → c.count_if-length.result ≡ 0 = λ e. let k = ap {B = ℕ} (λ (b : Bool). cond b (length lent) 0) e in omega (arith, k, c.count_if-length.ensures.0) in
+    T_of (sound (view c.args.net)) (sym c.sound_net-sound.ensures ∙ lent_sure lent c.sound_net-sound.result none h)
 
 pub returns : goal.returns
 returns c =
     let g = c.carry_out-g in
     let a = c.args in
-    let flag = c.sound_parts-sound.result in
+    let flag = c.sound_net-sound.result in
     subst (λ (m : Net). RunIs a.net (picks_in a.picks.now) (record { net = m; sound = flag; added = g.result.added; taken = g.result.taken })) (sym c.left_by-next.ensures)
-    (run_carried a.net (picks_in a.picks.now) _ _ flag c.sound_parts-sound.ensures (lent_picks a.picks.now flag c.count_if-length.ensures.0) g.ensures.0)
+    (run_carried a.net (picks_in a.picks.now) _ _ flag c.sound_net-sound.ensures (lent_picks a.picks.now flag c.count_if-length.ensures.0) g.ensures.0)

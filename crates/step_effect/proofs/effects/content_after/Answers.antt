@@ -1,5 +1,9 @@
 -- `step_effect::effects::content_after` meets its contract: arm by arm. Assumes nothing.
-use mathlib.Core.Path.{refl}
+use mathlib.Core.Path.{refl, sym, ap, subst, ◌∙◌}
+use mathlib.Core.List.{map, ◌++◌}
+use native.Mathlib.Omega.{arith}
+use Rattle.rows.specs.View.{values_of, relation_of}
+use Rattle.row_change.specs.ChangeContracts.{Holds}
 use Rattle.nets.specs.View.{kind_at}
 use Rattle.step_effect.proofs.ByteLaws.{reads_none, puts_byte}
 use Rattle.step_effect.proofs.JudgeLaws.{insert-room, insert-content, append-content, append-width, append-room, delete_content, update-content}
@@ -14,7 +18,7 @@ pub append-requires : goal.append-requires
 append-requires c =
     let a = c.args in
     let k = c.in-17.is in
-    (c.requires.0.content, c.requires.0.source, append-width a.node a.content a.source a.vars k c.requires.4, append-room a.node a.content a.source a.vars k c.requires.4)
+    (c.requires.0.content, omega (arith, append-room a.node a.content a.source a.vars k c.requires.4, c.used.ensures.count))
 
 pub returns-in-21 : goal.returns-in-21
 unfolding kind_at
@@ -32,7 +36,10 @@ returns-in-16 c =
 pub returns-in-17 : goal.returns-in-17
 returns-in-17 c =
     let a = c.args in
-    append-content a.node a.content a.source a.vars c.in-17.is c.append.ensures
+    let k = c.in-17.is in
+    append-content a.node a.content a.source a.vars k
+    (subst (λ l. Holds c.append.result (relation_of a.content).columns ((relation_of a.content).rows ++ l))
+    (ap (λ n. map (values_of n) c.used.result.now) (sym (append-width a.node a.content a.source a.vars k c.requires.4)) ∙ c.used.ensures.rows) c.append.ensures)
 
 pub returns-in_default : goal.returns-in_default
 unfolding kind_at

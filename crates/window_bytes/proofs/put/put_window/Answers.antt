@@ -1,14 +1,19 @@
 -- `window_bytes::put::put_window` meets its contract: four adjacent parts fill the state.
 use Prim.Native.Nat.{◌≤◌}
 use native.Mathlib.Omega.{arith}
-use mathlib.Core.Path.{◌≡◌}
+use mathlib.Core.Path.{◌≡◌, ◌∙◌}
 use lib.ListN.{length}
-use Rattle.window_bytes.proofs.PutLaws.{window-put}
+use Rattle.window_bytes.proofs.PutLaws.{same_bytes, window-put}
 use borrow.Author.Rules.{rules}
 use Rattle.window_bytes.proofs.put.put_window.Goals as goal
 
 pub returns : goal.returns
 returns c =
-    let n : length c.args.window.ints ≡ 16 = search rules in
-    let room : c.args.window.count ≤ length c.args.window.ints = omega arith in
-    search (window-put, rules)
+    let w = c.args.window in
+    let n : length w.ints ≡ 16 = search rules in
+    let room : w.count ≤ length w.ints = omega arith in
+    window-put c.args.out.now _ _ _ _ (search rules) w c.requires room
+    (c.copy_from_slice.ensures.after ∙ c.to_le_bytes.ensures ∙ same_bytes w.width)
+    (c.copy_from_slice-2.ensures.after ∙ c.to_le_bytes-2.ensures ∙ same_bytes w.column)
+    (c.copy_from_slice-3.ensures.after ∙ c.to_le_bytes-3.ensures ∙ same_bytes w.count)
+    (c.copy_from_slice-4.ensures.after ∙ c.ints_bytes.ensures)

@@ -15,7 +15,7 @@ pub loop-i-preserved : goal.loop-i-preserved
 loop-i-preserved c =
     let p = c.args.p.now in
     let l = c.loop-i in
-    let e : c.int_in.result ≡ int_at_part p l.i = c.int_in.ensures ∙ ap (λ (n : ℕ). int_in (take n (drop (l.i * 4) p))) (part-size (l.i * 4) 4) in
+    let e : c.int_in.result ≡ int_at_part p l.i = c.int_in.ensures ∙ ap int_in c.field.ensures ∙ ap (λ (n : ℕ). int_in (take n (drop (l.i * 4) p))) (part-size (l.i * 4) 4) in
     record { full = search rules; read = fill_more (int_at_part p) l.ints l.i _ (search rules) (back w32 c.int_in.result (search rules) ∙ e) (search rules) }
 
 pub returns : goal.returns

@@ -1,16 +1,16 @@
-use Prim.Native.Nat.{◌-◌, ◌*◌, ◌≤◌}
+use Prim.Native.Nat.{◌*◌, ◌≤◌}
 use mathlib.Core.Path.{◌≡◌}
 use mathlib.Core.List.{◌++◌}
 use lib.ListN.{length, drop}
 use Rattle.write.proofs.WholeLaws.{bodies}
 use Rattle.write.proofs.tables.put_contents.Given as goal
 
-abbrev pub invariant-loop-i : goal.invariant-loop-i
-invariant-loop-i l =
+abbrev pub invariant-loop-t : goal.invariant-loop-t
+invariant-loop-t l =
     record {
-      within : l.i ≤ l.count;
-      full : length l.out ≡ length (bodies l.count l.tables);
-      few : l.at ≤ 1664 * l.i;
-      passed : length (bodies l.i l.tables) ≡ l.at;
-      filled : l.out ≡ bodies l.i l.tables ++ drop l.at l.initial.out;
+      within : l.t-index ≤ length l.tables;
+      full : length l.out ≡ length (bodies (length l.tables) l.tables);
+      few : l.at ≤ 1664 * l.t-index;
+      passed : length (bodies l.t-index l.tables) ≡ l.at;
+      filled : l.out ≡ bodies l.t-index l.tables ++ drop l.at l.initial.out;
     }

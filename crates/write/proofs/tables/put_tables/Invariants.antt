@@ -1,4 +1,4 @@
-use Prim.Native.Nat.{ℕ, ◌-◌, ◌*◌, ◌≤◌}
+use Prim.Native.Nat.{ℕ, ◌*◌, ◌≤◌}
 use mathlib.Core.Path.{◌≡◌}
 use mathlib.Core.List.{List, ◌++◌}
 use lib.ListN.{length, drop}
@@ -16,7 +16,7 @@ record_of t = table_bytes (table_of t)
 abbrev pub invariant-loop-i : goal.invariant-loop-i
 invariant-loop-i l =
     record {
-      within : l.i ≤ l.count;
-      full : length l.out ≡ l.count * 104;
+      within : l.i ≤ length l.tables;
+      full : length l.out ≡ length l.tables * 104;
       filled : l.out ≡ end_to_end (firsts record_of no_table l.i l.tables) ++ drop (l.i * 104) l.initial.out;
     }

@@ -1,13 +1,13 @@
-use Prim.Native.Nat.{◌-◌, ◌*◌, ◌≤◌}
+use Prim.Native.Nat.{◌*◌, ◌≤◌}
 use mathlib.Core.Path.{◌≡◌}
 use lib.ListN.{length}
 use Rattle.write.proofs.WholeLaws.{bodies}
 use Rattle.write.proofs.tables.total_rows.Given as goal
 
-abbrev pub invariant-loop-i : goal.invariant-loop-i
-invariant-loop-i l =
+abbrev pub invariant-loop-t : goal.invariant-loop-t
+invariant-loop-t l =
     record {
-      within : l.i ≤ l.count;
-      passed : length (bodies l.i l.tables) ≡ l.total * 104;
-      few : l.total ≤ 16 * l.i;
+      within : l.t-index ≤ length l.tables;
+      passed : length (bodies l.t-index l.tables) ≡ l.total * 104;
+      few : l.total ≤ 16 * l.t-index;
     }
