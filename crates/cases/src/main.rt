@@ -108,7 +108,7 @@ fn marked(r: Relation, s: &Selector) -> [bool; 16]
     let vars = nothing_bound();
     let plan = plan_of(s, vars);
     let terms = terms_of(none_given(), s.template.used(), vars);
-    swept(r, &plan, Pass::Mark, terms, r.column_kinds()).flags
+    swept(r, r.count, &plan, Pass::Mark, terms, r.column_kinds()).flags
 }
 
 // The rows after a pass that puts what t gives, in columns of these kinds, for those that s selects.
@@ -118,7 +118,7 @@ fn replaced(r: Relation, s: &Selector, t: Operands, pass: Pass, kinds: &[u8]) ->
     let vars = nothing_bound();
     let plan = plan_of(s, vars);
     let terms = terms_of(t, s.template.used(), vars);
-    swept(r, &plan, pass, terms, kinds)
+    swept(r, r.count, &plan, pass, terms, kinds)
 }
 
 // ---- printing
