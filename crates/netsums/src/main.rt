@@ -1,6 +1,10 @@
 // Reads a file of records on standard input, runs its picks as one run, and prints the sums of the counts and then the tables left.
 #![tactic(auto)]
 
+ghost use Rattle.step_bytes.specs.PickBytes.{picks_in};
+ghost use Rattle.runs.specs.Runs.{RunIs};
+
+use nets::Net;
 use print_lines::buffer::Buffered;
 use print_lines::lines::put_tables;
 use print_loaded::run_program;
@@ -31,8 +35,15 @@ fn print_ran(rt: &impl Print, ran: Ran) -> io::Result<()> {
     out.flush()
 }
 
+// All picks as one run.
+fn run_list(net: Net, picks: &[u8]) -> Ran
+    ensures { RunIs net (picks_in picks.now) result }
+{
+    run_bytes(net, picks)
+}
+
 fn main(rt: HostRuntime) -> ExitCode {
     run_program(&rt, &mut rt.stdin(), "netsums", |net, picks| {
-        print_ran(&rt, run_bytes(net, picks))
+        print_ran(&rt, run_list(net, picks))
     })
 }
