@@ -7,6 +7,7 @@ ghost use Rattle.runs.specs.Runs.{RunIs};
 use nets::Net;
 use print_lines::buffer::Buffered;
 use print_lines::lines::put_tables;
+use print_lines::numbers::put_decimal;
 use print_loaded::run_program;
 use run_state::Ran;
 use runs::bytes::run_bytes;
@@ -17,10 +18,11 @@ use value_totals::Total;
 
 // The high half of a sum stands there where it counts.
 fn put_total(out: &mut impl Write, t: Total) -> io::Result<()> {
-    match t.high {
-        0 => write!(out, "{}", t.low),
-        high => write!(out, "{high} * 2^64 + {}", t.low),
+    if t.high != 0 {
+        put_decimal(out, t.high)?;
+        write!(out, " * 2^64 + ")?;
     }
+    put_decimal(out, t.low)
 }
 
 // Gives an error where not all of it was written.
