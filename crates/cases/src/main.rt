@@ -8,6 +8,7 @@ ghost use Rattle.cases.specs.Kld.{Kld};
 
 use print_lines::buffer::Buffered;
 use print_lines::cells::{put_rows, put_value};
+use print_lines::numbers::put_decimal;
 use row_aggregate::aggregate;
 use row_change::appending::push;
 use row_change::sifting::{count_marks, sifted};
@@ -141,7 +142,8 @@ fn put_looks(out: &mut impl Write, r: Relation, template: &[Operand]) -> io::Res
     write!(out, "fields looked at")?;
     for row in r.used() {
         let m = match_row(template, nothing_bound(), row.values(r.columns));
-        write!(out, " {}", m.looked)?;
+        write!(out, " ")?;
+        put_decimal(out, m.looked as u64)?;
     }
     writeln!(out)
 }
@@ -261,7 +263,9 @@ fn sold(out: &mut impl Write, r: Relation) -> io::Result<()>
     };
     let Swept { rows, flags } = replaced(r, &s, t, Pass::Update, r.column_kinds());
     let next = Relation { rows, ..r };
-    writeln!(out, "two red 37 sold, rows replaced {}", count_marks(flags))?;
+    write!(out, "two red 37 sold, rows replaced ")?;
+    put_decimal(out, count_marks(flags) as u64)?;
+    writeln!(out)?;
     put_rows(out, &next)?;
     put_looks(out, r, template.used())
 }

@@ -14,11 +14,11 @@ use Rattle.nets.proofs.ShapeLaws.{few-tables, tables-ok}
 use Rattle.netpage.proofs.print_run.Goals as goal
 
 pub shared_ref_as_front-put_tables : goal.shared_ref_as_front-put_tables
-shared_ref_as_front-put_tables g c = few-tables c.run_picks-left.result c.run_picks-left.ensures.1
+shared_ref_as_front-put_tables g c = few-tables c.run-left.result c.run-left.ensures.1
 
 pub put_tables-requires : goal.put_tables-requires
 put_tables-requires g c =
-    let net = c.run_picks-left.result in
-    let sound = c.run_picks-left.ensures.1 in
+    let net = c.run-left.result in
+    let sound = c.run-left.ensures.1 in
     let l : length net.tables ≡ 8 = search rules in
     subst (λ (ts : List M.Table). T (list_all table_ok ts)) (firsts_taken table_of no_table net.tablecount net.tables (omega (arith, few-tables net sound, l))) (tables-ok net sound)
