@@ -13,7 +13,7 @@ ghost use Rattle.load.specs.Lengths.{LengthPasses, LengthFails, Finishes};
 
 use files::{Fault, Loaded};
 use load_groups::aliases::aliases_from;
-use load_groups::blanks::{blank_net, blank_saved};
+use load_groups::blanks::blank_net;
 use load_groups::contents::rows_from;
 use load_groups::ending::reach_end;
 use load_groups::nodes::nodes_from;
@@ -22,7 +22,7 @@ use load_groups::starts::starts_from;
 use load_groups::tables::tables_from;
 use load_links::bad_link;
 use load_walk::Reach;
-use nets::{Net, Pick};
+use nets::Pick;
 use record_bytes::RECORD;
 
 // Checks 1 and 2, which ask for the length alone: of a file in memory, or of one that is longer than any that loads.
@@ -45,11 +45,11 @@ pub fn length_fault(length: usize) -> Result<(), Fault>
     Ok(())
 }
 
-// Checks 3 to 8, group after group.
-fn read_all(file: &[u8]) -> Result<Loaded, Fault>
+// Checks 3 to 8, group after group. What the records give goes where the net stands, since a net of 83 KB in a `Result` is copied by each that hands it on.
+fn read_all(file: &[u8], loaded: &mut Loaded) -> Result<(), Fault>
     requires { Whole file.now }
     ensures { MatchResult result
-        (λ read. (result_err read.verdict ≡ None) × Finishes (read_all 0 nothing_read (records_in file.now)) (view read.net) (first_picks read.pickcount read.picks))
+        (λ done. (loaded.new.verdict ≡ loaded.old.verdict) × Finishes (read_all 0 nothing_read (records_in file.now)) (view loaded.new.net) (first_picks loaded.new.pickcount loaded.new.picks))
         (λ fault. read_all 0 nothing_read (records_in file.now) ≡ stopped fault.number fault.place) }
 {
     let start = Reach { place: 0, group: 0 };
@@ -65,40 +65,44 @@ fn read_all(file: &[u8]) -> Result<Loaded, Fault>
     let nodes = n.items;
     let threads = s.items;
     let picks = p.items;
-    let saved = blank_saved();
-    Ok(Loaded {
-        verdict: Ok(()),
-        net: Net {
-            aliases,
-            aliascount: a.count,
-            tables,
-            tablecount: r.count,
-            nodes,
-            nodecount: n.count,
-            threads,
-            threadcount: s.count,
-            saved: [saved; 64],
-        },
-        picks,
-        pickcount: p.count,
-    })
+    loaded.net.aliases = aliases;
+    loaded.net.aliascount = a.count;
+    loaded.net.tables = tables;
+    loaded.net.tablecount = r.count;
+    loaded.net.nodes = nodes;
+    loaded.net.nodecount = n.count;
+    loaded.net.threads = threads;
+    loaded.net.threadcount = s.count;
+    loaded.picks = picks;
+    loaded.pickcount = p.count;
+    Ok(())
 }
 
 // The first fault of checks 1 to 9, or what the records gave.
-fn file_read(file: &[u8]) -> Result<Loaded, Fault>
+fn file_read(file: &[u8], loaded: &mut Loaded) -> Result<(), Fault>
+    requires { result_err loaded.old.verdict ≡ None }
     ensures { MatchResult result
-        (λ loaded. LoadIs file.now loaded)
+        (λ done. LoadIs file.now loaded.new)
         (λ fault. load_bytes file.now ≡ rejected fault.number fault.place) }
 {
     length_fault(file.len())?;
-    // Looked at where it stands and handed on whole: taken out by `?`, all 83 KB were copied twice more.
-    let read = read_all(file);
-    if let Ok(loaded) = &read {
-        if let Some(place) = bad_link(file, loaded.net.nodecount) {
-            return Err(Fault { number: 9, place });
-        }
+    read_all(file, loaded)?;
+    match bad_link(file, loaded.net.nodecount) {
+        Some(place) => Err(Fault { number: 9, place }),
+        None => Ok(()),
     }
-    read
+}
+
+// Nothing loaded: the empty net and no picks.
+fn nothing_loaded() -> Loaded
+    ensures { (result_err result.verdict ≡ None) × (result.net ≡ blank_net) × (result.pickcount ≡ 0) }
+{
+    Loaded {
+        verdict: Ok(()),
+        net: blank_net(),
+        picks: [Pick { thread: 0, row: 0 }; 256],
+        pickcount: 0,
+    }
 }
 
 // A refused file: the empty net and no picks.
@@ -107,9 +111,7 @@ fn refused(fault: Fault) -> Loaded
 {
     Loaded {
         verdict: Err(fault),
-        net: blank_net(),
-        picks: [Pick { thread: 0, row: 0 }; 256],
-        pickcount: 0,
+        ..nothing_loaded()
     }
 }
 
@@ -117,8 +119,9 @@ fn refused(fault: Fault) -> Loaded
 pub fn load(file: &[u8]) -> Loaded
     ensures { LoadIs file.now result }
 {
-    match file_read(file) {
-        Ok(loaded) => loaded,
+    let mut loaded = nothing_loaded();
+    match file_read(file, &mut loaded) {
+        Ok(()) => loaded,
         Err(fault) => refused(fault),
     }
 }

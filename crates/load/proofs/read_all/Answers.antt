@@ -2,7 +2,6 @@
 use Prim.Native.Nat.{ℕ}
 use mathlib.Core.Path.{◌≡◌, refl, ◌∙◌}
 use mathlib.Core.List.{List, []}
-use lib.ListN.{replicate}
 use Rattle.std.specs.Prelude.{Err}
 use Rattle.nets.specs.View.{aliases_of, tables_of, nodes_of, threads_of, view}
 use Rattle.record_bytes.specs.Decoding.{records_in}
@@ -74,4 +73,4 @@ returns-in_err-reach_end c =
 
 pub returns : goal.returns
 unfolding view
-returns c = (refl, over c.args.file.now _ (put_picks (first_picks c.in_ok-p.p.count c.in_ok-p.p.items) (put_threads (threads_of (nodes_of c.in_ok-n.n.count c.in_ok-n.n.items) (replicate 64 c.blank_saved-saved.result) c.in_ok-s.s.count c.in_ok-s.s.items) (put_nodes (nodes_of c.in_ok-n.n.count c.in_ok-n.n.items) (put_tables (tables_of c.in_ok-r.r.count c.in_ok-r.r.items) (put_aliases (aliases_of c.in_ok-a.a.count c.in_ok-a.a.items) nothing_read))))) (on c.args.file.now (put_threads (threads_of (nodes_of c.in_ok-n.n.count c.in_ok-n.n.items) (replicate 64 c.blank_saved-saved.result) c.in_ok-s.s.count c.in_ok-s.s.items) (put_nodes (nodes_of c.in_ok-n.n.count c.in_ok-n.n.items) (put_tables (tables_of c.in_ok-r.r.count c.in_ok-r.r.items) (put_aliases (aliases_of c.in_ok-a.a.count c.in_ok-a.a.items) nothing_read)))) (on c.args.file.now (put_nodes (nodes_of c.in_ok-n.n.count c.in_ok-n.n.items) (put_tables (tables_of c.in_ok-r.r.count c.in_ok-r.r.items) (put_aliases (aliases_of c.in_ok-a.a.count c.in_ok-a.a.items) nothing_read))) (on c.args.file.now (put_tables (tables_of c.in_ok-r.r.count c.in_ok-r.r.items) (put_aliases (aliases_of c.in_ok-a.a.count c.in_ok-a.a.items) nothing_read)) (on c.args.file.now (put_aliases (aliases_of c.in_ok-a.a.count c.in_ok-a.a.items) nothing_read) (on c.args.file.now (put_aliases (aliases_of c.in_ok-a.a.count c.in_ok-a.a.items) nothing_read) (on c.args.file.now nothing_read (start c.args.file.now) c.in_ok-a.ensures.0) c.in_ok-t.ensures.0.0) c.in_ok-r.ensures.0.0) c.in_ok-n.ensures.0) (c.in_ok-s.ensures.0 (nodes_of c.in_ok-n.n.count c.in_ok-n.n.items) (replicate 64 c.blank_saved-saved.result))) c.in_ok-p.ensures.0) c.in_ok-reach_end.ensures)
+returns c = (refl, over c.args.file.now _ (put_picks (first_picks c.in_ok-p.p.count c.in_ok-p.p.items) (put_threads (threads_of (nodes_of c.in_ok-n.n.count c.in_ok-n.n.items) c.args.loaded.now.net.saved c.in_ok-s.s.count c.in_ok-s.s.items) (put_nodes (nodes_of c.in_ok-n.n.count c.in_ok-n.n.items) (put_tables (tables_of c.in_ok-r.r.count c.in_ok-r.r.items) (put_aliases (aliases_of c.in_ok-a.a.count c.in_ok-a.a.items) nothing_read))))) (on c.args.file.now (put_threads (threads_of (nodes_of c.in_ok-n.n.count c.in_ok-n.n.items) c.args.loaded.now.net.saved c.in_ok-s.s.count c.in_ok-s.s.items) (put_nodes (nodes_of c.in_ok-n.n.count c.in_ok-n.n.items) (put_tables (tables_of c.in_ok-r.r.count c.in_ok-r.r.items) (put_aliases (aliases_of c.in_ok-a.a.count c.in_ok-a.a.items) nothing_read)))) (on c.args.file.now (put_nodes (nodes_of c.in_ok-n.n.count c.in_ok-n.n.items) (put_tables (tables_of c.in_ok-r.r.count c.in_ok-r.r.items) (put_aliases (aliases_of c.in_ok-a.a.count c.in_ok-a.a.items) nothing_read))) (on c.args.file.now (put_tables (tables_of c.in_ok-r.r.count c.in_ok-r.r.items) (put_aliases (aliases_of c.in_ok-a.a.count c.in_ok-a.a.items) nothing_read)) (on c.args.file.now (put_aliases (aliases_of c.in_ok-a.a.count c.in_ok-a.a.items) nothing_read) (on c.args.file.now (put_aliases (aliases_of c.in_ok-a.a.count c.in_ok-a.a.items) nothing_read) (on c.args.file.now nothing_read (start c.args.file.now) c.in_ok-a.ensures.0) c.in_ok-t.ensures.0.0) c.in_ok-r.ensures.0.0) c.in_ok-n.ensures.0) (c.in_ok-s.ensures.0 (nodes_of c.in_ok-n.n.count c.in_ok-n.n.items) c.args.loaded.now.net.saved)) c.in_ok-p.ensures.0) c.in_ok-reach_end.ensures)
