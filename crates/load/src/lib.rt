@@ -111,31 +111,30 @@ fn refused(fault: Fault) -> Loaded
 pub fn load(file: &[u8]) -> Loaded
     ensures { LoadIs file.now result }
 {
-    match file_read(file) {
-        Ok(read) => {
-            let aliases = read.aliases.items;
-            let tables = read.tables.items;
-            let nodes = read.nodes.items;
-            let threads = read.threads.items;
-            let picks = read.picks.items;
-            let saved = blank_saved();
-            Loaded {
-                verdict: Ok(()),
-                net: Net {
-                    aliases,
-                    aliascount: read.aliases.count,
-                    tables,
-                    tablecount: read.tables.count,
-                    nodes,
-                    nodecount: read.nodes.count,
-                    threads,
-                    threadcount: read.threads.count,
-                    saved: [saved; 64],
-                },
-                picks,
-                pickcount: read.picks.count,
-            }
-        }
-        Err(fault) => refused(fault),
+    let read = match file_read(file) {
+        Ok(read) => read,
+        Err(fault) => return refused(fault),
+    };
+    let aliases = read.aliases.items;
+    let tables = read.tables.items;
+    let nodes = read.nodes.items;
+    let threads = read.threads.items;
+    let picks = read.picks.items;
+    let saved = blank_saved();
+    Loaded {
+        verdict: Ok(()),
+        net: Net {
+            aliases,
+            aliascount: read.aliases.count,
+            tables,
+            tablecount: read.tables.count,
+            nodes,
+            nodecount: read.nodes.count,
+            threads,
+            threadcount: read.threads.count,
+            saved: [saved; 64],
+        },
+        picks,
+        pickcount: read.picks.count,
     }
 }

@@ -58,7 +58,8 @@ fn print_run(rt: &impl Print, start: Net, picks: &[u8]) -> io::Result<()>
 {
     let left = run(start, picks);
     let mut out = Buffered::new(rt);
-    put_tables(&mut out, &left.tables[..left.tablecount])?;
+    let tables = left.tables;
+    put_tables(&mut out, &tables[..left.tablecount])?;
     out.flush()
 }
 

@@ -33,7 +33,8 @@ fn print_ran(rt: &impl Print, ran: Ran) -> io::Result<()> {
     write!(out, " ")?;
     put_total(&mut out, ran.taken)?;
     writeln!(out)?;
-    put_tables(&mut out, &ran.net.tables[..ran.net.tablecount.min(8)])?;
+    let tables = ran.net.tables;
+    put_tables(&mut out, &tables[..ran.net.tablecount.min(8)])?;
     out.flush()
 }
 

@@ -42,8 +42,9 @@ fn print_file<F: FnOnce(Net, &[u8]) -> io::Result<()>>(
     match loaded.verdict {
         Ok(()) => {
             let mut bytes = [0u8; 512];
+            let net = loaded.net;
             print(
-                loaded.net,
+                net,
                 lent(&mut bytes, loaded.picks, loaded.pickcount.min(256)),
             )
         }

@@ -13,8 +13,11 @@ use Rattle.nets.specs.View.{no_table, table_of}
 use Rattle.nets.proofs.ShapeLaws.{few-tables, tables-ok}
 use Rattle.netpage.proofs.print_run.Goals as goal
 
-pub shared_ref_as_front-put_tables : goal.shared_ref_as_front-put_tables
-shared_ref_as_front-put_tables g c = few-tables c.run-left.result c.run-left.ensures.1
+pub slice_bounds-tables-end : goal.slice_bounds-tables-end
+slice_bounds-tables-end g c = few-tables c.run-left.result c.run-left.ensures.1
+
+pub slice_bounds-put_tables-end : goal.slice_bounds-put_tables-end
+slice_bounds-put_tables-end g c = few-tables c.run-left.result c.run-left.ensures.1
 
 pub put_tables-requires : goal.put_tables-requires
 put_tables-requires g c =
