@@ -1,12 +1,22 @@
 // Whole runs over lists of picks.
-ghost use Rattle.std.specs.Prelude.{◌≤◌};
+ghost use Rattle.std.specs.Prelude.{◌≤◌, take};
+ghost use Rattle.runs.specs.Runs.{RunIs};
 
 use crate::starting::start;
 use crate::summing::{with, with_net};
 use net_sound::whole::sound_net;
 use nets::{Net, Pick};
+use run_state::Ran;
 use runs::bytes::run_bytes;
 use runs::running::run;
+
+// A run over the first `count` picks: here the array and the count become a slice.
+fn lend(net: Net, picks: &[Pick; 100000], count: usize) -> Ran
+    requires { count ≤ 100000 }
+    ensures { RunIs net (take count picks.now) result }
+{
+    run(net, &picks[..count])
+}
 
 // As many picks as the bytes have, 100,000 at most.
 fn count_of(bytes: &[u8]) -> usize
@@ -35,7 +45,7 @@ pub extern "C" fn bench_runs(tables: &[u8], program: &[u8], bytes: &[u8], repeat
     let mut left = net;
     let mut sum = 0;
     for _ in 0..repeats {
-        let r = run(net, &picks[..count]);
+        let r = lend(net, &picks, count);
         sum = with(with(sum, r.added.low), r.taken.low);
         left = r.net;
     }

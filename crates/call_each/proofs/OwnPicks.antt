@@ -3,7 +3,7 @@ use Prim.Native.Nat.{ℕ, zero, suc, ◌+◌, ◌-◌, ◌*◌, ◌%◌, ◌≤�
 use mathlib.Core.Path.{◌≡◌, refl, sym, ap, ◌∙◌}
 use mathlib.Core.Bool.{Bool, true, false, cond}
 use mathlib.Core.List.{List, [], ◌∷◌, ◌++◌, map}
-use Rattle.std.specs.Prelude.{Option, None, Some, Result, Err}
+use Rattle.std.specs.Prelude.{Option, None, Some}
 use native.Mathlib.Omega.{arith}
 use lib.Dec.{eqb, leb}
 use lib.ListN.{length, get_or, take, drop, length-append, length-map}
@@ -24,10 +24,7 @@ use Rattle.files.specs.Loading.{Progress, nothing_read, picks_of, advance, load_
 use Rattle.files.specs.Engine.{LoadIs}
 use Rattle.call_rules.specs.Layouts.{picks_put}
 use Rattle.call_rules.specs.Replies.{Called, refusing, if_room}
-use Rattle.call_rules.specs.Calls.{on_loaded, number_in, place_in}
-use Rattle.call_rules.specs.declared.Refused.{Refused}
-use Rattle.call_rules.specs.declared.Refused.TheVariants.{File}
-use Rattle.call_rules.specs.Openings.{Told}
+use Rattle.call_rules.specs.Calls.{on_loaded, number_in, place_in, Gives}
 
 -- ── how many ──
 
@@ -125,13 +122,13 @@ abbrev told : Option Fault → Called
 told None = refusing 0 0
 told (Some f) = refusing f.number f.place
 
-pub picks-refused : (x : LoadAnswer) (made : Net → List Pick → Called) (o : List ℕ) (f : Fault) → Some f ≡ fault_of x → Told (on_loaded made x) o o (Err (File f))
+pub picks-refused : (x : LoadAnswer) (made : Net → List Pick → Called) (o : List ℕ) (f : Fault) → Some f ≡ fault_of x → Gives (on_loaded made x) o o f.number f.place
 picks-refused (rejected m j) made o f q =
     let r : refusing f.number f.place ≡ refusing m j = ap told q in
     record { number = ap number_in r; place = ap place_in r; buffer = refl }
 picks-refused (accepted net own) made o f q = let z : ◌≡◌ {A = ℕ} 0 1 = cc in absurd (omega arith)
 
-pub picks-accepted : (x : LoadAnswer) (o out : List ℕ) (ps : List Pick) (r : Result ℕ Refused) → None ≡ fault_of x → ps ≡ picks_loaded x →
-    Told (if_room (picks_put ps) o) o out r → Told (on_loaded (λ net own. if_room (picks_put own) o) x) o out r
-picks-accepted (rejected m j) o out ps r q p g = let z : ◌≡◌ {A = ℕ} 0 1 = cc in absurd (omega arith)
-picks-accepted (accepted net own) o out ps r q p g = rw (sym p) g
+pub picks-accepted : (x : LoadAnswer) (o out : List ℕ) (ps : List Pick) (n i : ℕ) → None ≡ fault_of x → ps ≡ picks_loaded x →
+    Gives (if_room (picks_put ps) o) o out n i → Gives (on_loaded (λ net own. if_room (picks_put own) o) x) o out n i
+picks-accepted (rejected m j) o out ps n i q p g = let z : ◌≡◌ {A = ℕ} 0 1 = cc in absurd (omega arith)
+picks-accepted (accepted net own) o out ps n i q p g = rw (sym p) g

@@ -1,8 +1,8 @@
 // The call for a file's own picks.
-ghost use Rattle.std.specs.Prelude.{◌≡◌, ◌*◌, ◌≤◌, length};
+ghost use Rattle.std.specs.Prelude.{◌≡◌, ◌*◌, ◌≤◌, ◌<◌, length, IfErr};
 ghost use Rattle.call_rules.specs.Layouts.{picks_put};
 ghost use Rattle.call_rules.specs.Replies.{if_room};
-ghost use Rattle.call_rules.specs.Openings.{Told, number_told, place_told};
+ghost use Rattle.call_rules.specs.Openings.{Told, number_of, number_told, place_told};
 ghost use Rattle.call_rules.specs.Calls.{PicksIs};
 
 use call_rules::{Refused, Reply};
@@ -33,7 +33,8 @@ fn picks_given(picks: &[Pick], out: &mut [u8]) -> Reply
 }
 
 pub fn call_picks(file: &[u8], out: &mut [u8]) -> Reply
-    ensures { PicksIs file.now out.old out.new (number_told result) (place_told result) }
+    ensures told { PicksIs file.now out.old out.new (number_told result) (place_told result) }
+    ensures refused { IfErr result (λ why. (0 < number_of why) × (out.new ≡ out.old)) }
 {
     let loaded = load(file);
     loaded.verdict?;

@@ -1,10 +1,10 @@
 // The call for the page of a table that all picks leave.
-ghost use Rattle.std.specs.Prelude.{◌≡◌, T};
+ghost use Rattle.std.specs.Prelude.{◌≡◌, ◌<◌, T, IfErr};
 ghost use Rattle.nets.specs.Sound.{sound};
 ghost use Rattle.nets.specs.View.{view};
 ghost use Rattle.step_bytes.specs.PickBytes.{picks_in};
 ghost use Rattle.call_rules.specs.TablePages.{paged};
-ghost use Rattle.call_rules.specs.Openings.{Told, number_told, place_told};
+ghost use Rattle.call_rules.specs.Openings.{Told, number_of, number_told, place_told};
 ghost use Rattle.call_rules.specs.Calls.{PageAfterIs};
 ghost use Rattle.call_each.specs.PageRefusals.{refused_page};
 
@@ -36,7 +36,8 @@ fn page_left(net: Net, picks: &[u8], site: Site, name: u32, out: &mut [u8]) -> R
 }
 
 pub fn call_page(file: &[u8], picks: &[u8], site: Site, name: u32, out: &mut [u8]) -> Reply
-    ensures { PageAfterIs file.now picks.now site name out.old out.new (number_told result) (place_told result) }
+    ensures told { PageAfterIs file.now picks.now site name out.old out.new (number_told result) (place_told result) }
+    ensures refused { IfErr result (λ why. (0 < number_of why) × (out.new ≡ out.old)) }
 {
     let net = open_file(file, picks)?;
     page_left(net, picks, site, name, out)

@@ -1,11 +1,11 @@
 // The call for the tables that all picks leave.
-ghost use Rattle.std.specs.Prelude.{T};
+ghost use Rattle.std.specs.Prelude.{◌≡◌, ◌<◌, T, IfErr};
 ghost use Rattle.nets.specs.Sound.{sound};
 ghost use Rattle.nets.specs.View.{view};
 ghost use Rattle.call_rules.specs.Layouts.{tables_put};
 ghost use Rattle.step_bytes.specs.PickBytes.{picks_in};
 ghost use Rattle.call_rules.specs.Replies.{if_room};
-ghost use Rattle.call_rules.specs.Openings.{Told, number_told, place_told};
+ghost use Rattle.call_rules.specs.Openings.{Told, number_of, number_told, place_told};
 ghost use Rattle.call_rules.specs.Calls.{TablesIs};
 
 use call_open::open_file;
@@ -30,7 +30,8 @@ fn tables_left(net: Net, picks: &[u8], out: &mut [u8]) -> Reply
 }
 
 pub fn call_tables(file: &[u8], picks: &[u8], out: &mut [u8]) -> Reply
-    ensures { TablesIs file.now picks.now out.old out.new (number_told result) (place_told result) }
+    ensures told { TablesIs file.now picks.now out.old out.new (number_told result) (place_told result) }
+    ensures refused { IfErr result (λ why. (0 < number_of why) × (out.new ≡ out.old)) }
 {
     let net = open_file(file, picks)?;
     tables_left(net, picks, out)

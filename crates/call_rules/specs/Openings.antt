@@ -1,5 +1,5 @@
 -- What the functions inside a call require and give back. Only the code speaks of it: the rule is `called`.
-use Rattle.std.specs.Prelude.{ℕ, ◌<◌, ◌≡◌, List, [], T, get_or, Result, Ok, Err}
+use Rattle.std.specs.Prelude.{ℕ, ◌<◌, ◌≡◌, List, [], T, get_or, Result, Ok, Err, IfErr}
 use Rattle.nets.specs.declared.Pick.{Pick}
 use Rattle.nets.specs.declared.Frame.{Frame}
 use Rattle.nets.specs.declared.Thread.{Thread}
@@ -43,9 +43,10 @@ abbrev pub place_told : Result ℕ Refused → ℕ
 place_told (Ok n) = n
 place_told (Err why) = place_of why
 
--- the buffer too is as the rule has it
-abbrev pub Told : Called → List ℕ → List ℕ → Result ℕ Refused → Type 0
-Told c before after r = Gives c before after (number_told r) (place_told r)
+-- the buffer too is as the rule has it; on Err the number is no 0, which would say done, and every byte is as it was
+pub record Told (c : Called) (before after : List ℕ) (r : Result ℕ Refused) : Type 0 where
+  pub gives : Gives c before after (number_told r) (place_told r)
+  pub refused : IfErr r (λ why. (0 < number_of why) × (after ≡ before))
 
 -- ── what a call begins with ──
 
@@ -58,6 +59,7 @@ opening_gives made (Err why) = refusing (number_of why) (place_of why)
 pub record OpenIs (file picks : List ℕ) (r : Result Code.Net Refused) : Type 0 where
   pub called : (made : Net → List Pick → Called) → called made file picks ≡ opening_gives (λ (net : Code.Net). made (view net) (picks_in picks)) r
   pub is_sound : (net : Code.Net) → r ≡ Ok net → T (sound (view net))
+  pub refused : IfErr r (λ why. 0 < number_of why)
 
 -- ── threads ──
 

@@ -8,6 +8,7 @@ ghost use Rattle.cases.specs.Kld.{Kld};
 
 use print_lines::buffer::Buffered;
 use print_lines::cells::{put_rows, put_value};
+use print_lines::numbers::put_decimal;
 use row_aggregate::aggregate;
 use row_change::appending::push;
 use row_change::sifting::{count_marks, sifted};
@@ -108,7 +109,7 @@ fn marked(r: Relation, s: &Selector) -> [bool; 16]
     let vars = nothing_bound();
     let plan = plan_of(s, vars);
     let terms = terms_of(none_given(), s.template.used(), vars);
-    swept(r, &plan, Pass::Mark, terms, r.column_kinds()).flags
+    swept(r, r.count, &plan, Pass::Mark, terms, r.column_kinds()).flags
 }
 
 // The rows after a pass that puts what t gives, in columns of these kinds, for those that s selects.
@@ -118,7 +119,7 @@ fn replaced(r: Relation, s: &Selector, t: Operands, pass: Pass, kinds: &[u8]) ->
     let vars = nothing_bound();
     let plan = plan_of(s, vars);
     let terms = terms_of(t, s.template.used(), vars);
-    swept(r, &plan, pass, terms, kinds)
+    swept(r, r.count, &plan, pass, terms, kinds)
 }
 
 // ---- printing
@@ -141,7 +142,8 @@ fn put_looks(out: &mut impl Write, r: Relation, template: &[Operand]) -> io::Res
     write!(out, "fields looked at")?;
     for row in r.used() {
         let m = match_row(template, nothing_bound(), row.values(r.columns));
-        write!(out, " {}", m.looked)?;
+        write!(out, " ")?;
+        put_decimal(out, m.looked as u64)?;
     }
     writeln!(out)
 }
@@ -261,7 +263,9 @@ fn sold(out: &mut impl Write, r: Relation) -> io::Result<()>
     };
     let Swept { rows, flags } = replaced(r, &s, t, Pass::Update, r.column_kinds());
     let next = Relation { rows, ..r };
-    writeln!(out, "two red 37 sold, rows replaced {}", count_marks(flags))?;
+    write!(out, "two red 37 sold, rows replaced ")?;
+    put_decimal(out, count_marks(flags) as u64)?;
+    writeln!(out)?;
     put_rows(out, &next)?;
     put_looks(out, r, template.used())
 }

@@ -4,6 +4,7 @@ use nets::{Net, Pick, Stepped};
 use page::{NotPaged, page};
 use print_lines::buffer::Buffered;
 use print_lines::lines::put_answer;
+use print_lines::numbers::put_decimal;
 use std::io;
 use std::io::Write;
 use steps::step;
@@ -35,7 +36,7 @@ fn put_untouched(out: &mut impl Write, buffer: &[u8]) -> io::Result<()> {
 fn put_written(out: &mut impl Write, net: Net) -> io::Result<()> {
     let mut buffer = [7u8; 1040];
     match write(net, &mut buffer) {
-        Ok(n) => write!(out, "{n}")?,
+        Ok(n) => put_decimal(out, n as u64)?,
         Err(NotWritten::Unsound) => write!(out, "no 10")?,
         Err(NotWritten::Short) => write!(out, "no 21")?,
     }
@@ -47,7 +48,7 @@ fn put_page(out: &mut impl Write, net: Net) -> io::Result<()> {
     let mut buffer = [7u8; 901];
     let table = net.tables[0];
     match page(net, table.site, table.name, &mut buffer) {
-        Ok(n) => write!(out, "{n}")?,
+        Ok(n) => put_decimal(out, n as u64)?,
         Err(NotPaged::Unsound) => write!(out, "no 10")?,
         Err(NotPaged::NoTable) => write!(out, "no 14")?,
         Err(NotPaged::Short(_)) => write!(out, "no 22")?,

@@ -1,15 +1,15 @@
 // Loading: checks 1 to 9 in order, and the net and picks of a file that passes them.
 #![tactic(auto)]
 
-ghost use Rattle.std.specs.Prelude.{◌≡◌, None, Err, MatchResult};
-ghost use Rattle.std.specs.Result.{result_err};
+ghost use Rattle.std.specs.Prelude.{◌≡◌, Err, List, MatchResult};
+ghost use Rattle.nets.specs.declared.Saved.{Saved};
 ghost use Rattle.nets.specs.View.{view};
 ghost use Rattle.record_bytes.specs.Decoding.{records_in};
 ghost use Rattle.files.specs.Empty.{blank_net};
-ghost use Rattle.files.specs.Engine.{LoadIs, first_picks};
-ghost use Rattle.files.specs.Loading.{nothing_read, stopped, read_all, rejected, load_bytes};
+ghost use Rattle.files.specs.Engine.{LoadIs};
+ghost use Rattle.files.specs.Loading.{nothing_read, stopped, read_all, rejected, accepted, load_bytes};
 ghost use Rattle.load_walk.specs.Walking.{Whole};
-ghost use Rattle.load.specs.Lengths.{LengthPasses, LengthFails, Finishes};
+ghost use Rattle.load.specs.Lengths.{LengthPasses, LengthFails, Finishes, net_read, picks_read};
 
 use files::{Fault, Loaded};
 use load_groups::aliases::aliases_from;
@@ -21,8 +21,8 @@ use load_groups::picks::picks_from;
 use load_groups::starts::starts_from;
 use load_groups::tables::tables_from;
 use load_links::bad_link;
-use load_walk::Reach;
-use nets::{Net, Pick};
+use load_walk::{Reach, Read};
+use nets::{Alias, Net, Node, Pick, Table, Thread};
 use record_bytes::RECORD;
 
 // Checks 1 and 2, which ask for the length alone: of a file in memory, or of one that is longer than any that loads.
@@ -45,56 +45,50 @@ pub fn length_fault(length: usize) -> Result<(), Fault>
     Ok(())
 }
 
+// What the records of a file gave, group by group. The net is put together from it where it is handed back: it is more than twice as large, and what a `Result` holds is copied.
+#[derive(Clone, Copy)]
+struct Records {
+    aliases: Read<Alias, 56>,
+    tables: Read<Table, 8>,
+    nodes: Read<Node, 128>,
+    threads: Read<Thread, 8>,
+    picks: Read<Pick, 256>,
+}
+
 // Checks 3 to 8, group after group.
-fn read_all(file: &[u8]) -> Result<Loaded, Fault>
+fn read_all(file: &[u8]) -> Result<Records, Fault>
     requires { Whole file.now }
     ensures { MatchResult result
-        (λ read. (result_err read.verdict ≡ None) × Finishes (read_all 0 nothing_read (records_in file.now)) (view read.net) (first_picks read.pickcount read.picks))
+        (λ read. (saved : List Saved) → Finishes (read_all 0 nothing_read (records_in file.now)) (view (net_read saved read)) (picks_read read))
         (λ fault. read_all 0 nothing_read (records_in file.now) ≡ stopped fault.number fault.place) }
 {
     let start = Reach { place: 0, group: 0 };
-    let a = aliases_from(file, start)?;
-    let t = tables_from(file, a.reach)?;
-    let r = rows_from(file, t)?;
-    let n = nodes_from(file, r.reach)?;
-    let s = starts_from(file, n.reach)?;
-    let p = picks_from(file, s.reach)?;
-    reach_end(file, p.reach)?;
-    let aliases = a.items;
-    let tables = r.items;
-    let nodes = n.items;
-    let threads = s.items;
-    let picks = p.items;
-    let saved = blank_saved();
-    Ok(Loaded {
-        verdict: Ok(()),
-        net: Net {
-            aliases,
-            aliascount: a.count,
-            tables,
-            tablecount: r.count,
-            nodes,
-            nodecount: n.count,
-            threads,
-            threadcount: s.count,
-            saved: [saved; 64],
-        },
+    let aliases = aliases_from(file, start)?;
+    let labels = tables_from(file, aliases.reach)?;
+    let tables = rows_from(file, labels)?;
+    let nodes = nodes_from(file, tables.reach)?;
+    let threads = starts_from(file, nodes.reach)?;
+    let picks = picks_from(file, threads.reach)?;
+    reach_end(file, picks.reach)?;
+    Ok(Records {
+        aliases,
+        tables,
+        nodes,
+        threads,
         picks,
-        pickcount: p.count,
     })
 }
 
 // The first fault of checks 1 to 9, or what the records gave.
-fn file_read(file: &[u8]) -> Result<Loaded, Fault>
+fn file_read(file: &[u8]) -> Result<Records, Fault>
     ensures { MatchResult result
-        (λ loaded. LoadIs file.now loaded)
+        (λ read. (saved : List Saved) → load_bytes file.now ≡ accepted (view (net_read saved read)) (picks_read read))
         (λ fault. load_bytes file.now ≡ rejected fault.number fault.place) }
 {
     length_fault(file.len())?;
-    // Looked at where it stands and handed on whole: taken out by `?`, all 83 KB were copied twice more.
     let read = read_all(file);
-    if let Ok(loaded) = &read {
-        if let Some(place) = bad_link(file, loaded.net.nodecount) {
+    if let Ok(records) = &read {
+        if let Some(place) = bad_link(file, records.nodes.count) {
             return Err(Fault { number: 9, place });
         }
     }
@@ -117,8 +111,30 @@ fn refused(fault: Fault) -> Loaded
 pub fn load(file: &[u8]) -> Loaded
     ensures { LoadIs file.now result }
 {
-    match file_read(file) {
-        Ok(loaded) => loaded,
-        Err(fault) => refused(fault),
+    let read = match file_read(file) {
+        Ok(read) => read,
+        Err(fault) => return refused(fault),
+    };
+    let aliases = read.aliases.items;
+    let tables = read.tables.items;
+    let nodes = read.nodes.items;
+    let threads = read.threads.items;
+    let picks = read.picks.items;
+    let saved = blank_saved();
+    Loaded {
+        verdict: Ok(()),
+        net: Net {
+            aliases,
+            aliascount: read.aliases.count,
+            tables,
+            tablecount: read.tables.count,
+            nodes,
+            nodecount: read.nodes.count,
+            threads,
+            threadcount: read.threads.count,
+            saved: [saved; 64],
+        },
+        picks,
+        pickcount: read.picks.count,
     }
 }

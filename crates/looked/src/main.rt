@@ -7,6 +7,7 @@ ghost use Rattle.std.specs.Prelude.{◌≤◌};
 use nets::Net;
 use nets::kinds::{has_test, is_loop};
 use print_lines::buffer::Buffered;
+use print_lines::numbers::put_decimal;
 use print_loaded::run_program;
 use row_match::match_row;
 use rows::Relation;
@@ -15,6 +16,12 @@ use std::io;
 use std::io::Write;
 use std::process::ExitCode;
 use values::{Operand, Vars};
+
+// A number behind a blank.
+fn put_place(out: &mut impl Write, n: usize) -> io::Result<()> {
+    write!(out, " ")?;
+    put_decimal(out, n as u64)
+}
 
 // Each row of a relation.
 fn put_looks(
@@ -26,7 +33,8 @@ fn put_looks(
     for row in r.rows.iter().take(r.count) {
         let m = match_row(template, vars, row.values(r.columns.min(4)));
         let sign = if m.matches { '+' } else { '-' };
-        write!(out, " {}{sign}", m.looked)?;
+        put_place(out, m.looked)?;
+        write!(out, "{sign}")?;
     }
     writeln!(out)
 }
@@ -42,7 +50,10 @@ fn print_tables(
 ) -> io::Result<()> {
     let mut out = Buffered::new(rt);
     for (i, table) in net.tables.iter().take(net.tablecount).enumerate() {
-        write!(out, "looked {thread} {number} {i}")?;
+        write!(out, "looked")?;
+        put_place(&mut out, thread)?;
+        put_place(&mut out, number)?;
+        put_place(&mut out, i)?;
         put_looks(&mut out, template, vars, &table.content)?;
     }
     out.flush()

@@ -1,12 +1,12 @@
 -- What arrays with counts stand for is as long as the counts say, and is tested where it stands. Assumes nothing.
 use Prim.Native.Nat.{ℕ, zero, suc, ◌+◌, ◌-◌, ◌<◌, ◌≤◌}
 use mathlib.Core.Path.{◌≡◌, refl, ap, ◌∙◌}
-use mathlib.Core.Bool.{Bool, not, ◌&&◌}
+use mathlib.Core.Bool.{Bool, false, not, ◌&&◌}
 use mathlib.Core.List.{List, ◌∷◌, map}
 use native.Mathlib.Omega.{arith}
 use lib.Dec.{eqb, leb}
 use lib.ListN.{length, take, drop, get_or, length-drop}
-use borrow.Author.Tests.{le-leb, ne_eqb}
+use borrow.Author.Tests.{le-leb, lt-leb, ne_eqb}
 use Rattle.std.specs.List.{list_all, slice_range}
 use Rattle.std.proofs.lemmas.List.{take_all, drop_more, drop-map}
 use Rattle.values.specs.Lists.{firsts}
@@ -35,6 +35,14 @@ all-after l i = take_all (length l - i) (drop i l) (omega (arith, length-drop i 
 
 pub front : {A : Type 0} (n : ℕ) (l : List A) → slice_range l 0 n ≡ take n l
 front n l = let e : n - 0 ≡ n = omega arith in ap (λ (k : ℕ). take k l) e
+
+-- a number that is judged first, and what is left to decide
+module _ {n m : ℕ} where
+  pub number_over : m < n → (b : Bool) → false ≡ (leb n m && b)
+  number_over h b = rw (lt-leb n m h)
+
+  pub number_within : n ≤ m → (b : Bool) → b ≡ (leb n m && b)
+  number_within h b = rw (le-leb n m h)
 
 -- 1 to `m`, where there are no more
 pub some-bounded : (m n : ℕ) → n ≤ m → (b : Bool) → (not (eqb n 0) && b) ≡ (leb 1 n && leb n m && b)

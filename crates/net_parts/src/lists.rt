@@ -1,5 +1,5 @@
 // Aliases and tables: each in its ranges, no two alike.
-ghost use Rattle.std.specs.Prelude.{◌≡◌, not, ◌&&◌, map};
+ghost use Rattle.std.specs.Prelude.{◌≡◌, not, ◌&&◌, leb, length, map};
 ghost use Rattle.std.specs.List.{list_all, list_any};
 ghost use Rattle.nets.specs.Tables.{is_at, rows_fit, distinct};
 ghost use Rattle.nets.specs.Sound.{alias_ok, same_alias, aliases_differ, table_ok};
@@ -62,9 +62,13 @@ fn table_new(t: &Table, others: &[Table]) -> bool
         .any(|u| (t.site == u.site) & (t.name == u.name))
 }
 
+// A slice may be longer than a net's array, so the number is judged too.
 pub fn tables_ok(tables: &[Table]) -> bool
-    ensures { result ≡ (list_all table_ok (map table_of tables.now) && list_all rows_fit (map table_of tables.now) && distinct (map table_of tables.now)) }
+    ensures { result ≡ (leb (length tables.now) 8 && (list_all table_ok (map table_of tables.now) && list_all rows_fit (map table_of tables.now) && distinct (map table_of tables.now))) }
 {
+    if 8 < tables.len() {
+        return false;
+    }
     for i in 0..tables.len() {
         let t = &tables[i];
         if !(table_ok(t) & table_new(t, &tables[i + 1..])) {

@@ -1,5 +1,5 @@
 // Nodes: their fields by kind (check 4) and their links (check 9).
-ghost use Rattle.std.specs.Prelude.{◌≡◌, true, false, cond, ◌&&◌, eqb, length, map};
+ghost use Rattle.std.specs.Prelude.{◌≡◌, true, false, cond, ◌&&◌, eqb, leb, length, map};
 ghost use Rattle.values.specs.Values.{is_text};
 ghost use Rattle.rows.specs.View.{columns_of, operands_of};
 ghost use Rattle.nets.specs.Nets.{has_locality, has_template, has_test, has_tuple, is_select, is_loop};
@@ -137,10 +137,14 @@ fn links_ok(d: Node, i: usize, n: usize) -> bool
     links_at(d.kind, d.next, d.body, i, n)
 }
 
+// A slice may be longer than a net's array, so the number is judged too.
 pub fn nodes_ok(nodes: &[Node]) -> bool
-    ensures { result ≡ nodes_ok (length nodes.now) 0 (map node_of nodes.now) }
+    ensures { result ≡ (leb (length nodes.now) 128 && nodes_ok (length nodes.now) 0 (map node_of nodes.now)) }
 {
     let count = nodes.len();
+    if 128 < count {
+        return false;
+    }
     for i in 0..count {
         let d = nodes[i];
         if !(fields_ok(d) & links_ok(d, i, count)) {

@@ -1,5 +1,5 @@
 // What the entries of sequential loops hold, and with it whole threads.
-ghost use Rattle.std.specs.Prelude.{◌≡◌, ℕ, ◌<◌, ◌≤◌, true, length, map};
+ghost use Rattle.std.specs.Prelude.{◌≡◌, ℕ, ◌<◌, true, ◌&&◌, leb, length, map};
 ghost use Rattle.std.specs.List.{list_all};
 ghost use Rattle.nets.specs.Nets as Model;
 ghost use Rattle.nets.specs.Sound.{relation_ok, thread_ok};
@@ -52,10 +52,13 @@ fn whole_ok(nodes: &[Node], t: &Thread, saved: &[Saved; 64], i: usize) -> bool
     thread_ok(nodes, t) && entries_right(nodes, t, saved, i)
 }
 
+// A slice may be longer than a net's array, so the number is judged too: `saved` has the entries of eight threads.
 pub fn threads_ok(nodes: &[Node], threads: &[Thread], saved: &[Saved; 64]) -> bool
-    requires { length threads.now ≤ 8 }
-    ensures { result ≡ list_all (thread_ok (map node_of nodes.now)) (threads_of (map node_of nodes.now) saved.now (length threads.now) threads.now) }
+    ensures { result ≡ (leb (length threads.now) 8 && list_all (thread_ok (map node_of nodes.now)) (threads_of (map node_of nodes.now) saved.now (length threads.now) threads.now)) }
 {
+    if 8 < threads.len() {
+        return false;
+    }
     for i in 0..threads.len() {
         if !whole_ok(nodes, &threads[i], saved, i) {
             return false;

@@ -1,11 +1,13 @@
 // Reads a file of records on standard input, carries out its picks, and prints the page of each table left.
 #![tactic(auto)]
 
-ghost use Rattle.std.specs.Prelude.{T, map};
+ghost use Rattle.std.specs.Prelude.{◌≡◌, T, map};
 ghost use Rattle.std.specs.List.{list_all};
 ghost use Rattle.rows.specs.View.{relation_of, Shaped};
 ghost use Rattle.nets.specs.Sound.{rows_ok, table_ok, sound};
+ghost use Rattle.nets.specs.Accounts.{after};
 ghost use Rattle.nets.specs.View.{table_of, view};
+ghost use Rattle.step_bytes.specs.PickBytes.{picks_in};
 
 use call_run::run_picks;
 use nets::{Net, Table};
@@ -42,13 +44,22 @@ fn put_tables(out: &mut impl Write, tables: &[Table]) -> io::Result<()>
     Ok(())
 }
 
+// What all picks leave.
+fn run(start: Net, picks: &[u8]) -> Net
+    requires { T (sound (view start)) }
+    ensures { (view result ≡ after (view start) (picks_in picks.now)) × T (sound (view result)) }
+{
+    run_picks(start, picks)
+}
+
 // Gives an error where not all of it was written.
 fn print_run(rt: &impl Print, start: Net, picks: &[u8]) -> io::Result<()>
     requires { T (sound (view start)) }
 {
-    let left = run_picks(start, picks);
+    let left = run(start, picks);
     let mut out = Buffered::new(rt);
-    put_tables(&mut out, &left.tables[..left.tablecount])?;
+    let tables = left.tables;
+    put_tables(&mut out, &tables[..left.tablecount])?;
     out.flush()
 }
 

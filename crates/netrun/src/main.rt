@@ -36,7 +36,8 @@ fn print_run(rt: &impl Print, start: Net, picks: &[u8]) -> io::Result<()>
     let left = run(start, picks, &mut answers);
     let mut out = Buffered::new(rt);
     put_picks(&mut out, &answers[..picks.len() / 2 * ANSWER])?;
-    put_tables(&mut out, &left.tables[..left.tablecount.min(8)])?;
+    let tables = left.tables;
+    put_tables(&mut out, &tables[..left.tablecount.min(8)])?;
     out.flush()
 }
 

@@ -1,4 +1,5 @@
 // Values and rows: an Int in decimal, a Text as it reads, a Loc as @ and its digit.
+use crate::numbers::{put_decimal, put_int};
 use rows::{Relation, Row};
 use std::io;
 use std::io::Write;
@@ -11,9 +12,12 @@ pub fn put_text(out: &mut impl Write, t: u32) -> io::Result<()> {
 
 pub fn put_value(out: &mut impl Write, v: Value) -> io::Result<()> {
     match v {
-        Value::Int(i) => write!(out, "{i}"),
+        Value::Int(i) => put_int(out, i as i64),
         Value::Text(t) => put_text(out, t),
-        Value::Loc(l) => write!(out, "@{}", l.0),
+        Value::Loc(l) => {
+            write!(out, "@")?;
+            put_decimal(out, l.0 as u64)
+        }
     }
 }
 

@@ -8,4 +8,5 @@ pub mod endings;
 pub mod faults;
 pub mod input;
 pub mod lines;
+pub mod numbers;
 pub mod text;

@@ -1,5 +1,6 @@
 // The lines of answers and tables.
 use crate::cells::{put_rows, put_text};
+use crate::numbers::put_decimal;
 use nets::refusals::number_of;
 use nets::{Answer, Done, Table};
 use std::io;
@@ -7,10 +8,22 @@ use std::io::Write;
 use step_bytes::answers::ANSWER;
 use values::Site;
 
+fn put_done(out: &mut impl Write, added: u64, taken: u64) -> io::Result<()> {
+    write!(out, "done ")?;
+    put_decimal(out, added)?;
+    write!(out, " ")?;
+    put_decimal(out, taken)
+}
+
+fn put_refusal(out: &mut impl Write, number: u64) -> io::Result<()> {
+    write!(out, "no ")?;
+    put_decimal(out, number)
+}
+
 pub fn put_answer(out: &mut impl Write, answer: Answer) -> io::Result<()> {
     match answer {
-        Ok(Done { added, taken }) => write!(out, "done {added} {taken}"),
-        Err(why) => write!(out, "no {}", number_of(why)),
+        Ok(Done { added, taken }) => put_done(out, added as u64, taken as u64),
+        Err(why) => put_refusal(out, number_of(why) as u64),
     }
 }
 
@@ -21,16 +34,18 @@ fn put_answer_bytes(out: &mut impl Write, answer: &[u8; ANSWER]) -> io::Result<(
         0 => {
             let added = u64::from_le_bytes(numbers[1]);
             let taken = u64::from_le_bytes(numbers[2]);
-            write!(out, "done {added} {taken}")
+            put_done(out, added, taken)
         }
-        number => write!(out, "no {number}"),
+        number => put_refusal(out, number),
     }
 }
 
 // The lines of picks, from their answers as bytes, of which each has 24.
 pub fn put_picks(out: &mut impl Write, answers: &[u8]) -> io::Result<()> {
     for (i, answer) in answers.as_chunks::<ANSWER>().0.iter().enumerate() {
-        write!(out, "pick {i} ")?;
+        write!(out, "pick ")?;
+        put_decimal(out, i as u64)?;
+        write!(out, " ")?;
         put_answer_bytes(out, answer)?;
         writeln!(out)?;
     }
@@ -39,9 +54,13 @@ pub fn put_picks(out: &mut impl Write, answers: &[u8]) -> io::Result<()> {
 
 // The line of a table.
 pub fn put_table_line(out: &mut impl Write, site: Site, name: u32, rows: usize) -> io::Result<()> {
-    write!(out, "table {} ", site.0)?;
+    write!(out, "table ")?;
+    put_decimal(out, site.0 as u64)?;
+    write!(out, " ")?;
     put_text(out, name)?;
-    writeln!(out, " {rows}")
+    write!(out, " ")?;
+    put_decimal(out, rows as u64)?;
+    writeln!(out)
 }
 
 // The line of each table, and those of its rows.

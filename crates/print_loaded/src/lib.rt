@@ -9,7 +9,7 @@ ghost use Rattle.nets.specs.View.{view};
 ghost use Rattle.step_bytes.specs.PickBytes.{picks_in};
 
 use load::{length_fault, load};
-use nets::Net;
+use nets::{Net, Pick};
 use print_lines::arguments::has_argument;
 use print_lines::endings::{status_after, tell_failed};
 use print_lines::faults::print_refused;
@@ -20,12 +20,13 @@ use std::io::Read;
 use std::process::ExitCode;
 use step_bytes::picks::pick_bytes;
 
-// The bytes of the first `count` picks, two for each: here the array and the count that loading gives become a slice.
-fn lent(bytes: &[u8; 512], count: usize) -> &[u8]
+// The first `count` picks as bytes, two for each, in a space that is lent: here the array and the count that loading gives become a slice.
+fn lent(bytes: &mut [u8; 512], picks: [Pick; 256], count: usize) -> &[u8]
     requires { count ≤ 256 }
-    ensures picks { picks_in result.now ≡ take count (picks_in bytes.now) }
+    ensures picks { picks_in result.now ≡ take count picks }
     ensures few { length result.now ≤ 512 }
 {
+    *bytes = pick_bytes(picks);
     &bytes[..count * 2]
 }
 
@@ -40,8 +41,12 @@ fn print_file<F: FnOnce(Net, &[u8]) -> io::Result<()>>(
     let loaded = load(file);
     match loaded.verdict {
         Ok(()) => {
-            let bytes = pick_bytes(loaded.picks);
-            print(loaded.net, lent(&bytes, loaded.pickcount.min(256)))
+            let mut bytes = [0u8; 512];
+            let net = loaded.net;
+            print(
+                net,
+                lent(&mut bytes, loaded.picks, loaded.pickcount.min(256)),
+            )
         }
         Err(fault) => print_refused(rt, file, fault.number, fault.place),
     }

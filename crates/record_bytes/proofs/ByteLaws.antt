@@ -1,14 +1,21 @@
--- Laws of parts of a file: four parts of 8 bytes, and the elements before the first none. Assumes nothing.
-use Prim.Native.Nat.{ℕ, suc}
+-- Laws of parts of a file: numbers from a first one on, four parts of 8 bytes, and the elements before the first none. Assumes nothing.
+use Prim.Native.Nat.{ℕ, suc, ◌≤◌}
 use mathlib.Core.Path.{◌≡◌, refl, ap}
 use mathlib.Core.Bool.{Bool, true, false, cond, ◌&&◌}
 use mathlib.Core.List.{List, [], ◌∷◌, map}
+use native.Mathlib.Omega.{arith}
 use lib.ListN.{length}
 use lib.Seq.{drop-drop}
 use Rattle.values.specs.Lists.{firsts}
 use Rattle.std.specs.List.{list_all}
 use Rattle.nets.specs.Sound.{is_absent}
 use Rattle.record_bytes.specs.Bytes.{part, parts, leading, then_only, operand_in, operands_in}
+
+-- ── numbers ──
+
+-- a number from `n` on is `n` or above it
+pub not_this : (n k : ℕ) → n ≤ k → (k ≡ n → ⊥) → suc n ≤ k
+not_this n k l h = omega arith
 
 -- ── parts ──
 

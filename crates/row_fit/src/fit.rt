@@ -1,6 +1,6 @@
 // What tuples give, and whether they fit columns.
-ghost use Rattle.std.specs.Prelude.{◌≡◌, T};
-ghost use Rattle.values.specs.Operands.{is_got, values_in};
+ghost use Rattle.std.specs.Prelude.{◌≡◌, T, map};
+ghost use Rattle.values.specs.Operands.{is_got, values_in, value_in};
 ghost use Rattle.std.specs.List.{list_all};
 ghost use Rattle.rows.specs.View.{operands_of, values_of, draft_of};
 ghost use Rattle.rows.specs.Fit.{draft, of_kind, fits, same_columns};
@@ -22,9 +22,10 @@ pub fn draft_of(t: Operands, vars: Vars) -> Draft
     }
 }
 
-// The row of a draft that gives all its values.
+// The row of a draft that gives all its values. Where one is missing, the Int 0 stands in its cell.
 pub fn row_of(d: Draft) -> Row
-    ensures { T (list_all is_got (draft_of d)) → values_of d.count result ≡ values_in (draft_of d) }
+    ensures values { T (list_all is_got (draft_of d)) → values_of d.count result ≡ values_in (draft_of d) }
+    ensures cells { result.cells ≡ map value_in d.slots }
 {
     let cells = d.slots.map(|s| s.unwrap_or(Value::Int(0)));
     Row { cells }

@@ -43,15 +43,16 @@ fn judge(plan: &Plan, pass: Pass, terms: Terms, kinds: &[u8], row: &Row) -> Opti
     }
 }
 
+// The first n rows, whatever the relation's own count.
 // One that is marked is replaced at the place it is read from, and every place is read once: a new row is never judged again.
 // The relation is passed by value: lent, it was tried, and the proof of the loop did not close.
-pub fn swept(r: Relation, plan: &Plan, pass: Pass, terms: Terms, kinds: &[u8]) -> Swept
-    requires { (r.count ≤ 16) × (terms.count ≤ 4) }
-    ensures { SweptIs plan.now pass terms kinds.now r.count r.rows result }
+pub fn swept(r: Relation, n: usize, plan: &Plan, pass: Pass, terms: Terms, kinds: &[u8]) -> Swept
+    requires { (n ≤ 16) × (terms.count ≤ 4) }
+    ensures { SweptIs plan.now pass terms kinds.now n r.rows result }
 {
     let mut rows = r.rows;
     let mut flags = [false; 16];
-    for i in 0..r.count {
+    for i in 0..n {
         if let Some(new) = judge(plan, pass, terms, kinds, &rows[i]) {
             rows[i] = new;
             flags[i] = true;

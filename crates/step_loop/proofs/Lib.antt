@@ -1,3 +1,4 @@
 -- Laws that belong to no one function.
+pub mod FlagsAll
 pub mod MarkLaws
 pub mod RowLaws

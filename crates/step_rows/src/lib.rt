@@ -70,7 +70,14 @@ fn judged_rows(node: Node, source: Relation, vars: Vars) -> Judged
     }
     let plan = plan_of(&node.selector, vars);
     let terms = terms_of(tuple, template.used(), vars);
-    let Swept { rows, flags } = swept(source, &plan, pass_of(kind), terms, &kinds[..columns]);
+    let Swept { rows, flags } = swept(
+        source,
+        source.count,
+        &plan,
+        pass_of(kind),
+        terms,
+        &kinds[..columns],
+    );
     Judged {
         columns,
         kinds,

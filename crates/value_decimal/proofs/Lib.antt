@@ -1,3 +1,4 @@
+pub mod CastLaws
 pub mod DecimalLaws
 pub mod PutLaws
 pub mod ReadingLaws

@@ -47,7 +47,7 @@ pub record Begins (l : List ℕ) : Type 0 where
   pub small : first < 10
   pub whole : l ≡ digit first ∷ rest
 
-first-digit : (n : ℕ) → Begins (decimal n)
+pub first-digit : (n : ℕ) → Begins (decimal n)
 first-digit =
     by_tenths
     (λ n. Begins (decimal n))

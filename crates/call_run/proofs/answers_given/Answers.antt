@@ -1,6 +1,6 @@
 -- `call_run::answers_given` meets its contract: too little room, or all answers and then the bytes that stood there. Assumes nothing.
 use Prim.Native.Nat.{ℕ, ◌*◌, ◌/◌}
-use mathlib.Core.Path.{◌≡◌, sym, ap, ◌∙◌}
+use mathlib.Core.Path.{◌≡◌, refl, sym, ap, ◌∙◌}
 use mathlib.Core.Bool.{true, false}
 use mathlib.Core.List.{List}
 use native.Mathlib.Omega.{arith}
@@ -32,9 +32,9 @@ module _ (m : Net) (picks o : List ℕ) where
 pub returns-then-not-has_room : goal.returns-then-not-has_room
 returns-then-not-has_room c =
     let a = c.args in
-    short (view a.net) a.picks.now a.out.now _ (sym c.has_room.ensures ∙ c.if-not-has_room.true) c.answers_length.ensures
+    record { gives = short (view a.net) a.picks.now a.out.now _ (sym c.has_room.ensures ∙ c.if-not-has_room.true) c.answers_length.ensures; refused = (omega arith, refl) }
 
 pub returns : goal.returns
 returns c =
     let a = c.args in
-    given (view a.net) a.picks.now a.out.now _ (sym c.has_room.ensures ∙ c.if-not-has_room.false) c.carry_out.ensures.1
+    record { gives = given (view a.net) a.picks.now a.out.now _ (sym c.has_room.ensures ∙ c.if-not-has_room.false) c.carry_out.ensures.1; refused = tt }

@@ -1,6 +1,6 @@
 -- `call_trace::trace_from` meets its contract: the picks skipped are carried out, and then the trace begins. Assumes nothing.
 use Prim.Native.Nat.{min, ℕ, ◌*◌, ◌-◌, ◌/◌}
-use mathlib.Core.Path.{◌≡◌, ap, ◌∙◌}
+use mathlib.Core.Path.{◌≡◌, refl, ap, ◌∙◌}
 use mathlib.Core.List.{List}
 use native.Mathlib.Omega.{arith}
 use lib.ListN.{length, take, drop, length-drop}
@@ -26,7 +26,10 @@ returns-then-out-size c =
     let bs = a.picks.now in
     let first = view c.run_picks-first.result in
     let b = begins (view a.net) first bs a.from c.min-skipped.result c.min-skipped.ensures c.run_picks-first.ensures.0 in
-    trace_short (view a.net) first (picks_in bs) a.from a.out.now b c.moment_size-size.result c.moment_size-size.ensures.0 c.if-out-size.true c.moment_size-size.ensures.1
+    record {
+      gives = trace_short (view a.net) first (picks_in bs) a.from a.out.now b c.moment_size-size.result c.moment_size-size.ensures.0 c.if-out-size.true c.moment_size-size.ensures.1;
+      refused = (omega arith, refl);
+    }
 
 pub returns : goal.returns
 returns c =
@@ -36,4 +39,7 @@ returns c =
     let first = view c.run_picks-first.result in
     let b = begins (view a.net) first bs a.from n c.min-skipped.ensures c.run_picks-first.ensures.0 in
     let q = ap picks_in (rest bs (n * 2)) ∙ skipped_left bs a.from n c.min-skipped.ensures in
-    trace_given (view a.net) first (picks_in bs) a.from a.out.now b c.moment_size-size.result c.moment_size-size.ensures.0 _ _ _ c.if-out-size.false q c.put_trace.ensures.0 c.put_trace.ensures.1
+    record {
+      gives = trace_given (view a.net) first (picks_in bs) a.from a.out.now b c.moment_size-size.result c.moment_size-size.ensures.0 _ _ _ c.if-out-size.false q c.put_trace.ensures.0 c.put_trace.ensures.1;
+      refused = tt;
+    }

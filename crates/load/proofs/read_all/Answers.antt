@@ -2,7 +2,6 @@
 use Prim.Native.Nat.{ℕ}
 use mathlib.Core.Path.{◌≡◌, refl, ◌∙◌}
 use mathlib.Core.List.{List, []}
-use lib.ListN.{replicate}
 use Rattle.std.specs.Prelude.{Err}
 use Rattle.nets.specs.View.{aliases_of, tables_of, nodes_of, threads_of, view}
 use Rattle.record_bytes.specs.Decoding.{records_in}
@@ -37,41 +36,41 @@ module _ (file : List ℕ) where
   unfolding Came
   over a l h k = record { group = a.group; all = h ∙ k.ends l }
 
-pub returns-in_err-a : goal.returns-in_err-a
-returns-in_err-a c =
-    let e : c.from_residual.result ≡ Err c.in_err-a.field-0.0 = search rules in
-    rw e (halted c.args.file.now nothing_read (start c.args.file.now) c.in_err-a.ensures)
+pub returns-in_err-aliases : goal.returns-in_err-aliases
+returns-in_err-aliases c =
+    let e : c.from_residual.result ≡ Err c.in_err-aliases.field-0.0 = search rules in
+    rw e (halted c.args.file.now nothing_read (start c.args.file.now) c.in_err-aliases.ensures)
 
-pub returns-in_err-t : goal.returns-in_err-t
-returns-in_err-t c =
-    let e : c.from_residual-in_err-t.result ≡ Err c.in_err-t.field-0.0 = search rules in
-    rw e (halted c.args.file.now (put_aliases (aliases_of c.in_ok-a.a.count c.in_ok-a.a.items) nothing_read) (on c.args.file.now nothing_read (start c.args.file.now) c.in_ok-a.ensures.0) c.in_err-t.ensures)
+pub returns-in_err-labels : goal.returns-in_err-labels
+returns-in_err-labels c =
+    let e : c.from_residual-in_err-labels.result ≡ Err c.in_err-labels.field-0.0 = search rules in
+    rw e (halted c.args.file.now (put_aliases (aliases_of c.in_ok-aliases.aliases.count c.in_ok-aliases.aliases.items) nothing_read) (on c.args.file.now nothing_read (start c.args.file.now) c.in_ok-aliases.ensures.0) c.in_err-labels.ensures)
 
-pub returns-in_err-r : goal.returns-in_err-r
-returns-in_err-r c =
-    let e : c.from_residual-in_err-r.result ≡ Err c.in_err-r.field-0.0 = search rules in
-    rw e (halted c.args.file.now (put_aliases (aliases_of c.in_ok-a.a.count c.in_ok-a.a.items) nothing_read) (on c.args.file.now (put_aliases (aliases_of c.in_ok-a.a.count c.in_ok-a.a.items) nothing_read) (on c.args.file.now nothing_read (start c.args.file.now) c.in_ok-a.ensures.0) c.in_ok-t.ensures.0.0) c.in_err-r.ensures)
+pub returns-in_err-tables : goal.returns-in_err-tables
+returns-in_err-tables c =
+    let e : c.from_residual-in_err-tables.result ≡ Err c.in_err-tables.field-0.0 = search rules in
+    rw e (halted c.args.file.now (put_aliases (aliases_of c.in_ok-aliases.aliases.count c.in_ok-aliases.aliases.items) nothing_read) (on c.args.file.now (put_aliases (aliases_of c.in_ok-aliases.aliases.count c.in_ok-aliases.aliases.items) nothing_read) (on c.args.file.now nothing_read (start c.args.file.now) c.in_ok-aliases.ensures.0) c.in_ok-labels.ensures.0.0) c.in_err-tables.ensures)
 
-pub returns-in_err-n : goal.returns-in_err-n
-returns-in_err-n c =
-    let e : c.from_residual-in_err-n.result ≡ Err c.in_err-n.field-0.0 = search rules in
-    rw e (halted c.args.file.now (put_tables (tables_of c.in_ok-r.r.count c.in_ok-r.r.items) (put_aliases (aliases_of c.in_ok-a.a.count c.in_ok-a.a.items) nothing_read)) (on c.args.file.now (put_aliases (aliases_of c.in_ok-a.a.count c.in_ok-a.a.items) nothing_read) (on c.args.file.now (put_aliases (aliases_of c.in_ok-a.a.count c.in_ok-a.a.items) nothing_read) (on c.args.file.now nothing_read (start c.args.file.now) c.in_ok-a.ensures.0) c.in_ok-t.ensures.0.0) c.in_ok-r.ensures.0.0) c.in_err-n.ensures)
+pub returns-in_err-nodes : goal.returns-in_err-nodes
+returns-in_err-nodes c =
+    let e : c.from_residual-in_err-nodes.result ≡ Err c.in_err-nodes.field-0.0 = search rules in
+    rw e (halted c.args.file.now (put_tables (tables_of c.in_ok-tables.tables.count c.in_ok-tables.tables.items) (put_aliases (aliases_of c.in_ok-aliases.aliases.count c.in_ok-aliases.aliases.items) nothing_read)) (on c.args.file.now (put_aliases (aliases_of c.in_ok-aliases.aliases.count c.in_ok-aliases.aliases.items) nothing_read) (on c.args.file.now (put_aliases (aliases_of c.in_ok-aliases.aliases.count c.in_ok-aliases.aliases.items) nothing_read) (on c.args.file.now nothing_read (start c.args.file.now) c.in_ok-aliases.ensures.0) c.in_ok-labels.ensures.0.0) c.in_ok-tables.ensures.0.0) c.in_err-nodes.ensures)
 
-pub returns-in_err-s : goal.returns-in_err-s
-returns-in_err-s c =
-    let e : c.from_residual-in_err-s.result ≡ Err c.in_err-s.field-0.0 = search rules in
-    rw e (halted c.args.file.now (put_nodes (nodes_of c.in_ok-n.n.count c.in_ok-n.n.items) (put_tables (tables_of c.in_ok-r.r.count c.in_ok-r.r.items) (put_aliases (aliases_of c.in_ok-a.a.count c.in_ok-a.a.items) nothing_read))) (on c.args.file.now (put_tables (tables_of c.in_ok-r.r.count c.in_ok-r.r.items) (put_aliases (aliases_of c.in_ok-a.a.count c.in_ok-a.a.items) nothing_read)) (on c.args.file.now (put_aliases (aliases_of c.in_ok-a.a.count c.in_ok-a.a.items) nothing_read) (on c.args.file.now (put_aliases (aliases_of c.in_ok-a.a.count c.in_ok-a.a.items) nothing_read) (on c.args.file.now nothing_read (start c.args.file.now) c.in_ok-a.ensures.0) c.in_ok-t.ensures.0.0) c.in_ok-r.ensures.0.0) c.in_ok-n.ensures.0) c.in_err-s.ensures)
+pub returns-in_err-threads : goal.returns-in_err-threads
+returns-in_err-threads c =
+    let e : c.from_residual-in_err-threads.result ≡ Err c.in_err-threads.field-0.0 = search rules in
+    rw e (halted c.args.file.now (put_nodes (nodes_of c.in_ok-nodes.nodes.count c.in_ok-nodes.nodes.items) (put_tables (tables_of c.in_ok-tables.tables.count c.in_ok-tables.tables.items) (put_aliases (aliases_of c.in_ok-aliases.aliases.count c.in_ok-aliases.aliases.items) nothing_read))) (on c.args.file.now (put_tables (tables_of c.in_ok-tables.tables.count c.in_ok-tables.tables.items) (put_aliases (aliases_of c.in_ok-aliases.aliases.count c.in_ok-aliases.aliases.items) nothing_read)) (on c.args.file.now (put_aliases (aliases_of c.in_ok-aliases.aliases.count c.in_ok-aliases.aliases.items) nothing_read) (on c.args.file.now (put_aliases (aliases_of c.in_ok-aliases.aliases.count c.in_ok-aliases.aliases.items) nothing_read) (on c.args.file.now nothing_read (start c.args.file.now) c.in_ok-aliases.ensures.0) c.in_ok-labels.ensures.0.0) c.in_ok-tables.ensures.0.0) c.in_ok-nodes.ensures.0) c.in_err-threads.ensures)
 
-pub returns-in_err-p : goal.returns-in_err-p
-returns-in_err-p c =
-    let e : c.from_residual-in_err-p.result ≡ Err c.in_err-p.field-0.0 = search rules in
-    rw e (halted c.args.file.now (put_threads (threads_of [] [] c.in_ok-s.s.count c.in_ok-s.s.items) (put_nodes (nodes_of c.in_ok-n.n.count c.in_ok-n.n.items) (put_tables (tables_of c.in_ok-r.r.count c.in_ok-r.r.items) (put_aliases (aliases_of c.in_ok-a.a.count c.in_ok-a.a.items) nothing_read)))) (on c.args.file.now (put_nodes (nodes_of c.in_ok-n.n.count c.in_ok-n.n.items) (put_tables (tables_of c.in_ok-r.r.count c.in_ok-r.r.items) (put_aliases (aliases_of c.in_ok-a.a.count c.in_ok-a.a.items) nothing_read))) (on c.args.file.now (put_tables (tables_of c.in_ok-r.r.count c.in_ok-r.r.items) (put_aliases (aliases_of c.in_ok-a.a.count c.in_ok-a.a.items) nothing_read)) (on c.args.file.now (put_aliases (aliases_of c.in_ok-a.a.count c.in_ok-a.a.items) nothing_read) (on c.args.file.now (put_aliases (aliases_of c.in_ok-a.a.count c.in_ok-a.a.items) nothing_read) (on c.args.file.now nothing_read (start c.args.file.now) c.in_ok-a.ensures.0) c.in_ok-t.ensures.0.0) c.in_ok-r.ensures.0.0) c.in_ok-n.ensures.0) (c.in_ok-s.ensures.0 [] [])) c.in_err-p.ensures)
+pub returns-in_err-picks : goal.returns-in_err-picks
+returns-in_err-picks c =
+    let e : c.from_residual-in_err-picks.result ≡ Err c.in_err-picks.field-0.0 = search rules in
+    rw e (halted c.args.file.now (put_threads (threads_of [] [] c.in_ok-threads.threads.count c.in_ok-threads.threads.items) (put_nodes (nodes_of c.in_ok-nodes.nodes.count c.in_ok-nodes.nodes.items) (put_tables (tables_of c.in_ok-tables.tables.count c.in_ok-tables.tables.items) (put_aliases (aliases_of c.in_ok-aliases.aliases.count c.in_ok-aliases.aliases.items) nothing_read)))) (on c.args.file.now (put_nodes (nodes_of c.in_ok-nodes.nodes.count c.in_ok-nodes.nodes.items) (put_tables (tables_of c.in_ok-tables.tables.count c.in_ok-tables.tables.items) (put_aliases (aliases_of c.in_ok-aliases.aliases.count c.in_ok-aliases.aliases.items) nothing_read))) (on c.args.file.now (put_tables (tables_of c.in_ok-tables.tables.count c.in_ok-tables.tables.items) (put_aliases (aliases_of c.in_ok-aliases.aliases.count c.in_ok-aliases.aliases.items) nothing_read)) (on c.args.file.now (put_aliases (aliases_of c.in_ok-aliases.aliases.count c.in_ok-aliases.aliases.items) nothing_read) (on c.args.file.now (put_aliases (aliases_of c.in_ok-aliases.aliases.count c.in_ok-aliases.aliases.items) nothing_read) (on c.args.file.now nothing_read (start c.args.file.now) c.in_ok-aliases.ensures.0) c.in_ok-labels.ensures.0.0) c.in_ok-tables.ensures.0.0) c.in_ok-nodes.ensures.0) (c.in_ok-threads.ensures.0 [] [])) c.in_err-picks.ensures)
 
 pub returns-in_err-reach_end : goal.returns-in_err-reach_end
 returns-in_err-reach_end c =
     let e : c.from_residual-in_err-reach_end.result ≡ Err c.in_err-reach_end.field-0.0 = search rules in
-    rw e (halted c.args.file.now (put_picks (first_picks c.in_ok-p.p.count c.in_ok-p.p.items) (put_threads (threads_of [] [] c.in_ok-s.s.count c.in_ok-s.s.items) (put_nodes (nodes_of c.in_ok-n.n.count c.in_ok-n.n.items) (put_tables (tables_of c.in_ok-r.r.count c.in_ok-r.r.items) (put_aliases (aliases_of c.in_ok-a.a.count c.in_ok-a.a.items) nothing_read))))) (on c.args.file.now (put_threads (threads_of [] [] c.in_ok-s.s.count c.in_ok-s.s.items) (put_nodes (nodes_of c.in_ok-n.n.count c.in_ok-n.n.items) (put_tables (tables_of c.in_ok-r.r.count c.in_ok-r.r.items) (put_aliases (aliases_of c.in_ok-a.a.count c.in_ok-a.a.items) nothing_read)))) (on c.args.file.now (put_nodes (nodes_of c.in_ok-n.n.count c.in_ok-n.n.items) (put_tables (tables_of c.in_ok-r.r.count c.in_ok-r.r.items) (put_aliases (aliases_of c.in_ok-a.a.count c.in_ok-a.a.items) nothing_read))) (on c.args.file.now (put_tables (tables_of c.in_ok-r.r.count c.in_ok-r.r.items) (put_aliases (aliases_of c.in_ok-a.a.count c.in_ok-a.a.items) nothing_read)) (on c.args.file.now (put_aliases (aliases_of c.in_ok-a.a.count c.in_ok-a.a.items) nothing_read) (on c.args.file.now (put_aliases (aliases_of c.in_ok-a.a.count c.in_ok-a.a.items) nothing_read) (on c.args.file.now nothing_read (start c.args.file.now) c.in_ok-a.ensures.0) c.in_ok-t.ensures.0.0) c.in_ok-r.ensures.0.0) c.in_ok-n.ensures.0) (c.in_ok-s.ensures.0 [] [])) c.in_ok-p.ensures.0) c.in_err-reach_end.ensures)
+    rw e (halted c.args.file.now (put_picks (first_picks c.in_ok-picks.picks.count c.in_ok-picks.picks.items) (put_threads (threads_of [] [] c.in_ok-threads.threads.count c.in_ok-threads.threads.items) (put_nodes (nodes_of c.in_ok-nodes.nodes.count c.in_ok-nodes.nodes.items) (put_tables (tables_of c.in_ok-tables.tables.count c.in_ok-tables.tables.items) (put_aliases (aliases_of c.in_ok-aliases.aliases.count c.in_ok-aliases.aliases.items) nothing_read))))) (on c.args.file.now (put_threads (threads_of [] [] c.in_ok-threads.threads.count c.in_ok-threads.threads.items) (put_nodes (nodes_of c.in_ok-nodes.nodes.count c.in_ok-nodes.nodes.items) (put_tables (tables_of c.in_ok-tables.tables.count c.in_ok-tables.tables.items) (put_aliases (aliases_of c.in_ok-aliases.aliases.count c.in_ok-aliases.aliases.items) nothing_read)))) (on c.args.file.now (put_nodes (nodes_of c.in_ok-nodes.nodes.count c.in_ok-nodes.nodes.items) (put_tables (tables_of c.in_ok-tables.tables.count c.in_ok-tables.tables.items) (put_aliases (aliases_of c.in_ok-aliases.aliases.count c.in_ok-aliases.aliases.items) nothing_read))) (on c.args.file.now (put_tables (tables_of c.in_ok-tables.tables.count c.in_ok-tables.tables.items) (put_aliases (aliases_of c.in_ok-aliases.aliases.count c.in_ok-aliases.aliases.items) nothing_read)) (on c.args.file.now (put_aliases (aliases_of c.in_ok-aliases.aliases.count c.in_ok-aliases.aliases.items) nothing_read) (on c.args.file.now (put_aliases (aliases_of c.in_ok-aliases.aliases.count c.in_ok-aliases.aliases.items) nothing_read) (on c.args.file.now nothing_read (start c.args.file.now) c.in_ok-aliases.ensures.0) c.in_ok-labels.ensures.0.0) c.in_ok-tables.ensures.0.0) c.in_ok-nodes.ensures.0) (c.in_ok-threads.ensures.0 [] [])) c.in_ok-picks.ensures.0) c.in_err-reach_end.ensures)
 
 pub returns : goal.returns
 unfolding view
-returns c = (refl, over c.args.file.now _ (put_picks (first_picks c.in_ok-p.p.count c.in_ok-p.p.items) (put_threads (threads_of (nodes_of c.in_ok-n.n.count c.in_ok-n.n.items) (replicate 64 c.blank_saved-saved.result) c.in_ok-s.s.count c.in_ok-s.s.items) (put_nodes (nodes_of c.in_ok-n.n.count c.in_ok-n.n.items) (put_tables (tables_of c.in_ok-r.r.count c.in_ok-r.r.items) (put_aliases (aliases_of c.in_ok-a.a.count c.in_ok-a.a.items) nothing_read))))) (on c.args.file.now (put_threads (threads_of (nodes_of c.in_ok-n.n.count c.in_ok-n.n.items) (replicate 64 c.blank_saved-saved.result) c.in_ok-s.s.count c.in_ok-s.s.items) (put_nodes (nodes_of c.in_ok-n.n.count c.in_ok-n.n.items) (put_tables (tables_of c.in_ok-r.r.count c.in_ok-r.r.items) (put_aliases (aliases_of c.in_ok-a.a.count c.in_ok-a.a.items) nothing_read)))) (on c.args.file.now (put_nodes (nodes_of c.in_ok-n.n.count c.in_ok-n.n.items) (put_tables (tables_of c.in_ok-r.r.count c.in_ok-r.r.items) (put_aliases (aliases_of c.in_ok-a.a.count c.in_ok-a.a.items) nothing_read))) (on c.args.file.now (put_tables (tables_of c.in_ok-r.r.count c.in_ok-r.r.items) (put_aliases (aliases_of c.in_ok-a.a.count c.in_ok-a.a.items) nothing_read)) (on c.args.file.now (put_aliases (aliases_of c.in_ok-a.a.count c.in_ok-a.a.items) nothing_read) (on c.args.file.now (put_aliases (aliases_of c.in_ok-a.a.count c.in_ok-a.a.items) nothing_read) (on c.args.file.now nothing_read (start c.args.file.now) c.in_ok-a.ensures.0) c.in_ok-t.ensures.0.0) c.in_ok-r.ensures.0.0) c.in_ok-n.ensures.0) (c.in_ok-s.ensures.0 (nodes_of c.in_ok-n.n.count c.in_ok-n.n.items) (replicate 64 c.blank_saved-saved.result))) c.in_ok-p.ensures.0) c.in_ok-reach_end.ensures)
+returns c = λ saved. (over c.args.file.now _ (put_picks (first_picks c.in_ok-picks.picks.count c.in_ok-picks.picks.items) (put_threads (threads_of (nodes_of c.in_ok-nodes.nodes.count c.in_ok-nodes.nodes.items) saved c.in_ok-threads.threads.count c.in_ok-threads.threads.items) (put_nodes (nodes_of c.in_ok-nodes.nodes.count c.in_ok-nodes.nodes.items) (put_tables (tables_of c.in_ok-tables.tables.count c.in_ok-tables.tables.items) (put_aliases (aliases_of c.in_ok-aliases.aliases.count c.in_ok-aliases.aliases.items) nothing_read))))) (on c.args.file.now (put_threads (threads_of (nodes_of c.in_ok-nodes.nodes.count c.in_ok-nodes.nodes.items) saved c.in_ok-threads.threads.count c.in_ok-threads.threads.items) (put_nodes (nodes_of c.in_ok-nodes.nodes.count c.in_ok-nodes.nodes.items) (put_tables (tables_of c.in_ok-tables.tables.count c.in_ok-tables.tables.items) (put_aliases (aliases_of c.in_ok-aliases.aliases.count c.in_ok-aliases.aliases.items) nothing_read)))) (on c.args.file.now (put_nodes (nodes_of c.in_ok-nodes.nodes.count c.in_ok-nodes.nodes.items) (put_tables (tables_of c.in_ok-tables.tables.count c.in_ok-tables.tables.items) (put_aliases (aliases_of c.in_ok-aliases.aliases.count c.in_ok-aliases.aliases.items) nothing_read))) (on c.args.file.now (put_tables (tables_of c.in_ok-tables.tables.count c.in_ok-tables.tables.items) (put_aliases (aliases_of c.in_ok-aliases.aliases.count c.in_ok-aliases.aliases.items) nothing_read)) (on c.args.file.now (put_aliases (aliases_of c.in_ok-aliases.aliases.count c.in_ok-aliases.aliases.items) nothing_read) (on c.args.file.now (put_aliases (aliases_of c.in_ok-aliases.aliases.count c.in_ok-aliases.aliases.items) nothing_read) (on c.args.file.now nothing_read (start c.args.file.now) c.in_ok-aliases.ensures.0) c.in_ok-labels.ensures.0.0) c.in_ok-tables.ensures.0.0) c.in_ok-nodes.ensures.0) (c.in_ok-threads.ensures.0 (nodes_of c.in_ok-nodes.nodes.count c.in_ok-nodes.nodes.items) saved)) c.in_ok-picks.ensures.0) c.in_ok-reach_end.ensures)

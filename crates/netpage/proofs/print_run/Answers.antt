@@ -3,7 +3,7 @@ use mathlib.Core.Path.{◌≡◌, subst}
 use mathlib.Core.List.{List}
 use native.Mathlib.Omega.{arith}
 use lib.Dec.{T}
-use lib.ListN.{length}
+use lib.ListN.{length, length-take}
 use borrow.Author.Rules.{rules}
 use Rattle.std.specs.List.{list_all}
 use Rattle.values.proofs.Firsts.{firsts_taken}
@@ -13,12 +13,21 @@ use Rattle.nets.specs.View.{no_table, table_of}
 use Rattle.nets.proofs.ShapeLaws.{few-tables, tables-ok}
 use Rattle.netpage.proofs.print_run.Goals as goal
 
-pub shared_ref_as_front-put_tables : goal.shared_ref_as_front-put_tables
-shared_ref_as_front-put_tables g c = few-tables c.run_picks-left.result c.run_picks-left.ensures.1
+pub slice_bounds-tables-end : goal.slice_bounds-tables-end
+slice_bounds-tables-end g c =
+    let net = c.run-left.result in
+    let l : length net.tables ≡ 8 = search rules in
+    omega (arith, few-tables net c.run-left.ensures.1, l)
+
+pub slice_bounds-put_tables-end : goal.slice_bounds-put_tables-end
+slice_bounds-put_tables-end g c =
+    let net = c.run-left.result in
+    let l : length net.tables ≡ 8 = search rules in
+    omega (arith, length-take net.tablecount net.tables, few-tables net c.run-left.ensures.1, l)
 
 pub put_tables-requires : goal.put_tables-requires
 put_tables-requires g c =
-    let net = c.run_picks-left.result in
-    let sound = c.run_picks-left.ensures.1 in
+    let net = c.run-left.result in
+    let sound = c.run-left.ensures.1 in
     let l : length net.tables ≡ 8 = search rules in
     subst (λ (ts : List M.Table). T (list_all table_ok ts)) (firsts_taken table_of no_table net.tablecount net.tables (omega (arith, few-tables net sound, l))) (tables-ok net sound)

@@ -1,6 +1,6 @@
 -- `call_each::picks::picks_given` meets its contract: too little room, or all picks and then the bytes that stood there. Assumes nothing.
 use Prim.Native.Nat.{ℕ, ◌*◌, ◌-◌, ◌≤◌, ◌<◌}
-use mathlib.Core.Path.{◌≡◌}
+use mathlib.Core.Path.{◌≡◌, refl}
 use mathlib.Core.List.{List, ◌++◌}
 use native.Mathlib.Omega.{arith}
 use lib.ListN.{length, drop}
@@ -20,7 +20,7 @@ module _ (ps : List Pick) (h : length ps ≤ 256) (o : List ℕ) where
   given ys l e = gives-put (picks_put ps) o (length ps * 2) (picks-long ps) ys l e
 
 pub returns-then-out-size : goal.returns-then-out-size
-returns-then-out-size c = search short
+returns-then-out-size c = record { gives = search short; refused = (omega arith, refl) }
 
 pub returns : goal.returns
-returns c = search given
+returns c = record { gives = search given; refused = tt }

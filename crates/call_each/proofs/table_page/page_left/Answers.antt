@@ -1,5 +1,5 @@
 -- `call_each::table_page::page_left` meets its contract: the run leaves a sound net, and its tables are those of the rule. Assumes nothing.
-use Prim.Native.Nat.{ℕ}
+use Prim.Native.Nat.{ℕ, ◌<◌}
 use mathlib.Core.Path.{◌≡◌, refl, sym, subst, ap, ◌∙◌}
 use mathlib.Core.Bool.{true}
 use mathlib.Core.List.{List, map}
@@ -22,7 +22,7 @@ use Rattle.nets.proofs.ShapeLaws.{tables_of_lem, few-tables, tables-ok}
 use Rattle.page_rules.specs.Pages.{PageOutcome, no_page, a_page, page_for, page, PageAnswer, page_refused, page_length, page_answer, buffer_after}
 use Rattle.page_lines.proofs.OutcomeLaws.{by_sound}
 use Rattle.std.specs.Prelude.{Result, Ok, Err}
-use Rattle.std.specs.Result.{MatchResult, IsErrAnd}
+use Rattle.std.specs.Result.{MatchResult, IfErr, IsErrAnd}
 use Rattle.std.proofs.lemmas.Result.{err_from_is_err_and}
 use lib.ListN.{length, get_or, take}
 use Rattle.page.specs.declared.NotPaged.{NotPaged}
@@ -31,7 +31,7 @@ use Rattle.call_each.specs.PageRefusals.{refused_page}
 use Rattle.page.specs.PageCall.{answer_of}
 use Rattle.call_rules.specs.declared.Refused.{Refused}
 use Rattle.call_rules.specs.TablePages.{page_reply, paged}
-use Rattle.call_rules.specs.Openings.{number_told, place_told, Told}
+use Rattle.call_rules.specs.Openings.{number_of, number_told, place_told, Told}
 use Rattle.call_each.proofs.table_page.page_left.Goals as goal
 
 -- what is told of a page's answer
@@ -59,9 +59,23 @@ place-is (Err Unsound) = refl
 place-is (Err NoTable) = refl
 place-is (Err (Short n)) = refl
 
+-- why a page is refused has a number above 0
+refuses : (o : List ℕ) (r : Result ℕ NotPaged) → IfErr (reply_of r) (λ why. (0 < number_of why) × (o ≡ o))
+refuses o (Ok n) = tt
+refuses o (Err Unsound) = (omega arith, refl)
+refuses o (Err NoTable) = (omega arith, refl)
+refuses o (Err (Short n)) = (omega arith, refl)
+
+-- a page that is put is no refusal
+no-refusal : (bs o : List ℕ) (r : Result ℕ NotPaged) → answer_of r ≡ page_answer (a_page bs) → IfErr (reply_of r) (λ why. (0 < number_of why) × (buffer_after o (a_page bs) ≡ o))
+no-refusal bs o (Ok n) e = tt
+no-refusal bs o (Err Unsound) e = let z : ◌≡◌ {A = ℕ} 0 1 = cc in absurd (omega arith)
+no-refusal bs o (Err NoTable) e = let z : ◌≡◌ {A = ℕ} 0 1 = cc in absurd (omega arith)
+no-refusal bs o (Err (Short n)) e = let z : ◌≡◌ {A = ℕ} 0 1 = cc in absurd (omega arith)
+
 told-outcome : (p : PageOutcome) (o : List ℕ) (r : Result ℕ NotPaged) → answer_of r ≡ page_answer p → Told (page_reply p) o (buffer_after o p) (reply_of r)
-told-outcome (no_page n vs) o r e = record { number = number-is r ∙ ap number_for e; place = place-is r ∙ ap place_for e; buffer = refl }
-told-outcome (a_page bs) o r e = record { number = number-is r ∙ ap number_for e; place = place-is r ∙ ap place_for e; buffer = refl }
+told-outcome (no_page n vs) o r e = record { gives = record { number = number-is r ∙ ap number_for e; place = place-is r ∙ ap place_for e; buffer = refl }; refused = refuses o r }
+told-outcome (a_page bs) o r e = record { gives = record { number = number-is r ∙ ap number_for e; place = place-is r ∙ ap place_for e; buffer = refl }; refused = no-refusal bs o r e }
 
 module _ (m : Net) (ps : List Pick) (net : Code.Net) (left : view net ≡ after m ps) (ok : T (sound (view net))) (eight : length net.tables ≡ 8) (site : Site) (name : ℕ) (o : List ℕ) where
   taken : tables_of net.tablecount net.tables ≡ map table_of (take net.tablecount net.tables)

@@ -1,6 +1,6 @@
 -- `call_each::tables::tables_left` meets its contract: too little room, or the records of the tables that the run left and then the bytes that stood there. Assumes nothing.
 use Prim.Native.Nat.{ℕ, ◌≤◌, ◌<◌}
-use mathlib.Core.Path.{◌≡◌, sym, ap, ◌∙◌}
+use mathlib.Core.Path.{◌≡◌, refl, sym, ap, ◌∙◌}
 use mathlib.Core.List.{List, map}
 use native.Mathlib.Omega.{arith}
 use lib.Dec.{T}
@@ -54,7 +54,10 @@ tables_size-size-requires c =
 pub returns-then-out-size : goal.returns-then-out-size
 returns-then-out-size c =
     let r = c.run_picks-left in
-    short (view c.args.net) (picks_in c.args.picks.now) r.result r.ensures (search rules) c.args.out.now c.tables_size-size.result c.tables_size-size.ensures c.if-out-size.true
+    record {
+      gives = short (view c.args.net) (picks_in c.args.picks.now) r.result r.ensures (search rules) c.args.out.now c.tables_size-size.result c.tables_size-size.ensures c.if-out-size.true;
+      refused = (omega arith, refl);
+    }
 
 pub write_tables-requires : goal.write_tables-requires
 write_tables-requires c =
@@ -65,7 +68,10 @@ write_tables-requires c =
 pub returns : goal.returns
 returns c =
     let r = c.run_picks-left in
-    given (view c.args.net) (picks_in c.args.picks.now) r.result r.ensures (search rules) c.args.out.now c.tables_size-size.result c.tables_size-size.ensures _ c.if-out-size.false c.write_tables.ensures.1
+    record {
+      gives = given (view c.args.net) (picks_in c.args.picks.now) r.result r.ensures (search rules) c.args.out.now c.tables_size-size.result c.tables_size-size.ensures _ c.if-out-size.false c.write_tables.ensures.1;
+      refused = tt;
+    }
 
 pub shared_ref_as_front-tables : goal.shared_ref_as_front-tables
 shared_ref_as_front-tables c = few-tables c.run_picks-left.result c.run_picks-left.ensures.1

@@ -1,6 +1,6 @@
 -- `call_each::threads::threads_left` meets its contract: too little room, or all threads that the run left and then the bytes that stood there. Assumes nothing.
 use Prim.Native.Nat.{ℕ, ◌*◌, ◌-◌, ◌≤◌, ◌<◌}
-use mathlib.Core.Path.{◌≡◌, sym, ap, ◌∙◌}
+use mathlib.Core.Path.{◌≡◌, refl, sym, ap, ◌∙◌}
 use mathlib.Core.List.{List, ◌++◌, map}
 use native.Mathlib.Omega.{arith}
 use lib.Dec.{T}
@@ -60,9 +60,9 @@ overflow_mul-size c =
 pub returns-then-out-size : goal.returns-then-out-size
 returns-then-out-size c =
     let r = c.run_picks-left in
-    short _ _ r.result r.ensures (search rules) c.args.out.now c.if-out-size.true
+    record { gives = short _ _ r.result r.ensures (search rules) c.args.out.now c.if-out-size.true; refused = (omega arith, refl) }
 
 pub returns : goal.returns
 returns c =
     let r = c.run_picks-left in
-    given _ _ r.result r.ensures (search rules) c.args.out.now _ c.if-out-size.false c.put_threads.ensures
+    record { gives = given _ _ r.result r.ensures (search rules) c.args.out.now _ c.if-out-size.false c.put_threads.ensures; refused = tt }

@@ -1,10 +1,14 @@
 -- The threads that are left decide.
-use Rattle.std.proofs.Common.{length, map}
+use Rattle.std.proofs.Common.{length, map, rules}
 use Rattle.values.proofs.ByPlace.{by_cons, by_end_lem}
 use Rattle.values.proofs.Loops.{all_more, all-fails, all-ends}
 use Rattle.nets.specs.Sound.{thread_ok}
 use Rattle.nets.specs.View.{node_of, thread_at}
+use Rattle.net_parts.proofs.Counts.{number_within}
 use Rattle.net_sound.proofs.saved.threads_ok.Goals as goal
+
+pub loop-i-init : goal.loop-i-init
+loop-i-init c = number_within (search rules) _
 
 pub loop-i-preserved : goal.loop-i-preserved
 loop-i-preserved c =

@@ -19,7 +19,7 @@ use Rattle.nets.specs.Nets.{Table, Node, Thread}
 use Rattle.nets.specs.Tables.{rows_fit, distinct}
 use Rattle.nets.specs.Sound.{table_ok, alias_ok, aliases_differ, nodes_ok, thread_ok, sound}
 use Rattle.nets.specs.View.{no_alias, no_table, table_of, no_node, node_of, nodes_of, no_thread, saved_at, thread_of, thread_at, threads_of, aliases_of, tables_of, view}
-use Rattle.net_parts.proofs.Counts.{front}
+use Rattle.net_parts.proofs.Counts.{front, number_within}
 use Rattle.net_parts.proofs.DistinctLaws.{aliases-over}
 use Rattle.net_sound.proofs.whole.sound_net.Goals as goal
 
@@ -134,7 +134,7 @@ returns c =
     (omega (arith, length-firsts node_of no_node net.nodecount net.nodes))
     (omega (arith, length_by (thread_at ds net.saved net.threads) 0 net.threadcount))
     (c.aliases_ok.ensures ∙ ap (λ (l : List Alias). list_all alias_ok l && aliases_differ l) (aliases-are net.aliascount net.aliases c.in-Some.aliases.now a.1 a.2))
-    (c.tables_ok.ensures ∙ ap (λ (l : List Table). list_all table_ok l && list_all rows_fit l && distinct l) tables-seen)
-    (c.nodes_ok.ensures ∙ nodes-are net.nodecount net.nodes c.in-Some-get-2.nodes.now d.1 d.2)
-    (c.threads_ok.ensures
+    (c.tables_ok.ensures ∙ sym (number_within {n = length c.in-Some-get.tables.now} {m = 8} (omega (arith, t.3)) _) ∙ ap (λ (l : List Table). list_all table_ok l && list_all rows_fit l && distinct l) tables-seen)
+    (c.nodes_ok.ensures ∙ sym (number_within {n = length c.in-Some-get-2.nodes.now} {m = 128} (omega (arith, d.3)) _) ∙ nodes-are net.nodecount net.nodes c.in-Some-get-2.nodes.now d.1 d.2)
+    (c.threads_ok.ensures ∙ sym (number_within {n = length c.in-Some-get-3.threads.now} {m = 8} (omega (arith, h.3)) _)
     ∙ threads-are (map node_of c.in-Some-get-2.nodes.now) ds net.saved net.threadcount net.threads c.in-Some-get-3.threads.now (seen-are node_of no_node net.nodecount net.nodes c.in-Some-get-2.nodes.now d.1 d.2) h.1 (omega (arith, h.3)) h.2)

@@ -31,7 +31,7 @@ pub returns-in-16 : goal.returns-in-16
 returns-in-16 c =
     let a = c.args in
     let f = c.draft_of in
-    insert-content a.node a.content a.source a.vars f.result f.ensures.0 c.in-16.is c.requires.4 c.row_of.result c.row_of.ensures c.push.ensures
+    insert-content a.node a.content a.source a.vars f.result f.ensures.0 c.in-16.is c.requires.4 c.row_of.result c.row_of.ensures.values c.push.ensures
 
 pub returns-in-17 : goal.returns-in-17
 returns-in-17 c =
