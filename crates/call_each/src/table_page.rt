@@ -32,7 +32,8 @@ fn page_left(net: Net, picks: &[u8], site: Site, name: u32, out: &mut [u8]) -> R
     ensures { Told (paged site name (view net) (picks_in picks.now) out.old) out.old out.new result }
 {
     let left = run_picks(net, picks);
-    page_tables(&left.tables[..left.tablecount], site, name, out).map_err(refused_page)
+    let all_tables = left.tables;
+    page_tables(&all_tables[..left.tablecount], site, name, out).map_err(refused_page)
 }
 
 pub fn call_page(file: &[u8], picks: &[u8], site: Site, name: u32, out: &mut [u8]) -> Reply

@@ -20,7 +20,8 @@ fn tables_left(net: Net, picks: &[u8], out: &mut [u8]) -> Reply
     ensures { Told (if_room (tables_put (view net) (picks_in picks.now)) out.old) out.old out.new result }
 {
     let left = run_picks(net, picks);
-    let tables = &left.tables[..left.tablecount];
+    let all_tables = left.tables;
+    let tables = &all_tables[..left.tablecount];
     let size = tables_size(tables);
     if out.len() < size {
         return Err(Refused::Short(size));

@@ -20,7 +20,8 @@ fn threads_left(net: Net, picks: &[u8], out: &mut [u8]) -> Reply
     ensures { Told (if_room (threads_put (view net) (picks_in picks.now)) out.old) out.old out.new result }
 {
     let left = run_picks(net, picks);
-    let threads = &left.threads[..left.threadcount];
+    let all_threads = left.threads;
+    let threads = &all_threads[..left.threadcount];
     let size = threads.len() * THREAD;
     if out.len() < size {
         return Err(Refused::Short(size));

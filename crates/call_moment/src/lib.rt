@@ -1,4 +1,4 @@
-// A moment of a run as records: all tables and rows, and all that threads hold.
+// A moment of a run as records: all tables and rows, and all that threads hold. Tables and nodes are copied out of the net before some of them are lent: where a part of the net itself is lent, the compiled code keeps a copy of the whole net.
 #![tactic(auto)]
 
 ghost use Rattle.std.specs.Prelude.{◌≡◌, ◌≤◌, T, length};
@@ -29,14 +29,16 @@ pub fn moment_size(net: Net) -> usize
     requires { T (sound (view net)) }
     ensures { (result ≡ length (moment_put (view net))) × (result ≤ 396136) }
 {
-    RECORD + tables_size(&net.tables[..net.tablecount]) + count_all(net) * RECORD
+    let all_tables = net.tables;
+    RECORD + tables_size(&all_tables[..net.tablecount]) + count_all(net) * RECORD
 }
 
 pub fn put_moment(out: &mut [u8], net: Net)
     requires { T (sound (view net)) × (length out.old ≡ length (moment_put (view net))) }
     ensures { out.new ≡ moment_put (view net) }
 {
-    let tables = &net.tables[..net.tablecount];
+    let all_tables = net.tables;
+    let tables = &all_tables[..net.tablecount];
     let middle = RECORD + tables_size(tables);
     let end = moment_size(net);
     out[0..RECORD].copy_from_slice(&moment_head(

@@ -15,7 +15,8 @@ pub fn count_all(net: Net) -> usize
     requires { T (sound (view net)) }
     ensures { (result ≡ length (all_threads (view net).nodes (view net).threads)) × (result ≤ 3672) }
 {
-    let holds = all_holds(&net.nodes[..net.nodecount]);
+    let nodes = net.nodes;
+    let holds = all_holds(&nodes[..net.nodecount]);
     let mut total = 0;
     for i in 0..net.threadcount {
         let k = i * 8;
@@ -38,7 +39,8 @@ pub fn put_all(out: &mut [u8], net: Net)
     requires { T (sound (view net)) × (length out.old ≡ length (all_threads (view net).nodes (view net).threads) * 104) }
     ensures { out.new ≡ end_to_end (all_threads (view net).nodes (view net).threads) }
 {
-    let holds = all_holds(&net.nodes[..net.nodecount]);
+    let nodes = net.nodes;
+    let holds = all_holds(&nodes[..net.nodecount]);
     let mut at = 0;
     for i in 0..net.threadcount {
         let k = i * 8;

@@ -9,6 +9,7 @@ ghost use Rattle.step_bytes.specs.PickBytes.{picks_in};
 ghost use Rattle.step_bytes.specs.AnswerBytes.{answers_put};
 ghost use Rattle.step_left.specs.Carried.{CarriedIs, reached_by};
 
+use crate::closing::close_up;
 use nets::kinds::{CREATE, DROP, binds_relation};
 use nets::tables::find_table;
 use nets::{Entry, Net, Refusal, Saved, Table, TableVariable};
@@ -26,6 +27,8 @@ use step_rows::judged;
 use step_thread::{ends_round, forked, node_of, run_frame};
 use value_eval::eval_in;
 use value_totals::{add_count, zero};
+
+mod closing;
 
 // Requires a sound net unless the list is empty; an empty list answers 10. All answers go to the start of `out` if it has room for all of them; else `out` stays as it is.
 pub fn carry_out(from: Net, picks: &[u8], out: &mut [u8]) -> Carried
@@ -144,7 +147,7 @@ pub fn carry_out(from: Net, picks: &[u8], out: &mut [u8]) -> Carried
                 net.tablecount = tablecount + 1;
             }
             DROP => {
-                net.tables.copy_within(slot + 1..tablecount, slot);
+                close_up(&mut net.tables, slot, tablecount);
                 net.tablecount = tablecount - 1;
             }
             _ => {
@@ -182,8 +185,7 @@ pub fn carry_out(from: Net, picks: &[u8], out: &mut [u8]) -> Carried
         // ---- the threads: one without entries is removed, and the list closes up, with what entries of its threads hold; a fork goes last
         if decided.depth == 0 {
             let last = threadcount - 1;
-            net.threads
-                .copy_within(thread_place + 1..threadcount, thread_place);
+            close_up(&mut net.threads, thread_place, threadcount);
             net.threadcount = last;
             let end = last * 8;
             let first = thread_place * 8;

@@ -1,12 +1,13 @@
 -- The Int of a record in a column: only a row record has one, and what its operands give has it at the column's place.
-use Prim.Native.Nat.{ℕ, zero, suc, ◌≤◌}
+use Prim.Native.Nat.{ℕ, zero, suc, ◌≤◌, ◌<◌}
+use native.Mathlib.Omega.{arith}
 use mathlib.Core.Path.{◌≡◌, refl, sym, ap, ◌∙◌}
 use mathlib.Core.Bool.{Bool, true, false, not, cond}
 use mathlib.Core.List.{List, [], ◌∷◌, map}
 use Rattle.std.specs.Prelude.{Option, None, Some, is_some}
 use lib.Dec.{T, eqb}
 use lib.IntN.{ℤ}
-use lib.ListN.{length, get_or, take, get_or-eq_default}
+use lib.ListN.{length, get_or, get_or-eq_default}
 use borrow.Author.Tests.{eq-eqb, ne_eqb}
 use Rattle.values.specs.Operands.{Got}
 use Rattle.values.specs.declared.Operand.{Operand}
@@ -14,27 +15,24 @@ use Rattle.values.specs.declared.Operand.TheVariants.{Absent, ConstInt, ConstTex
 use Rattle.std.specs.List.{list_all}
 use Rattle.values.specs.Operands.{values_in, eval}
 use Rattle.values.proofs.Bools.{and_l, and_r, T_of}
-use Rattle.values.specs.declared.Value.{Value}
-use Rattle.window.proofs.IntLaws.{firsts-take}
+use Rattle.values.proofs.Firsts.{length-firsts, firsts_at}
 use Rattle.rows.specs.declared.Draft.{Draft}
 use Rattle.rows.specs.View.{no_slot, draft_of}
 use Rattle.nets.specs.Sound.{tagged, operands_ok}
 use Rattle.record_bytes.specs.Bytes.{at, part, operands_in}
 use Rattle.record_bytes.specs.Decoding.{Record, Decoded, row_record, site_at, name_in, row_in, row_form, in_form, record_in}
-use Rattle.window_rules.specs.Windows.{value_int, column_int, record_int, decoded_int, counted_int}
+use Rattle.window_rules.specs.Windows.{column_int, record_int, decoded_int, counted_int}
 use Rattle.window.specs.WindowCalls.{got_int}
 
 -- ── a column of a draft ──
 
-module _ (d : Draft) (c : ℕ) (few : d.count ≤ length d.slots) where
-  drafted : draft_of d ≡ take d.count d.slots
-  drafted = firsts-take no_slot d.count d.slots few
+pub past-draft : (d : Draft) (c : ℕ) → d.count ≤ c → None ≡ got_int (get_or (draft_of d) c None)
+past-draft d c h =
+    let l : length (draft_of d) ≤ c = omega (arith, length-firsts (λ (g : Got). g) no_slot d.count d.slots) in
+    sym (ap got_int (get_or-eq_default (draft_of d) None l))
 
-  pub past-draft : length (take d.count d.slots) ≤ c → None ≡ got_int (get_or (draft_of d) c None)
-  past-draft h = rw drafted (sym (ap got_int (get_or-eq_default (take d.count d.slots) None h)))
-
-  pub in_draft : (o : Option ℤ) (g : Got) (v : Value) → g ≡ get_or (take d.count d.slots) c None → g ≡ Some v → o ≡ value_int v → o ≡ got_int (get_or (draft_of d) c None)
-  in_draft o g v at is e = rw drafted (e ∙ ap got_int (sym is ∙ at))
+pub in_draft : (d : Draft) (c : ℕ) (o : Option ℤ) → c < d.count → o ≡ got_int (get_or d.slots c no_slot) → o ≡ got_int (get_or (draft_of d) c None)
+in_draft d c o h e = e ∙ sym (ap got_int (firsts_at (λ (g : Got). g) no_slot d.count d.slots c None h))
 
 -- ── constants: each gives a value, so the row has at each place what its operand gives ──
 

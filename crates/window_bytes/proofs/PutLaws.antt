@@ -4,15 +4,15 @@ use native.Mathlib.Omega.{arith}
 use mathlib.Core.Path.{◌≡◌, refl, ap, ◌∙◌}
 use mathlib.Core.List.{List, [], ◌∷◌, ◌++◌, map, append-nil, append_assoc}
 use lib.IntN.{ℤ, pos}
-use lib.ListN.{length, take, drop, replicate, length-take, length-append, length-replicate, drop_of_length-le}
+use lib.ListN.{length, drop, replicate, length-append, length-replicate, drop_of_length-le}
 use Rattle.std.specs.Int.{w64, to_le_bytes}
 use borrow.Rule.Slice.PartMut.{put_mid}
+use Rattle.values.proofs.Firsts.{length-firsts}
 use Rattle.value_bytes.specs.Bytes.{end_to_end, eight_bytes}
 use Rattle.value_bytes.proofs.Stores.{part-written}
 use Rattle.window_rules.specs.WindowBytes.{int_bytes, window_bytes}
 use Rattle.window.specs.declared.Window.{Window}
 use Rattle.window.specs.WindowCalls.{ints_of, window_of}
-use Rattle.window.proofs.IntLaws.{firsts-take}
 
 -- ── how long each part is ──
 
@@ -30,7 +30,7 @@ same_bytes n =
     rw (e, f, g) refl
 
 -- the Ints in use, and zeros behind them
-abbrev int_part : List ℤ → List ℕ
+abbrev pub int_part : List ℤ → List ℕ
 int_part l = end_to_end (map int_bytes l) ++ replicate (64 - 4 * length l) 0
 
 ints-length : (l : List ℤ) → length (end_to_end (map int_bytes l)) ≡ 4 * length l
@@ -50,11 +50,10 @@ module _ (o a b c d : List ℕ) (l : length o ≡ 88) where
       let e : drop 88 o ≡ [] = drop_of_length-le o {i = 88} (omega arith) in
       rw (part-written a o b 8 8 la, part-written (a ++ b) o c 16 8 n, part-written ((a ++ b) ++ c) o d 24 64 m, e, append-nil) (simp append_assoc)
 
-  pub window-put : (s : Window) → s.count ≤ 16 → s.count ≤ length s.ints → a ≡ eight_bytes s.width → b ≡ eight_bytes s.column → c ≡ eight_bytes s.count → d ≡ int_part (take s.count s.ints)
+  pub window-put : (s : Window) → s.count ≤ 16 → a ≡ eight_bytes s.width → b ≡ eight_bytes s.column → c ≡ eight_bytes s.count → d ≡ int_part (ints_of s.count s.ints)
       → put_mid 24 64 (put_mid 16 8 (put_mid 8 8 (a ++ drop 8 o) b) c) d ≡ window_bytes (window_of s)
   unfolding window_bytes
-  window-put s few room ha hb hc hd =
-      let t : ints_of s.count s.ints ≡ take s.count s.ints = firsts-take (pos 0) s.count s.ints room in
-      let n : length (take s.count s.ints) ≡ s.count = omega (arith, length-take s.count s.ints) in
-      filled (ap length ha ∙ eight-length s.width) (ap length hb ∙ eight-length s.column) (ap length hc ∙ eight-length s.count) (ap length hd ∙ part-length (take s.count s.ints) (omega (arith, n, few)))
-      ∙ rw (ha, hb, hc, hd, t, n) refl
+  window-put s few ha hb hc hd =
+      let n : length (ints_of s.count s.ints) ≡ s.count = length-firsts (λ (z : ℤ). z) (pos 0) s.count s.ints in
+      filled (ap length ha ∙ eight-length s.width) (ap length hb ∙ eight-length s.column) (ap length hc ∙ eight-length s.count) (ap length hd ∙ part-length (ints_of s.count s.ints) (omega (arith, n, few)))
+      ∙ rw (ha, hb, hc, hd, n) refl

@@ -1,7 +1,7 @@
 -- `call_moment::moment_size` meets its contract: its own record, those of its tables and rows, and those of its threads. Assumes nothing.
 use mathlib.Core.Path.{◌≡◌, ap}
 use mathlib.Core.List.{List}
-use lib.ListN.{length}
+use lib.ListN.{length, length-take}
 use native.Mathlib.Omega.{arith}
 use borrow.Author.Rules.{rules}
 use Rattle.nets.proofs.ShapeLaws.{few-tables}
@@ -11,8 +11,15 @@ use Rattle.write.proofs.WholeLaws.{tables-few, tables-ranged, tables-in-use}
 use Rattle.call_moment.proofs.MomentLaws.{moment_length}
 use Rattle.call_moment.proofs.moment_size.Goals as goal
 
-pub shared_ref_as_front-tables_size : goal.shared_ref_as_front-tables_size
-shared_ref_as_front-tables_size c = few-tables c.args.net c.requires
+pub slice_bounds-all_tables-end : goal.slice_bounds-all_tables-end
+slice_bounds-all_tables-end c =
+    let l : length c.args.net.tables ≡ 8 = search rules in
+    omega (arith, few-tables c.args.net c.requires, l)
+
+pub slice_bounds-tables_size-end : goal.slice_bounds-tables_size-end
+slice_bounds-tables_size-end c =
+    let l : length c.args.net.tables ≡ 8 = search rules in
+    omega (arith, length-take c.args.net.tablecount c.args.net.tables, few-tables c.args.net c.requires, l)
 
 pub tables_size-requires : goal.tables_size-requires
 tables_size-requires c =

@@ -5,7 +5,7 @@ use mathlib.Core.Bool.{true}
 use mathlib.Core.List.{List, ◌++◌, map, append-nil}
 use native.Mathlib.Omega.{arith}
 use lib.Dec.{T, leb}
-use lib.ListN.{length, take, drop, drop_of_length-le}
+use lib.ListN.{length, take, drop, length-take, drop_of_length-le}
 use borrow.Author.Tests.{le-leb}
 use borrow.Rule.Slice.PartMut.{put_mid}
 use Rattle.values.proofs.Firsts.{length-firsts}
@@ -129,5 +129,12 @@ returns c =
     let e = c.moment_size-end in
     put_all c.args.net c.requires.0 (search rules) c.args.out.now c.requires.1 w.result e.result w.ensures.0 e.ensures.0 _ _ _ (c.copy_from_slice.ensures.after ∙ c.moment_head.ensures) c.write_tables.ensures.1 c.put_all.ensures
 
-pub shared_ref_as_front-tables : goal.shared_ref_as_front-tables
-shared_ref_as_front-tables c = few-tables c.args.net c.requires.0
+pub slice_bounds-all_tables-end : goal.slice_bounds-all_tables-end
+slice_bounds-all_tables-end c =
+    let l : length c.args.net.tables ≡ 8 = search rules in
+    omega (arith, few-tables c.args.net c.requires.0, l)
+
+pub slice_bounds-tables-end : goal.slice_bounds-tables-end
+slice_bounds-tables-end c =
+    let l : length c.args.net.tables ≡ 8 = search rules in
+    omega (arith, length-take c.args.net.tablecount c.args.net.tables, few-tables c.args.net c.requires.0, l)

@@ -75,9 +75,9 @@ use Rattle.step_picks.proofs.SavedTies.{SeesSame, top-holds, thread-stored, none
 use Rattle.step_picks.proofs.AgreeTies as AgreeTies
 use Rattle.step_picks.proofs.AgreeTies.{sees_bound, agrees-below}
 use Rattle.step_picks.proofs.carry_out.Lts.View as View
-use Rattle.step_picks.proofs.Behind.{Sized, Behind, with_tables, with_threads, with_saved}
+use Rattle.step_picks.proofs.Behind.{Sized, Behind, with_saved}
 use Rattle.step_picks.proofs.carry_out.Goals as goal
-use Rattle.step_picks.proofs.carry_out.Goals.{After-add_count-taken, After-binds_relation-binds, After-bound_tables-bound_flags, After-content_after-content_put, After-copy_within-then-decided-eq0, After-decide-decision, After-ends_round, After-find_table-place, After-forked, After-loop-i, After-node_of-outer_number, After-pick_at-pick, After-unwrap_or-slot, After-run_frame, After-shown-content, After-site_of-located, After-site_or_any-site, After-source_of-source, After-struct_known-in-loop-i-2-1, At-loop-i, Else-decided-eq0, Else-threadcount-thread_place, In-23, In-24, In-Ok, In-loop-hole, In-loop-level, Joined-binds, Joined-binds-2, Joined-decided, Joined-decided-depth, Joined-kind, Then-decided, Then-decided-depth, Then-decided-eq0, Then-ends_round, Then-puts_rows, Then-threadcount-thread_place, then-binds+else-loop-level-test, else-binds, then-binds-2, else-binds-2, in-23, in-24, in_default-kind+then-puts_rows, in_default-kind+else-puts_rows, then-decided, else-decided, then-decided-depth+then-ends_round, then-decided-depth+else-ends_round, else-decided-depth, then-hole-net, else-hole-net}
+use Rattle.step_picks.proofs.carry_out.Goals.{After-add_count-taken, After-binds_relation-binds, After-bound_tables-bound_flags, After-close_up-then-decided-eq0, After-decide-decision, After-find_table-place, After-forked, After-loop-i, After-node_of-outer_number, After-pick_at-pick, After-unwrap_or-slot, After-run_frame, After-shown-content, After-site_of-located, After-site_or_any-site, After-source_of-source, At-loop-i, Else-decided-eq0, Else-threadcount-thread_place, In-Ok, In-loop-hole, In-loop-level, Joined-binds, Joined-binds-2, Joined-decided, Joined-decided-depth, Joined-kind, Then-decided, Then-decided-depth, Then-decided-eq0, Then-ends_round, Then-puts_rows, Then-threadcount-thread_place, then-binds+else-loop-level-test, else-binds, then-binds-2, else-binds-2, in-23, in-24, in_default-kind+then-puts_rows, in_default-kind+else-puts_rows, then-decided, else-decided, then-decided-depth+then-ends_round, then-decided-depth+else-ends_round, else-decided-depth, then-hole-net, else-hole-net}
 
 -- ── invariants ──
 
@@ -692,21 +692,14 @@ dropped-there j k = (tables-fit j no_content (no-puts j no_content (ap (λ (b : 
 dropped-slot : (j : Moved) → (situation_by j).node.kind ≡ 24 → (slot_of (shown_by j)).unwrap_or-slot.result ≡ placed (shown_by j)
 dropped-slot j k = let s = slot_of (shown_by j) in slot-at s ∙ ap (λ (b : Bool). cond b (at_in s) 0) (is_true _ (lt→ltb (at_in s) (net_by j).tablecount (dropped-there j k)))
 
-pub copy_within-requires-clause-start_le_end : goal.copy_within-requires-clause-start_le_end
-copy_within-requires-clause-start_le_end c =
-    let j = (goal.at.copy_within-requires-clause-start_le_end c).Joined-binds-2 in
-    let h = dropped-there j c.in-24.is in
-    let e = dropped-slot j c.in-24.is in
-    omega (arith, h, e)
-
-pub copy_within-requires-clause-dest_in_bounds : goal.copy_within-requires-clause-dest_in_bounds
-copy_within-requires-clause-dest_in_bounds c =
-    let j = (goal.at.copy_within-requires-clause-dest_in_bounds c).Joined-binds-2 in
+pub close_up-requires : goal.close_up-requires
+close_up-requires c =
+    let j = (goal.at.close_up-requires c).Joined-binds-2 in
     let h = dropped-there j c.in-24.is in
     let e = dropped-slot j c.in-24.is in
     let few = few-tables (net_by j) (okay (there_by j)) in
     let eight = (at_of (picked_of (there_by j))).loop-i.invariant.sized.tables in
-    omega (arith, h, e, few, eight)
+    (omega (arith, h, e), omega (arith, few, eight))
 
 pub overflow_sub-net : goal.overflow_sub-net
 overflow_sub-net c = let h = dropped-there (goal.at.overflow_sub-net c).Joined-binds-2 c.in-24.is in omega (arith, h)
@@ -790,10 +783,10 @@ left c =
                 subst (λ (m : Net). Stored n m (tables_left j no_content)) (sym w.net-is)
                 (record {
                   tables =
-                      ap (tables_of (n.tablecount - 1)) w.copy_within.ensures.after
+                      ap (tables_of (n.tablecount - 1)) w.close_up.ensures.after
                       ∙ table-dropped n.tablecount n.tables _ _ _ _ _ w.in-24.is low closing (omega arith)
                       ∙ ap (λ (i : ℕ). tables_with (kind_at (situation_by j).node.kind) i (tables_of n.tablecount n.tables) (site_of (shown_by j)).site_or_any-site.result (node_of (situation_by j).node) (relation_of no_content)) (dropped-slot j w.in-24.is);
-                  eight = ap length w.copy_within.ensures.after ∙ closing.size ∙ eight;
+                  eight = ap length w.close_up.ensures.after ∙ closing.size ∙ eight;
                   rest = refl;
                 });
           }
@@ -1329,25 +1322,18 @@ tabled_of c = tabled_by (backs_of c)
 pub overflow_sub-last : goal.overflow_sub-last
 overflow_sub-last c = let h = picked-there (tabled_of c) in omega (arith, h)
 
-pub copy_within-requires-then-decided-eq0-clause-in_bounds : goal.copy_within-requires-then-decided-eq0-clause-in_bounds
-copy_within-requires-then-decided-eq0-clause-in_bounds c =
-    let d = (goal.at.copy_within-requires-then-decided-eq0-clause-in_bounds c).Then-decided-eq0 in
-    let few = few-running (tabled_of d) in
-    let eight = running-long (keeps_in (backs_of d)) in
-    omega (arith, few, eight)
-
-pub copy_within-requires-then-decided-eq0-clause-dest_in_bounds : goal.copy_within-requires-then-decided-eq0-clause-dest_in_bounds
-copy_within-requires-then-decided-eq0-clause-dest_in_bounds c =
-    let d = (goal.at.copy_within-requires-then-decided-eq0-clause-dest_in_bounds c).Then-decided-eq0 in
+pub close_up-requires-then-decided-eq0 : goal.close_up-requires-then-decided-eq0
+close_up-requires-then-decided-eq0 c =
+    let d = (goal.at.close_up-requires-then-decided-eq0 c).Then-decided-eq0 in
     let h = picked-there (tabled_of d) in
     let few = few-running (tabled_of d) in
     let eight = running-long (keeps_in (backs_of d)) in
-    omega (arith, h, few, eight)
+    (omega (arith, h), omega (arith, few, eight))
 
 -- ── what is saved closes up with the threads ──
 
 abbrev Closed : Type 0
-Closed = After-copy_within-then-decided-eq0
+Closed = After-close_up-then-decided-eq0
 
 abbrev carried_of : Closed → Carried
 carried_of c = (goal.at.overflow_mul-end c).Then-decided-eq0
@@ -1368,14 +1354,14 @@ gone_at c = (pick_by (moved_of (tabled_of (carried_of c)))).thread
 abbrev closed_net : Closed → Net
 closed_net c =
     let n = (keeps_in (backs_of (carried_of c))).if-decided.net in
-    record { aliases = n.aliases; aliascount = n.aliascount; tables = n.tables; tablecount = n.tablecount; nodes = n.nodes; nodecount = n.nodecount; threads = c.copy_within-then-decided-eq0.new.self; threadcount = (net_by (moved_of (tabled_of (carried_of c)))).threadcount - 1; saved = n.saved }
+    record { aliases = n.aliases; aliascount = n.aliascount; tables = n.tables; tablecount = n.tablecount; nodes = n.nodes; nodecount = n.nodecount; threads = c.close_up-then-decided-eq0.new.items; threadcount = (net_by (moved_of (tabled_of (carried_of c)))).threadcount - 1; saved = n.saved }
 
 closing : (c : Closed) → Closing no_thread (keeps_in (backs_of (carried_of c))).if-decided.net.threads (gone_at c) ((net_by (moved_of (tabled_of (carried_of c)))).threadcount - 1) (closed_net c).threads
 closing c =
     let k = keeps_in (backs_of (carried_of c)) in
     let n = net_by (moved_of (tabled_of (carried_of c))) in
     let few = few-running (tabled_of (carried_of c)) in
-    subst (Closing no_thread k.if-decided.net.threads (gone_at c) (n.threadcount - 1)) (sym c.copy_within-then-decided-eq0.ensures.after)
+    subst (Closing no_thread k.if-decided.net.threads (gone_at c) (n.threadcount - 1)) (sym c.close_up-then-decided-eq0.ensures.after)
     (closing_copied no_thread k.if-decided.net.threads (gone_at c) n.threadcount (picked-there (tabled_of (carried_of c))) (omega (arith, few, running-long k)))
 
 -- what is saved, before any of it moves
@@ -1391,7 +1377,7 @@ abbrev Hole : Type 0
 Hole = In-loop-hole
 
 abbrev closed_of : Hole → Closed
-closed_of c = (View.at-In-loop-hole _ _ _ _ _ _ _ _ _ _ c).After-copy_within-then-decided-eq0
+closed_of c = (View.at-In-loop-hole _ _ _ _ _ _ _ _ _ _ c).After-close_up-then-decided-eq0
 
 low-place : (c : Closed) (hole : ℕ) → hole < ((net_by (moved_of (tabled_of (carried_of c)))).threadcount - 1) * 8 → hole + 8 < 64
 low-place c hole h = let k = last-low c in omega (arith, h, k)
@@ -1400,10 +1386,10 @@ hole-low : (c : Hole) → c.loop-hole.hole + 8 < 64
 hole-low c = low-place (closed_of c) c.loop-hole.hole c.loop-hole-test.true
 
 pub offset_bounds-net-owner : goal.offset_bounds-net-owner
-offset_bounds-net-owner c = record { fits = let h = low-place (goal.at.offset_bounds-net-owner c).After-copy_within-then-decided-eq0 c.loop-hole.hole c.loop-hole-test.true in omega (arith, h) }
+offset_bounds-net-owner c = record { fits = let h = low-place (goal.at.offset_bounds-net-owner c).After-close_up-then-decided-eq0 c.loop-hole.hole c.loop-hole-test.true in omega (arith, h) }
 
 pub bounds-net-owner : goal.bounds-net-owner
-bounds-net-owner c = let h = low-place (goal.at.bounds-net-owner c).After-copy_within-then-decided-eq0 c.loop-hole.hole c.loop-hole-test.true in omega (arith, h)
+bounds-net-owner c = let h = low-place (goal.at.bounds-net-owner c).After-close_up-then-decided-eq0 c.loop-hole.hole c.loop-hole-test.true in omega (arith, h)
 
 pub overflow_add-kept : goal.overflow_add-kept
 overflow_add-kept c = record { fits = let h = hole-low (goal.at.overflow_add-kept c).In-loop-hole in omega (arith, h) }
@@ -1453,7 +1439,7 @@ loop-hole-preserved c =
 pub loop-i-preserved-then-decided-eq0 : goal.loop-i-preserved-then-decided-eq0
 loop-i-preserved-then-decided-eq0 c =
     let f = c.loop-hole in
-    let d = (goal.at.loop-i-preserved-then-decided-eq0 c).After-copy_within-then-decided-eq0 in
+    let d = (goal.at.loop-i-preserved-then-decided-eq0 c).After-close_up-then-decided-eq0 in
     let g = carried_of d in
     let b = backs_of g in
     let q = keeps_in b in

@@ -2,10 +2,9 @@ use Prim.Native.Nat.{◌-◌, ◌≤◌}
 use mathlib.Core.Path.{◌≡◌}
 use Rattle.std.specs.List.{list_any}
 use Rattle.nets.specs.Steps.{holds}
-use Rattle.nets.specs.View.{no_table, no_thread, nodes_of, stack_of, saved_at}
-use Rattle.values.proofs.RemoveLaws.{Closing}
+use Rattle.nets.specs.View.{nodes_of, stack_of, saved_at}
 use Rattle.step_picks.proofs.ThreadTies.{Shifting}
-use Rattle.step_picks.proofs.Behind.{Behind, with_tables, with_threads, with_saved}
+use Rattle.step_picks.proofs.Behind.{Behind, with_saved}
 use Rattle.step_picks.proofs.carry_out.Given as goal
 
 -- of the frames below `level` one holds the table variable

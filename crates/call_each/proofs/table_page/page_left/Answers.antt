@@ -24,7 +24,7 @@ use Rattle.page_lines.proofs.OutcomeLaws.{by_sound}
 use Rattle.std.specs.Prelude.{Result, Ok, Err}
 use Rattle.std.specs.Result.{MatchResult, IfErr, IsErrAnd}
 use Rattle.std.proofs.lemmas.Result.{err_from_is_err_and}
-use lib.ListN.{length, get_or, take}
+use lib.ListN.{length, get_or, take, length-take}
 use Rattle.page.specs.declared.NotPaged.{NotPaged}
 use Rattle.page.specs.declared.NotPaged.TheVariants.{Unsound, NoTable, Short}
 use Rattle.call_each.specs.PageRefusals.{refused_page}
@@ -97,8 +97,17 @@ page_tables-requires c =
     let ok = c.run_picks-left.ensures.1 in
     subst (λ (l : List Table). T (list_all table_ok l)) (taken _ _ n c.run_picks-left.ensures.0 ok (search (long, rules)) c.args.site c.args.name c.args.out.now) (tables-ok n ok)
 
-pub shared_ref_as_front-page_tables : goal.shared_ref_as_front-page_tables
-shared_ref_as_front-page_tables c = let k = few-tables c.run_picks-left.result c.run_picks-left.ensures.1 in let eight : length c.run_picks-left.result.tables ≡ 8 = search (long, rules) in omega (arith, k, eight)
+pub slice_bounds-all_tables-end : goal.slice_bounds-all_tables-end
+slice_bounds-all_tables-end c =
+    let r = c.run_picks-left in
+    let eight : length r.result.tables ≡ 8 = search (long, rules) in
+    omega (arith, few-tables r.result r.ensures.1, eight)
+
+pub slice_bounds-page_tables-end : goal.slice_bounds-page_tables-end
+slice_bounds-page_tables-end c =
+    let r = c.run_picks-left in
+    let eight : length r.result.tables ≡ 8 = search (long, rules) in
+    omega (arith, length-take r.result.tablecount r.result.tables, few-tables r.result r.ensures.1, eight)
 
 -- what `map_err` gives of it
 maps : (Q : NotPaged → Refused → Type 0) (r : Result ℕ NotPaged) (s : Result ℕ Refused) → ((why : NotPaged) (told : Refused) → Q why told → told ≡ refused_page why) → MatchResult r (λ n. s ≡ Ok n) (λ why. IsErrAnd s (Q why)) → s ≡ reply_of r

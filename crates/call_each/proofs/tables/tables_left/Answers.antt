@@ -4,7 +4,7 @@ use mathlib.Core.Path.{◌≡◌, refl, sym, ap, ◌∙◌}
 use mathlib.Core.List.{List, map}
 use native.Mathlib.Omega.{arith}
 use lib.Dec.{T}
-use lib.ListN.{length, take}
+use lib.ListN.{length, take, length-take}
 use borrow.Author.Tests.{le-leb}
 use Rattle.nets.specs.declared.Pick.{Pick}
 use Rattle.nets.specs.declared.Net as Code
@@ -73,5 +73,14 @@ returns c =
       refused = tt;
     }
 
-pub shared_ref_as_front-tables : goal.shared_ref_as_front-tables
-shared_ref_as_front-tables c = few-tables c.run_picks-left.result c.run_picks-left.ensures.1
+pub slice_bounds-all_tables-end : goal.slice_bounds-all_tables-end
+slice_bounds-all_tables-end c =
+    let r = c.run_picks-left in
+    let l : length r.result.tables ≡ 8 = search rules in
+    omega (arith, few-tables r.result r.ensures.1, l)
+
+pub slice_bounds-tables-end : goal.slice_bounds-tables-end
+slice_bounds-tables-end c =
+    let r = c.run_picks-left in
+    let l : length r.result.tables ≡ 8 = search rules in
+    omega (arith, length-take r.result.tablecount r.result.tables, few-tables r.result r.ensures.1, l)

@@ -42,14 +42,23 @@ module _ (m : Net) (ps : List Pick) (net : Code.Net) (e : (view net ≡ after m 
       let same = ap (λ (ts : List M.Thread). end_to_end (map thread_bytes ts)) (in-use-same net e.1 lt (nodes_in net) net.saved) in
       gives-put (threads_put m ps) o size long ys h (q (nodes_in net) net.saved ∙ same ∙ sym (threads-put m ps net e.0))
 
-pub shared_ref_as_front-threads : goal.shared_ref_as_front-threads
-shared_ref_as_front-threads c = few-threads c.run_picks-left.result c.run_picks-left.ensures.1
+pub slice_bounds-all_threads-end : goal.slice_bounds-all_threads-end
+slice_bounds-all_threads-end c =
+    let r = c.run_picks-left in
+    let l : length r.result.threads ≡ 8 = search rules in
+    omega (arith, few-threads r.result r.ensures.1, l)
+
+pub slice_bounds-threads-end : goal.slice_bounds-threads-end
+slice_bounds-threads-end c =
+    let r = c.run_picks-left in
+    let l : length r.result.threads ≡ 8 = search rules in
+    omega (arith, length-take r.result.threadcount r.result.threads, few-threads r.result r.ensures.1, l)
 
 pub put_threads-requires : goal.put_threads-requires
 put_threads-requires c =
     let r = c.run_picks-left in
     let l : length r.result.threads ≡ 8 = search rules in
-    (omega (arith, in-use-long r.result r.ensures.1 l, few-threads r.result r.ensures.1), in-use-stacked r.result r.ensures.1 l, simp (length-take, length-drop) (omega arith))
+    (omega (arith, in-use-long r.result r.ensures.1 l, few-threads r.result r.ensures.1), in-use-stacked r.result r.ensures.1 l, simp (length-take, length-drop) (omega (arith, length-take r.result.threadcount r.result.threads, c.if-out-size.false)))
 
 pub overflow_mul-size : goal.overflow_mul-size
 overflow_mul-size c =

@@ -4,7 +4,7 @@ use mathlib.Core.Path.{◌≡◌, refl, sym, ap, ◌∙◌}
 use mathlib.Core.List.{List}
 use native.Mathlib.Omega.{arith}
 use lib.Dec.{T}
-use lib.ListN.{length, get_or}
+use lib.ListN.{length, get_or, length-take}
 use Rattle.nets.specs.declared.Net.{Net}
 use Rattle.nets.specs.Sound.{sound}
 use Rattle.nets.specs.View.{no_thread, view}
@@ -29,8 +29,15 @@ all_holds-holds-requires c =
     let l : length c.args.net.nodes ≡ 128 = search rules in
     nodes-few c.args.net l (few-nodes c.args.net c.requires)
 
-pub shared_ref_as_front-all_holds : goal.shared_ref_as_front-all_holds
-shared_ref_as_front-all_holds c = few-nodes c.args.net c.requires
+pub slice_bounds-nodes-end : goal.slice_bounds-nodes-end
+slice_bounds-nodes-end c =
+    let l : length c.args.net.nodes ≡ 128 = search rules in
+    omega (arith, few-nodes c.args.net c.requires, l)
+
+pub slice_bounds-all_holds-end : goal.slice_bounds-all_holds-end
+slice_bounds-all_holds-end c =
+    let l : length c.args.net.nodes ≡ 128 = search rules in
+    omega (arith, length-take c.args.net.nodecount c.args.net.nodes, few-nodes c.args.net c.requires, l)
 
 pub loop-i-init : goal.loop-i-init
 loop-i-init c =

@@ -51,8 +51,15 @@ all_holds-holds-requires c =
     let l : length c.args.net.nodes ≡ 128 = search rules in
     nodes-few c.args.net l (few-nodes c.args.net c.requires.0)
 
-pub shared_ref_as_front-all_holds : goal.shared_ref_as_front-all_holds
-shared_ref_as_front-all_holds c = few-nodes c.args.net c.requires.0
+pub slice_bounds-nodes-end : goal.slice_bounds-nodes-end
+slice_bounds-nodes-end c =
+    let l : length c.args.net.nodes ≡ 128 = search rules in
+    omega (arith, few-nodes c.args.net c.requires.0, l)
+
+pub slice_bounds-all_holds-end : goal.slice_bounds-all_holds-end
+slice_bounds-all_holds-end c =
+    let l : length c.args.net.nodes ≡ 128 = search rules in
+    omega (arith, length-take c.args.net.nodecount c.args.net.nodes, few-nodes c.args.net c.requires.0, l)
 
 pub loop-i-init : goal.loop-i-init
 loop-i-init c =
