@@ -1,7 +1,7 @@
 // Loading: checks 1 to 9 in order, and the net and picks of a file that passes them.
 #![tactic(auto)]
 
-ghost use Rattle.std.specs.Prelude.{◌≡◌, Err, List, MatchResult};
+ghost use Rattle.std.specs.Prelude.{◌≡◌, Ok, Err, List, MatchResult};
 ghost use Rattle.nets.specs.declared.Saved.{Saved};
 ghost use Rattle.nets.specs.View.{view};
 ghost use Rattle.record_bytes.specs.Decoding.{records_in};
@@ -107,14 +107,10 @@ fn refused(fault: Fault) -> Loaded
     }
 }
 
-// The net and the picks, or the first fault.
-pub fn load(file: &[u8]) -> Loaded
-    ensures { LoadIs file.now result }
+// What the records gave, as a net and picks. A function of its own, since `load` copied more where it put the net together itself.
+fn accepted(read: &Records) -> Loaded
+    ensures { (result.verdict ≡ Ok tt) × (result.net ≡ net_read result.net.saved read.now) × (result.picks ≡ read.now.picks.items) × (result.pickcount ≡ read.now.picks.count) }
 {
-    let read = match file_read(file) {
-        Ok(read) => read,
-        Err(fault) => return refused(fault),
-    };
     let aliases = read.aliases.items;
     let tables = read.tables.items;
     let nodes = read.nodes.items;
@@ -137,4 +133,15 @@ pub fn load(file: &[u8]) -> Loaded
         picks,
         pickcount: read.picks.count,
     }
+}
+
+// The net and the picks, or the first fault.
+pub fn load(file: &[u8]) -> Loaded
+    ensures { LoadIs file.now result }
+{
+    let read = match file_read(file) {
+        Ok(read) => read,
+        Err(fault) => return refused(fault),
+    };
+    accepted(&read)
 }
