@@ -16,10 +16,8 @@ fn put_figures(out: &mut impl Write, figures: Figures) -> io::Result<()> {
 fn put_answer(out: &mut impl Write, answer: Result<Figures, Refused>) -> io::Result<()> {
     match answer {
         Ok(figures) => put_figures(out, figures),
-        Err(refused) => {
-            write!(out, "no ")?;
-            put_decimal(out, refused.number() as u64)
-        }
+        Err(Refused::BadWindow) => write!(out, "no 23"),
+        Err(Refused::BadRecord) => write!(out, "no 24"),
     }
 }
 
