@@ -13,11 +13,17 @@ fn put_figures(out: &mut impl Write, figures: Figures) -> io::Result<()> {
     put_int(out, figures.largest as i64)
 }
 
+// The blank before an answer is written with what follows it: a stream may have many refused records, and each write costs time.
 fn put_answer(out: &mut impl Write, answer: Result<Figures, Refused>) -> io::Result<()> {
     match answer {
-        Ok(figures) => put_figures(out, figures),
-        Err(Refused::BadWindow) => write!(out, "no 23"),
-        Err(Refused::BadRecord) => write!(out, "no 24"),
+        Ok(figures) => {
+            write!(out, " ")?;
+            put_figures(out, figures)
+        }
+        Err(refused) => {
+            write!(out, " no ")?;
+            put_decimal(out, refused.number() as u64)
+        }
     }
 }
 
@@ -28,7 +34,6 @@ pub fn put_line(
 ) -> io::Result<()> {
     write!(out, "record ")?;
     put_decimal(out, place)?;
-    write!(out, " ")?;
     put_answer(out, answer)?;
     writeln!(out)
 }
