@@ -7,3 +7,5 @@ pub mod nodes;
 pub mod operands;
 pub mod ranges;
 pub mod relations;
+#[cfg(test)]
+mod tests;

@@ -62,13 +62,10 @@ fn table_new(t: &Table, others: &[Table]) -> bool
         .any(|u| (t.site == u.site) & (t.name == u.name))
 }
 
-// A slice may be longer than a net's array, so the number is judged too.
+// However many they are: `net_tables_ok` judges their number too.
 pub fn tables_ok(tables: &[Table]) -> bool
-    ensures { result ≡ (leb (length tables.now) 8 && (list_all table_ok (map table_of tables.now) && list_all rows_fit (map table_of tables.now) && distinct (map table_of tables.now))) }
+    ensures { result ≡ (list_all table_ok (map table_of tables.now) && list_all rows_fit (map table_of tables.now) && distinct (map table_of tables.now)) }
 {
-    if 8 < tables.len() {
-        return false;
-    }
     for i in 0..tables.len() {
         let t = &tables[i];
         if !(table_ok(t) & table_new(t, &tables[i + 1..])) {
@@ -76,4 +73,14 @@ pub fn tables_ok(tables: &[Table]) -> bool
         }
     }
     true
+}
+
+// The tables of a net. A slice may be longer than a net's array, so the number is judged too.
+pub fn net_tables_ok(tables: &[Table]) -> bool
+    ensures { result ≡ (leb (length tables.now) 8 && (list_all table_ok (map table_of tables.now) && list_all rows_fit (map table_of tables.now) && distinct (map table_of tables.now))) }
+{
+    if 8 < tables.len() {
+        return false;
+    }
+    tables_ok(tables)
 }

@@ -137,14 +137,11 @@ fn links_ok(d: Node, i: usize, n: usize) -> bool
     links_at(d.kind, d.next, d.body, i, n)
 }
 
-// A slice may be longer than a net's array, so the number is judged too.
+// However many they are: `net_nodes_ok` judges their number too.
 pub fn nodes_ok(nodes: &[Node]) -> bool
-    ensures { result ≡ (leb (length nodes.now) 128 && nodes_ok (length nodes.now) 0 (map node_of nodes.now)) }
+    ensures { result ≡ nodes_ok (length nodes.now) 0 (map node_of nodes.now) }
 {
     let count = nodes.len();
-    if 128 < count {
-        return false;
-    }
     for i in 0..count {
         let d = nodes[i];
         if !(fields_ok(d) & links_ok(d, i, count)) {
@@ -152,4 +149,15 @@ pub fn nodes_ok(nodes: &[Node]) -> bool
         }
     }
     true
+}
+
+// The nodes of a net. A slice may be longer than a net's array, so the number is judged too.
+pub fn net_nodes_ok(nodes: &[Node]) -> bool
+    ensures { result ≡ (leb (length nodes.now) 128 && nodes_ok (length nodes.now) 0 (map node_of nodes.now)) }
+{
+    let count = nodes.len();
+    if 128 < count {
+        return false;
+    }
+    nodes_ok(nodes)
 }

@@ -4,8 +4,8 @@ ghost use Rattle.nets.specs.Sound.{sound};
 ghost use Rattle.nets.specs.View.{view};
 
 use crate::saved::threads_ok;
-use net_parts::lists::{aliases_ok, tables_ok};
-use net_parts::nodes::nodes_ok;
+use net_parts::lists::{aliases_ok, net_tables_ok};
+use net_parts::nodes::net_nodes_ok;
 use nets::Net;
 
 // A net may come from outside, so each count is judged before it is trusted.
@@ -25,7 +25,7 @@ pub fn sound_net(net: &Net) -> bool
         return false;
     };
     aliases_ok(aliases)
-        & tables_ok(tables)
-        & nodes_ok(nodes)
+        & net_tables_ok(tables)
+        & net_nodes_ok(nodes)
         & threads_ok(nodes, threads, &net.saved)
 }

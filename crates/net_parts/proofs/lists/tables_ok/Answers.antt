@@ -1,12 +1,12 @@
 -- The tables that are left decide, each with those after it.
-use Rattle.std.proofs.Common.{◌≡◌, ◌&&◌, ◌∙◌, ℕ, ◌+◌, ◌-◌, List, Bool, map, length, take, drop, get_or, sym, ap, ap₂, rules}
+use Rattle.std.proofs.Common.{◌≡◌, ◌&&◌, ◌∙◌, ℕ, ◌+◌, ◌-◌, List, Bool, map, length, take, drop, get_or, sym, ap, ap₂}
 use Rattle.std.proofs.lemmas.List.{drop-map}
 use Rattle.values.proofs.PairLaws.{tails-more, tails-fails}
 use Rattle.nets.specs.declared.Table as Code
 use Rattle.nets.specs.Tables.{rows_fit}
 use Rattle.nets.specs.Sound.{table_ok}
 use Rattle.nets.specs.View.{no_table, table_of}
-use Rattle.net_parts.proofs.Counts.{one-seen, all-after, number_within}
+use Rattle.net_parts.proofs.Counts.{one-seen, all-after}
 use Rattle.net_parts.proofs.DistinctLaws.{table_new, table_test, tables_are}
 use Rattle.net_parts.proofs.lists.tables_ok.Goals as goal
 
@@ -17,7 +17,7 @@ judged l i p q =
     ap₂ ◌&&◌ p (q ∙ ap (table_new (table_of (get_or l i no_table))) (ap (map table_of) (all-after l (i + 1)) ∙ sym (drop-map table_of (i + 1) l)))
 
 pub loop-i-init : goal.loop-i-init
-loop-i-init c = tables_are (map table_of c.args.tables.now) ∙ number_within {n = length c.args.tables.now} {m = 8} (search rules) _
+loop-i-init c = tables_are (map table_of c.args.tables.now)
 
 pub loop-i-preserved : goal.loop-i-preserved
 loop-i-preserved c =

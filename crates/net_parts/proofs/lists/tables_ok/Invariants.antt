@@ -1,4 +1,4 @@
-use Rattle.std.proofs.Common.{◌≡◌, ◌&&◌, drop, leb, length, map}
+use Rattle.std.proofs.Common.{◌≡◌, ◌&&◌, drop, map}
 use Rattle.std.specs.List.{list_all}
 use Rattle.values.proofs.PairLaws.{tails}
 use Rattle.nets.specs.Tables.{rows_fit, distinct}
@@ -9,4 +9,4 @@ use Rattle.net_parts.proofs.lists.tables_ok.Given as goal
 
 abbrev pub invariant-loop-i : goal.invariant-loop-i
 invariant-loop-i l = tails table_test (drop l.i (map table_of l.tables))
-    ≡ (leb (length l.tables) 8 && (list_all table_ok (map table_of l.tables) && list_all rows_fit (map table_of l.tables) && distinct (map table_of l.tables)))
+    ≡ (list_all table_ok (map table_of l.tables) && list_all rows_fit (map table_of l.tables) && distinct (map table_of l.tables))

@@ -1,9 +1,9 @@
 -- The nodes that are left decide.
-use Rattle.std.proofs.Common.{◌≡◌, ◌&&◌, ◌∙◌, ℕ, suc, ◌+◌, List, ◌∷◌, Bool, true, false, sym, ap, ap₂, add-one, rules}
+use Rattle.std.proofs.Common.{◌≡◌, ◌&&◌, ◌∙◌, ℕ, suc, ◌+◌, List, ◌∷◌, Bool, true, false, sym, ap, ap₂, add-one}
 use Rattle.nets.specs.Nets.{Node}
 use Rattle.nets.specs.Sound.{node_ok_as, nodes_ok}
 use Rattle.nets.specs.View.{no_node, node_of}
-use Rattle.net_parts.proofs.Counts.{one-seen, number_within}
+use Rattle.net_parts.proofs.Counts.{one-seen}
 use Rattle.net_parts.proofs.nodes.nodes_ok.Goals as goal
 
 module _ (n i : ℕ) (b : Bool) {xs : List Node} (left : nodes_ok n i xs ≡ b) where
@@ -16,9 +16,6 @@ module _ (n i : ℕ) (b : Bool) {xs : List Node} (left : nodes_ok n i xs ≡ b) 
 
     nodes-fails : t ≡ false → false ≡ b
     nodes-fails h = sym (ap (λ (u : Bool). u && nodes_ok n (suc i) xs') h) ∙ here
-
-pub loop-i-init : goal.loop-i-init
-loop-i-init c = number_within (search rules) _
 
 pub loop-i-preserved : goal.loop-i-preserved
 loop-i-preserved c =
