@@ -62,7 +62,7 @@ fn table_new(t: &Table, others: &[Table]) -> bool
         .any(|u| (t.site == u.site) & (t.name == u.name))
 }
 
-// However many they are: `net_tables_ok` judges their number too.
+// Each table is right, and no two have one site and name, however many there are. `net_tables_ok` asks their number too.
 pub fn tables_ok(tables: &[Table]) -> bool
     ensures { result ≡ (list_all table_ok (map table_of tables.now) && list_all rows_fit (map table_of tables.now) && distinct (map table_of tables.now)) }
 {
@@ -75,7 +75,7 @@ pub fn tables_ok(tables: &[Table]) -> bool
     true
 }
 
-// The tables of a net. A slice may be longer than a net's array, so the number is judged too.
+// The same of the tables of a net, at most 8: a slice may be longer than the net's array.
 pub fn net_tables_ok(tables: &[Table]) -> bool
     ensures { result ≡ (leb (length tables.now) 8 && (list_all table_ok (map table_of tables.now) && list_all rows_fit (map table_of tables.now) && distinct (map table_of tables.now))) }
 {

@@ -137,7 +137,7 @@ fn links_ok(d: Node, i: usize, n: usize) -> bool
     links_at(d.kind, d.next, d.body, i, n)
 }
 
-// However many they are: `net_nodes_ok` judges their number too.
+// Each node is right at its place, however many there are. `net_nodes_ok` asks their number too.
 pub fn nodes_ok(nodes: &[Node]) -> bool
     ensures { result ≡ nodes_ok (length nodes.now) 0 (map node_of nodes.now) }
 {
@@ -151,7 +151,7 @@ pub fn nodes_ok(nodes: &[Node]) -> bool
     true
 }
 
-// The nodes of a net. A slice may be longer than a net's array, so the number is judged too.
+// The same of the nodes of a net, at most 128: a slice may be longer than the net's array.
 pub fn net_nodes_ok(nodes: &[Node]) -> bool
     ensures { result ≡ (leb (length nodes.now) 128 && nodes_ok (length nodes.now) 0 (map node_of nodes.now)) }
 {

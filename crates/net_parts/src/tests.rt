@@ -1,4 +1,4 @@
-// Slices that are longer than a net's arrays: 8 tables and 128 nodes, by document 01.
+// Slices longer than the arrays of a net, which has at most 8 tables and 128 nodes.
 use crate::lists::{net_tables_ok, tables_ok};
 use crate::nodes::{net_nodes_ok, nodes_ok};
 use nets::kinds::DROP;

@@ -1,4 +1,4 @@
--- Where there are no more than a net has, the others' judgement is all.
+-- Of at most 8 tables it says what `tables_ok` says.
 use Rattle.std.proofs.Common.{◌∙◌, rules}
 use Rattle.net_parts.proofs.Counts.{number_within}
 use Rattle.net_parts.proofs.lists.net_tables_ok.Goals as goal

@@ -1,4 +1,4 @@
--- Where there are no more than a net has, the others' judgement is all.
+-- Of at most 128 nodes it says what `nodes_ok` says.
 use Rattle.std.proofs.Common.{◌∙◌, rules}
 use Rattle.net_parts.proofs.Counts.{number_within}
 use Rattle.net_parts.proofs.nodes.net_nodes_ok.Goals as goal
